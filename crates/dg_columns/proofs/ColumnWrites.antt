@@ -1,5 +1,7 @@
 -- Writing events one after another, as a loop does.
-use Rattle.std.proofs.Common.{◌≡◌, ℕ, ◌+◌, ◌<◌, ◌≤◌, true, false, cond, List, [], ◌∷◌, ◌++◌, length, drop, filter, get_or, refl, ap, ◌∙◌, append_assoc, arith}
+use Rattle.std.proofs.Common.{◌≡◌, ℕ, ◌+◌, ◌<◌, ◌≤◌, true, false, cond, List, [], ◌∷◌, ◌++◌, length, drop, filter, get_or, Result, Ok, Err, is_ok, refl, ap, ◌∙◌, arith}
+use Rattle.std.specs.Prelude.{OnOk}
+use Rattle.std.specs.declared.alloc.AllocError.{AllocError}
 use Rattle.std.specs.List.{flat_map}
 use Rattle.std.proofs.lemmas.List.{drop_more, drop_all}
 use Rattle.dg_graph.specs.declared.element.Column.{Column}
@@ -38,6 +40,7 @@ pub counted_none : (ps : List Placed) → length ps ≡ 0 → counted ps ≡ []
 counted_none [] e = refl
 counted_none (p ∷ ps) e = absurd (omega arith)
 
-pub edge_written : (o0 o1 o2 o3 o4 o5 a b c : List ℕ) (kind d : ℕ) → o1 ≡ o0 ++ kind ∷ [] → o2 ≡ o1 ++ a → o3 ≡ o2 ++ b → o4 ≡ o3 ++ c → o5 ≡ o4 ++ d ∷ [] → o5 ≡ o0 ++ kind ∷ (a ++ (b ++ (c ++ d ∷ [])))
-edge_written o0 o1 o2 o3 o4 o5 a b c kind d e1 e2 e3 e4 e5 =
-    rw (e5, e4, e3, e2, e1) (simp append_assoc refl)
+-- what a call appended, as it is spelled
+pub appended : (result : Result Unit AllocError) (old new bytes text : List ℕ) → new ≡ cond (is_ok result) (old ++ bytes) old → bytes ≡ text → OnOk result (new ≡ old ++ text)
+appended (Ok u) old new bytes text e is = e ∙ ap (λ (t : List ℕ). old ++ t) is
+appended (Err u) old new bytes text e is = tt

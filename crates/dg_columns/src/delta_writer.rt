@@ -6,7 +6,7 @@ ghost use Rattle.dg_graph.specs.Elements.{column_of};
 ghost use Rattle.dg_graph.specs.Columns.{four, eight, same_column, element_bytes, in_column, part_bytes, delta_column};
 ghost use Rattle.dg_graph.specs.ColumnGrammar.{element_size};
 
-use crate::edge::{EdgeFields, write_edge, write_node};
+use crate::edge::{EdgeFields, edge_bytes, node_bytes};
 use crate::layout::{COUNT_SIZE, EDGE, EDGE_SIZE, NODE, NODE_SIZE, VALUE_SIZE};
 use dg_delta::{Delta, Element};
 use dg_graph::Column;
@@ -61,12 +61,14 @@ fn part_of(elements: &[Element], col: Column) -> Part
 }
 
 // The fields of a value.
-fn write_attr(out: &mut Vec<u8>, id: u64, key: u32, value: u32) -> Result<(), AllocError>
-    ensures { OnOk result (out.new.items ≡ out.old.items ++ (eight id ++ (four key ++ four value))) }
+fn attr_bytes(id: u64, key: u32, value: u32) -> [u8; VALUE_SIZE]
+    ensures { result ≡ eight id ++ (four key ++ four value) }
 {
-    out.extend_from_slice(&id.to_be_bytes())?;
-    out.extend_from_slice(&key.to_be_bytes())?;
-    out.extend_from_slice(&value.to_be_bytes())
+    let mut bytes = [0; VALUE_SIZE];
+    bytes[..8].copy_from_slice(&id.to_be_bytes());
+    bytes[8..12].copy_from_slice(&key.to_be_bytes());
+    bytes[12..].copy_from_slice(&value.to_be_bytes());
+    bytes
 }
 
 // An element, without what its column says of it.
@@ -74,14 +76,13 @@ fn write_element(out: &mut Vec<u8>, element: &Element) -> Result<(), AllocError>
     ensures { OnOk result (out.new.items ≡ out.old.items ++ element_bytes element.now) }
 {
     match *element {
-        Element::Node { id } => write_node(out, NODE, id),
+        Element::Node { id } => out.extend_from_slice(&node_bytes(NODE, id)),
         Element::Edge {
             id,
             src,
             dst,
             directed,
-        } => write_edge(
-            out,
+        } => out.extend_from_slice(&edge_bytes(
             EDGE,
             EdgeFields {
                 id,
@@ -89,9 +90,9 @@ fn write_element(out: &mut Vec<u8>, element: &Element) -> Result<(), AllocError>
                 dst,
                 directed,
             },
-        ),
+        )),
         Element::NodeAttr { id, key, value } | Element::EdgeAttr { id, key, value } => {
-            write_attr(out, id, key, value)
+            out.extend_from_slice(&attr_bytes(id, key, value))
         }
     }
 }

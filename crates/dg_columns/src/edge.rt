@@ -1,12 +1,12 @@
 //! Nodes and edges, which events and elements spell alike.
 
-ghost use Rattle.std.specs.Prelude.{◌≡◌, ◌+◌, ◌++◌, ◌≤◌, length, OnOk};
+ghost use Rattle.std.specs.Prelude.{◌≡◌, ◌+◌, ◌≤◌, length, OnOk};
 ghost use Rattle.dg_columns.specs.ReadOutcome.{IsReadAs};
 ghost use Rattle.dg_columns.specs.Fields.{edge_fields_at, node_bytes, edge_bytes};
 
 use crate::fault::ReadFault;
+use crate::layout::{EDGE_SIZE, NODE_SIZE};
 use crate::numbers::{byte_at, u64_at};
-use std::alloc::AllocError;
 
 /// An edge without its kind.
 #[derive(Clone, Copy)]
@@ -36,21 +36,22 @@ pub(crate) fn edge_at(bytes: &[u8], offset: usize) -> Result<EdgeFields, ReadFau
 }
 
 /// The kind and the id of a node.
-pub(crate) fn write_node(out: &mut Vec<u8>, kind: u8, id: u64) -> Result<(), AllocError>
-    ensures { OnOk result (out.new.items ≡ out.old.items ++ node_bytes kind id) }
+pub(crate) fn node_bytes(kind: u8, id: u64) -> [u8; NODE_SIZE]
+    ensures { result ≡ node_bytes kind id }
 {
-    out.push(kind)?;
-    out.extend_from_slice(&id.to_be_bytes())
+    let mut bytes = [kind; NODE_SIZE];
+    bytes[1..].copy_from_slice(&id.to_be_bytes());
+    bytes
 }
 
 /// The kind and the fields of an edge.
-pub(crate) fn write_edge(out: &mut Vec<u8>, kind: u8, edge: EdgeFields) -> Result<(), AllocError>
-    ensures { OnOk result (out.new.items ≡ out.old.items ++ edge_bytes kind edge) }
+pub(crate) fn edge_bytes(kind: u8, edge: EdgeFields) -> [u8; EDGE_SIZE]
+    ensures { result ≡ edge_bytes kind edge }
 {
-    out.push(kind)?;
-    out.extend_from_slice(&edge.id.to_be_bytes())?;
-    out.extend_from_slice(&edge.src.to_be_bytes())?;
-    out.extend_from_slice(&edge.dst.to_be_bytes())?;
-    out.push(u8::from(edge.directed))?;
-    Ok(())
+    let mut bytes = [kind; EDGE_SIZE];
+    bytes[1..9].copy_from_slice(&edge.id.to_be_bytes());
+    bytes[9..17].copy_from_slice(&edge.src.to_be_bytes());
+    bytes[17..25].copy_from_slice(&edge.dst.to_be_bytes());
+    bytes[25] = u8::from(edge.directed);
+    bytes
 }

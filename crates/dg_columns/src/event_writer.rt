@@ -2,13 +2,16 @@
 
 ghost use Rattle.std.specs.Prelude.{◌≡◌, ◌*◌, ◌^◌, ◌≤◌, ◌<◌, ◌++◌, length, All, IfOk, OnOk, IfSome};
 ghost use Rattle.std.specs.List.{flat_map};
-ghost use Rattle.dg_graph.specs.Columns.{four, same_column, column_of_body, value_bytes, body_bytes, placed_bytes, placed_in, events_column};
-ghost use Rattle.dg_columns.specs.Fields.{value_field_bytes};
+ghost use Rattle.dg_graph.specs.Columns.{two, four, eight, same_column, column_of_body, value_bytes, placed_bytes, placed_in, events_column};
+ghost use Rattle.dg_columns.specs.Fields.{node_bytes, edge_bytes, value_field_bytes};
 ghost use Rattle.dg_columns.specs.NamesInRange.{NamesFit};
 
-use crate::edge::{EdgeFields, write_edge, write_node};
+use crate::edge::{EdgeFields, edge_bytes, node_bytes};
 use crate::event_fields::{ValueFields, body_size};
-use crate::layout::{COUNT_SIZE, EDGE_ADDED, EDGE_REMOVED, NODE_ADDED, NODE_REMOVED, STAMP_SIZE};
+use crate::layout::{
+    CHANGE_SIZE, COUNT_SIZE, EDGE_ADDED, EDGE_REMOVED, EDGE_SIZE, NODE_ADDED, NODE_REMOVED,
+    NODE_SIZE, STAMP_SIZE,
+};
 use dg_graph::{Body, Column, Event};
 use std::alloc::{AllocError, Global};
 
@@ -64,59 +67,59 @@ fn value_number(value: Option<u32>) -> u32
 }
 
 // The fields of a value's change.
-fn write_value(out: &mut Vec<u8>, value: ValueFields) -> Result<(), AllocError>
+fn change_bytes(value: ValueFields) -> [u8; CHANGE_SIZE]
     requires old { IfSome value.old (λ n. n < 2 ^ 30) }
     requires new { IfSome value.new (λ n. n < 2 ^ 30) }
-    ensures { OnOk result (out.new.items ≡ out.old.items ++ value_field_bytes value) }
+    ensures { result ≡ value_field_bytes value }
 {
-    out.extend_from_slice(&value.id.to_be_bytes())?;
-    out.extend_from_slice(&value.key.to_be_bytes())?;
-    out.extend_from_slice(&value_number(value.old).to_be_bytes())?;
-    out.extend_from_slice(&value_number(value.new).to_be_bytes())
+    let mut bytes = [0; CHANGE_SIZE];
+    bytes[..8].copy_from_slice(&value.id.to_be_bytes());
+    bytes[8..12].copy_from_slice(&value.key.to_be_bytes());
+    bytes[12..16].copy_from_slice(&value_number(value.old).to_be_bytes());
+    bytes[16..].copy_from_slice(&value_number(value.new).to_be_bytes());
+    bytes
 }
 
-// What an event changes.
-fn write_body(out: &mut Vec<u8>, body: &Body) -> Result<(), AllocError>
-    requires { NamesFit body.now }
-    ensures { OnOk result (out.new.items ≡ out.old.items ++ body_bytes body.now) }
+// The position and the instant of an event.
+fn stamp_bytes(position: u16, time: u64) -> [u8; STAMP_SIZE]
+    ensures { result ≡ two position ++ eight time }
 {
-    match *body {
-        Body::NodeAdded { id } => write_node(out, NODE_ADDED, id),
-        Body::NodeRemoved { id } => write_node(out, NODE_REMOVED, id),
-        Body::EdgeAdded {
-            id,
-            src,
-            dst,
-            directed,
-        } => write_edge(
-            out,
-            EDGE_ADDED,
-            EdgeFields {
-                id,
-                src,
-                dst,
-                directed,
-            },
-        ),
-        Body::EdgeRemoved {
-            id,
-            src,
-            dst,
-            directed,
-        } => write_edge(
-            out,
-            EDGE_REMOVED,
-            EdgeFields {
-                id,
-                src,
-                dst,
-                directed,
-            },
-        ),
-        Body::NodeAttr { id, key, old, new } | Body::EdgeAttr { id, key, old, new } => {
-            write_value(out, ValueFields { id, key, old, new })
-        }
-    }
+    let mut bytes = [0; STAMP_SIZE];
+    bytes[..2].copy_from_slice(&position.to_be_bytes());
+    bytes[2..].copy_from_slice(&time.to_be_bytes());
+    bytes
+}
+
+// The event of a node.
+fn node_event(position: u16, time: u64, kind: u8, id: u64) -> [u8; STAMP_SIZE + NODE_SIZE]
+    ensures { result ≡ two position ++ (eight time ++ node_bytes kind id) }
+{
+    let mut bytes = [0; STAMP_SIZE + NODE_SIZE];
+    bytes[..STAMP_SIZE].copy_from_slice(&stamp_bytes(position, time));
+    bytes[STAMP_SIZE..].copy_from_slice(&node_bytes(kind, id));
+    bytes
+}
+
+// The event of an edge.
+fn edge_event(position: u16, time: u64, kind: u8, edge: EdgeFields) -> [u8; STAMP_SIZE + EDGE_SIZE]
+    ensures { result ≡ two position ++ (eight time ++ edge_bytes kind edge) }
+{
+    let mut bytes = [0; STAMP_SIZE + EDGE_SIZE];
+    bytes[..STAMP_SIZE].copy_from_slice(&stamp_bytes(position, time));
+    bytes[STAMP_SIZE..].copy_from_slice(&edge_bytes(kind, edge));
+    bytes
+}
+
+// The event of a value.
+fn change_event(position: u16, time: u64, value: ValueFields) -> [u8; STAMP_SIZE + CHANGE_SIZE]
+    requires old { IfSome value.old (λ n. n < 2 ^ 30) }
+    requires new { IfSome value.new (λ n. n < 2 ^ 30) }
+    ensures { result ≡ two position ++ (eight time ++ value_field_bytes value) }
+{
+    let mut bytes = [0; STAMP_SIZE + CHANGE_SIZE];
+    bytes[..STAMP_SIZE].copy_from_slice(&stamp_bytes(position, time));
+    bytes[STAMP_SIZE..].copy_from_slice(&change_bytes(value));
+    bytes
 }
 
 // An event with its position.
@@ -124,9 +127,50 @@ fn write_placed(out: &mut Vec<u8>, position: u16, event: &Event) -> Result<(), A
     requires { NamesFit event.now.body }
     ensures { OnOk result (out.new.items ≡ out.old.items ++ placed_bytes (record { at = position; event = event.now })) }
 {
-    out.extend_from_slice(&position.to_be_bytes())?;
-    out.extend_from_slice(&event.time.to_be_bytes())?;
-    write_body(out, &event.body)
+    let time = event.time;
+    match event.body {
+        Body::NodeAdded { id } => {
+            out.extend_from_slice(&node_event(position, time, NODE_ADDED, id))
+        }
+        Body::NodeRemoved { id } => {
+            out.extend_from_slice(&node_event(position, time, NODE_REMOVED, id))
+        }
+        Body::EdgeAdded {
+            id,
+            src,
+            dst,
+            directed,
+        } => out.extend_from_slice(&edge_event(
+            position,
+            time,
+            EDGE_ADDED,
+            EdgeFields {
+                id,
+                src,
+                dst,
+                directed,
+            },
+        )),
+        Body::EdgeRemoved {
+            id,
+            src,
+            dst,
+            directed,
+        } => out.extend_from_slice(&edge_event(
+            position,
+            time,
+            EDGE_REMOVED,
+            EdgeFields {
+                id,
+                src,
+                dst,
+                directed,
+            },
+        )),
+        Body::NodeAttr { id, key, old, new } | Body::EdgeAttr { id, key, old, new } => {
+            out.extend_from_slice(&change_event(position, time, ValueFields { id, key, old, new }))
+        }
+    }
 }
 
 // The events of the column, behind what was written before.
