@@ -1,22 +1,24 @@
 -- What holds of an index once it has the segment of one batch more: it may close lists, and go on.
-use Rattle.std.proofs.Common.{◌≡◌, ℕ, ◌+◌, ◌-◌, ◌*◌, ◌≤◌, Bool, true, false, ◌&&◌, List, [], ◌∷◌, ◌++◌, Some, length, map, take, drop, refl, sym, ◌∙◌, ap, subst, arith, nat_le, length-append, length-drop, div-mul-le_self, mul-le-mul_right}
+use Rattle.std.proofs.Common.{◌≡◌, ℕ, ◌+◌, ◌-◌, ◌*◌, ◌≤◌, Bool, true, ◌&&◌, List, [], ◌∷◌, ◌++◌, Some, length, map, take, drop, refl, sym, ◌∙◌, ap, subst, arith, nat_le, length-append, length-drop, div-mul-le_self, mul-le-mul_right}
 use Rattle.std.specs.List.{All}
 use Rattle.std.proofs.lemmas.List.{length-map}
 use Rattle.std.proofs.lemmas.List.Elements.{All-append, All-drop}
 use Rattle.std.proofs.lemmas.List.Sums.{sum_by_push}
+use Rattle.std.proofs.lemmas.Bool.{and_parts}
 use borrow.Author.Tests.{leb-true, le-leb}
-use Rattle.dg_append.proofs.HistoryTimes.{begins_first, from_first, last_of_both, rest_begins, rest_ends, rest_rises, rises_joined, rises_last}
+use Rattle.dg_append.proofs.HistoryTimes.{begins_first, from_first, last_of_both, rest_begins, rest_ends, rest_rises}
 use Rattle.dg_append.specs.AddedBatches.{recent_behind}
 use Rattle.dg_append.specs.BatchSegments.{BeginsBehind, IsSegmentBehind, MayFollow}
-use Rattle.dg_build.specs.SpelledRecords.{RisesFrom, last_in_rows}
+use Rattle.dg_build.specs.SpelledRecords.{last_in_rows}
 use Rattle.dg_graph.specs.declared.event.Event.{Event}
 use Rattle.dg_graph.specs.declared.limits.TheConstants.{NAMES_MAX, TIME_MAX}
 use Rattle.dg_history.specs.declared.limits.TheConstants.{BATCH_LINES_MAX, EVENTS_MAX}
 use Rattle.dg_history.specs.declared.node.Key.{Key}
 use Rattle.dg_history.specs.declared.node.Key.TheVariants as key
+use Rattle.dg_history.specs.EventTimes.{RisesFrom}
 use Rattle.dg_history.specs.History.{first_time_of, last_time_from}
+use Rattle.dg_history.proofs.EventTimes.{rises_join, rises_last}
 use Rattle.dg_index.specs.declared.entry.BatchEntry.{BatchEntry}
-use Rattle.dg_index.specs.declared.entry.Entry.{Entry}
 use Rattle.dg_index.specs.declared.entry.Row.{Row}
 use Rattle.dg_index.specs.FileOfHistory.{Segment, Stored, StoredList, directory}
 use Rattle.dg_index.specs.Hierarchy.{leaves, numbers}
@@ -25,13 +27,10 @@ use Rattle.dg_index.specs.IndexRecords.{deltas_due, lists_due}
 use Rattle.dg_index.specs.OpenedIndex.{Opening, delta_count, directory_of, earliest_in, event_total, first_in, keys_next, laid, last_list, last_or, list_count, list_bytes_max, list_row, may_be_listed, record_row, rows_in, total, within}
 use Rattle.dg_index.proofs.HierarchyCounts.{numbers_length}
 use Rattle.dg_index.proofs.HierarchyStability.{leaves_more}
+use Rattle.dg_index.proofs.OpenedIndexHistories.{earliest_more, first_more, last_list_more}
 use Rattle.dg_start.specs.StoredHistory.{MayGoOn, RiseUpTo, floor_of, recent_count}
 
 -- ---- the last list among the records
-
-last_list_more : (t : ℕ) (xs ys : List (Key × Entry)) → last_list t (xs ++ ys) ≡ last_list (last_list t xs) ys
-last_list_more t [] ys = refl
-last_list_more t (x ∷ xs) ys = last_list_more (last_or t x.1.ends) xs ys
 
 last_laid : (t offset : ℕ) (keys : List Key) (rows : List Row) → length rows ≤ length keys → last_list t (laid offset keys rows) ≡ last_in_rows t rows
 last_laid t offset [] [] le = refl
@@ -47,27 +46,15 @@ no_times : (t : ℕ) (deltas : List Stored) (piece : Row) → piece.ends ≡ (re
 no_times t [] piece none = ap (last_or t) none
 no_times t (d ∷ deltas) piece none = no_times t deltas piece none
 
-both_parts : (a b : Bool) → (a && b) ≡ true → (a ≡ true) × (b ≡ true)
-both_parts true b h = (refl, h)
-both_parts false b h = cc
-
 -- lists that may stand end by the last time
 listed_ends : (most first last : ℕ) (lists : List StoredList) → first ≤ last → may_be_listed most first last (map list_row lists) ≡ true → last_in_rows first (map list_row lists) ≤ last
 listed_ends most first last [] le may = le
 listed_ends most first last (x ∷ lists) le may =
-    let parts = both_parts (within most first last (total (list_row x).lengths) (list_row x).ends) (may_be_listed most x.last last (map list_row lists)) may in
-    let more = both_parts (nat_le first x.first) _ parts.0 in
-    let rest = both_parts (nat_le x.first x.last) _ more.1 in
-    let ends = both_parts (nat_le x.last last) _ rest.1 in
+    let parts = and_parts (within most first last (total (list_row x).lengths) (list_row x).ends) (may_be_listed most x.last last (map list_row lists)) may in
+    let more = and_parts (nat_le first x.first) _ parts.0 in
+    let rest = and_parts (nat_le x.first x.last) _ more.1 in
+    let ends = and_parts (nat_le x.last last) _ rest.1 in
     listed_ends most x.last last lists (leb-true x.last last ends.0) parts.1
-
-first_more : (t : ℕ) (xs : List BatchEntry) (b : BatchEntry) → first_in t (xs ++ b ∷ []) ≡ first_in b.ends.first xs
-first_more t [] b = refl
-first_more t (x ∷ xs) b = refl
-
-earliest_more : (t : ℕ) (xs : List BatchEntry) (b : BatchEntry) → earliest_in t (xs ++ b ∷ []) ≡ b.ends.last + 1
-earliest_more t [] b = refl
-earliest_more t (x ∷ xs) b = earliest_more (x.ends.last + 1) xs b
 
 six_true : (a b c d e f : Bool) → a ≡ true → b ≡ true → c ≡ true → d ≡ true → e ≡ true → f ≡ true → (a && (b && (c && (d && (e && f))))) ≡ true
 six_true a b c d e f ta tb tc td te tf =
@@ -98,7 +85,7 @@ module _ (o : Opening) (recent events : List Event) (m : MayFollow o recent even
   pub tail_rises : RisesFrom (floor_of o (first_time_of events)) (recent ++ events)
   tail_rises =
       let r : RiseUpTo o (first_time_of events) recent = m.goes_on (first_time_of events) m.early in
-      rises_joined (floor_of o (first_time_of events)) recent events r.rises
+      rises_join (floor_of o (first_time_of events)) recent events r.rises
       (from_first (last_time_from (floor_of o (first_time_of events)) recent) (earliest_in 0 o.batches) events (begins_first (last_time_from (floor_of o (first_time_of events)) recent) events r.last) m.rises)
 
   pub tail_last : last_time_from (floor_of o (first_time_of events)) (recent ++ events) ≡ last_time_from 0 events

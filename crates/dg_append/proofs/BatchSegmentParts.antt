@@ -1,20 +1,21 @@
 -- The parts of which the segment of a batch is made.
 use Rattle.std.proofs.Common.{◌≡◌, ℕ, ◌+◌, ◌-◌, ◌*◌, ◌≤◌, true, List, ◌++◌, length, map, sym, ap, subst, ◌∙◌, drop, mul_comm}
 use Rattle.std.proofs.Math.Nat.{mul-sub}
-use Rattle.dg_append.proofs.FrontEvents.{InRange, in_range}
 use Rattle.dg_append.proofs.HistoryTimes.{begins_after, last_of_both}
 use Rattle.dg_append.specs.AddedBatches.{recent_behind}
 use Rattle.dg_append.specs.BatchSegments.{BeginsBehind, IsPast}
 use Rattle.dg_append.specs.OlderGroups.{leaves_after, leaves_before}
 use Rattle.dg_build.specs.GivenDeltas.{AreGiven, gone_back, taken_back}
 use Rattle.dg_build.specs.OlderSteps.{AreOlderSteps, IsTopDue, older_in_time}
-use Rattle.dg_build.specs.SpelledRecords.{RisesFrom, last_in_rows}
+use Rattle.dg_build.specs.SpelledRecords.{last_in_rows}
 use Rattle.dg_graph.specs.Composition.{Delta}
 use Rattle.dg_graph.specs.declared.element.Element.{Element}
 use Rattle.dg_graph.specs.declared.event.Event.{Event}
 use Rattle.dg_graph.specs.Replay.{replay}
 use Rattle.dg_history.specs.declared.params.Params.{Params}
+use Rattle.dg_history.specs.EventTimes.{RisesFrom}
 use Rattle.dg_history.specs.History.{are_parameters, last_time_from}
+use Rattle.dg_history.proofs.ParameterRanges.{InRange, in_range}
 use Rattle.dg_index.specs.declared.entry.Row.{Row}
 use Rattle.dg_index.specs.FileOfHistory.{StoredList}
 use Rattle.dg_index.specs.Hierarchy.{leaves}

@@ -1,18 +1,17 @@
 -- What holds of the events that the changes of a next batch come to.
-use Rattle.std.proofs.Common.{◌≡◌, ℕ, ◌+◌, ◌<◌, ◌≤◌, ◌^◌, Bool, true, false, ◌&&◌, List, [], ◌∷◌, Option, Some, None, Ok, length, take, drop, refl, sym, ◌∙◌, ap, subst, nat_le, arith, get_or, length-append}
+use Rattle.std.proofs.Common.{◌≡◌, ℕ, ◌+◌, ◌<◌, ◌≤◌, ◌^◌, true, List, [], ◌∷◌, Option, Some, None, Ok, length, take, drop, refl, sym, ◌∙◌, ap, subst, nat_le, arith, get_or, length-append}
 use Rattle.std.specs.Prelude.{IfSome}
 use Rattle.std.specs.List.{All}
 use Rattle.std.proofs.lemmas.List.{length-map, take-append-drop}
 use Rattle.std.proofs.lemmas.List.Elements.{All-nil, All-cons, All-head, All-tail}
-use borrow.Author.Tests.{leb-true}
-use Rattle.dg_append.proofs.CompletedChanges.{AllCome, AreRight, all_come, are_right, as_many, events_there, last_after, made_right, times_fit}
+use Rattle.std.proofs.lemmas.Bool.{and_parts, leb-true}
+use Rattle.dg_append.proofs.CompletedChanges.{events_there}
 use Rattle.dg_append.specs.AddedBatches.{ComesToSegment, IsReady, IsSegmentOver, WhatHasNamesThere}
 use Rattle.dg_append.specs.BatchSegments.{MayFollow}
 use Rattle.dg_append.specs.declared.batch.Batch.{Batch}
 use Rattle.dg_append.specs.declared.front.Front.{Front}
 use Rattle.dg_append.specs.declared.front.Front.TheVariants.{Whole}
 use Rattle.dg_append.specs.Fronts.{ComeTo, IsFront, lines}
-use Rattle.dg_build.specs.SpelledRecords.{RisesFrom}
 use Rattle.dg_graph.specs.declared.element.Element.{Element}
 use Rattle.dg_graph.specs.declared.element.Element.TheVariants as element
 use Rattle.dg_graph.specs.declared.event.Body.{Body}
@@ -21,12 +20,13 @@ use Rattle.dg_graph.specs.declared.event.Change.{Change}
 use Rattle.dg_graph.specs.declared.event.Event.{Event}
 use Rattle.dg_graph.specs.declared.limits.TheConstants.{NAMES_MAX, TIME_MAX}
 use Rattle.dg_graph.specs.CompletedChanges.{completed}
-use Rattle.dg_graph.specs.Effect.{forwards}
 use Rattle.dg_graph.specs.ExactEvents.{AreChangesOf}
 use Rattle.dg_graph.specs.Graph.{IsGraph}
 use Rattle.dg_graph.specs.Names.{are_new}
-use Rattle.dg_history.specs.declared.params.TheConstants.{ARITY_MAX, ARITY_MIN, LEAF_MAX, LEAF_MIN}
-use Rattle.dg_history.specs.History.{are_parameters, first_time_of, last_time_from}
+use Rattle.dg_graph.proofs.Completions.{AllCome, all_come, as_many, made_come, times_fit}
+use Rattle.dg_history.specs.History.{are_parameters}
+use Rattle.dg_history.proofs.EventTimes.{first_and_last, last_in_time, rises_come}
+use Rattle.dg_history.proofs.ParameterRanges.{InRange, in_range}
 use Rattle.dg_index.specs.declared.entry.BatchEntry.{BatchEntry}
 use Rattle.dg_index.specs.FileOfHistory.{Segment}
 use Rattle.dg_index.specs.IndexGrowth.{last_time_in}
@@ -56,51 +56,16 @@ last_small batches last is le = by last (last_told batches last is)
     by None e = tt
     by (Some t) e = omega (arith, e, le)
 
--- ---- parameters
-
-pub record InRange (l k : ℕ) : Type 0 where
-  pub list_some : 1 ≤ l
-  pub list_most : l ≤ 65536
-  pub arity_some : 2 ≤ k
-  pub arity_most : k ≤ 64
-
-pub both_parts : (a b : Bool) → (a && b) ≡ true → (a ≡ true) × (b ≡ true)
-both_parts true b h = (refl, h)
-both_parts false b h = cc
-
-pub in_range : (l k : ℕ) → are_parameters l k ≡ true → InRange l k
-in_range l k h =
-    let a = both_parts (nat_le LEAF_MIN l) _ h in
-    let b = both_parts (nat_le l LEAF_MAX) _ a.1 in
-    let c = both_parts (nat_le ARITY_MIN k) (nat_le k ARITY_MAX) b.1 in
-    let least = leb-true LEAF_MIN l a.0 in
-    record { list_some = omega (arith, least); list_most = leb-true l LEAF_MAX b.0; arity_some = leb-true ARITY_MIN k c.0; arity_most = leb-true k ARITY_MAX c.1 }
-
 -- ---- events that changes come to
-
-first_early : (earliest : ℕ) (set : List Element) (events : List Event) → 1 ≤ length events → AreRight earliest set events
-    → (earliest ≤ first_time_of events) × (first_time_of events ≤ last_time_from 0 events)
-first_early earliest set [] some h = absurd (omega (arith, some))
-first_early earliest set (e ∷ events) some h = (h.0, last_after e.time _ events h.2)
-
-last_bound : (last : ℕ) (events : List Event) → last ≤ TIME_MAX → All (λ (e : Event). e.time ≤ TIME_MAX) events → last_time_from last events ≤ TIME_MAX
-last_bound last [] le f = le
-last_bound last (e ∷ events) le f =
-    last_bound e.time events (All-head (λ (e : Event). e.time ≤ TIME_MAX) e events f) (All-tail (λ (e : Event). e.time ≤ TIME_MAX) e events f)
 
 -- what holds of every change holds of every line
 on_lines : (P : Change → Type 0) (changes : List Change) → All P changes → All (λ c. IfSome c P) (lines changes)
 on_lines P [] f = All-nil (λ c. IfSome c P)
 on_lines P (c ∷ changes) f = All-cons (λ c. IfSome c P) (Some c) (lines changes) (All-head P c changes f) (on_lines P changes (All-tail P c changes f))
 
--- events that are right rise
-rises_right : (earliest : ℕ) (set : List Element) (events : List Event) → AreRight earliest set events → RisesFrom earliest events
-rises_right earliest set [] h = tt
-rises_right earliest set (e ∷ events) h = (h.0, rises_right e.time (forwards set e) events h.2)
-
 pub may_name_parts : (names new : List (List ℕ)) → may_be_named names new ≡ true → length names + length new ≤ NAMES_MAX
 may_name_parts names new h =
-    leb-true (length names + length new) NAMES_MAX (both_parts (are_new names new) (nat_le (length names + length new) NAMES_MAX) h).1
+    leb-true (length names + length new) NAMES_MAX (and_parts (are_new names new) (nat_le (length names + length new) NAMES_MAX) h).1
 
 -- The events are those of the changes as a batch behind the index.
 pub record IsPrepared (o : Opening) (batch : Batch) (h : StoredHistory) (events : List Event) : Type 0 where
@@ -152,29 +117,29 @@ prepared o batch h events parameters r graph whole comes =
     let changes : List Change = batch.changes.items in
     let earliest : ℕ = earliest_in 0 o.batches in
     let come : AllCome earliest h.now.graph (lines changes) events = all_come 1 earliest h.now.graph (lines changes) events comes in
-    let right : AreRight earliest h.now.graph events = are_right earliest h.now.graph (lines changes) events come in
+    let rises = rises_come earliest h.now.graph (lines changes) events come in
     let many : length events ≡ length changes = as_many earliest h.now.graph (lines changes) events come ∙ length-map changes (λ (x : Change). Some x) in
     let some : 1 ≤ length events = omega (arith, many, r.some whole) in
     let times : All (λ (e : Event). e.time ≤ TIME_MAX) events =
     times_fit earliest h.now.graph (lines changes) events come (on_lines (λ (c : Change). c.time ≤ TIME_MAX) changes (r.timed whole)) in
-    let early = first_early earliest h.now.graph events some right in
+    let early = first_and_last earliest events some rises in
     record {
       whole = whole;
       comes = comes;
       many = many;
       follows = record {
-        pos = omega (arith, p.list_some);
+        pos = p.list_some;
         some = some;
         few = omega (arith, many, r.few);
         room = omega (arith, many, r.room);
         early = early.0;
         later = early.1;
-        last = last_bound 0 events (omega arith) times;
-        rises = rises_right earliest h.now.graph events right;
+        last = last_in_time 0 events (omega arith) times;
+        rises = rises;
         counted = r.sound.counted.1;
         goes_on = r.sound.goes_on;
       };
-      changes_are = changes_are_exact h.now.graph events graph (made_right earliest h.now.graph events right);
+      changes_are = changes_are_exact h.now.graph events graph (made_come earliest h.now.graph (lines changes) events come);
       there = events_there (length h.names) earliest h.now.graph (lines changes) events come (more_names (length (take batch.known h.names)) (length h.names) h.now.graph (known_few batch.known h.names) r.sound.named)
           (on_lines (λ (c : Change). WhatHasNamesThere (length h.names) c.what) changes (r.fit whole));
       few_names = few_names batch.known h.names (r.named whole);

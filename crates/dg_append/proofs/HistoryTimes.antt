@@ -1,41 +1,22 @@
 -- Times that do not fall.
-use Rattle.std.proofs.Common.{◌≡◌, ℕ, zero, suc, ◌≤◌, List, [], ◌∷◌, ◌++◌, length, map, take, drop, refl, sym, ◌∙◌, ap, subst, arith}
+use Rattle.std.proofs.Common.{◌≡◌, ℕ, zero, suc, ◌≤◌, List, [], ◌∷◌, ◌++◌, length, map, take, drop, sym, ◌∙◌, ap, subst, arith}
 use Rattle.std.proofs.lemmas.List.{take-append-drop}
 use Rattle.dg_append.specs.BatchSegments.{BeginsBehind}
-use Rattle.dg_build.specs.SpelledRecords.{RisesFrom, last_in_rows}
+use Rattle.dg_build.specs.SpelledRecords.{last_in_rows}
 use Rattle.dg_graph.specs.declared.event.Event.{Event}
+use Rattle.dg_history.specs.EventTimes.{RisesFrom}
 use Rattle.dg_history.specs.History.{first_time_of, last_time_from}
+use Rattle.dg_history.proofs.EventTimes.{last_some, last_two, rises_parts}
 use Rattle.dg_index.specs.FileOfHistory.{StoredList}
 use Rattle.dg_index.specs.OpenedIndex.{list_row}
 
-pub last_two : (t : ℕ) (xs ys : List Event) → last_time_from t (xs ++ ys) ≡ last_time_from (last_time_from t xs) ys
-last_two t [] ys = refl
-last_two t (x ∷ xs) ys = last_two x.time xs ys
-
--- the last time of a list that is not empty does not depend on what was before
-pub last_some : (s t : ℕ) (events : List Event) → 1 ≤ length events → last_time_from s events ≡ last_time_from t events
-last_some s t [] some = absurd (omega arith)
-last_some s t (e ∷ events) some = refl
-
 pub last_of_both : (t : ℕ) (xs ys : List Event) → 1 ≤ length ys → last_time_from t (xs ++ ys) ≡ last_time_from 0 ys
 last_of_both t xs ys some = last_two t xs ys ∙ last_some (last_time_from t xs) 0 ys some
-
-pub rises_joined : (t : ℕ) (xs ys : List Event) → RisesFrom t xs → RisesFrom (last_time_from t xs) ys → RisesFrom t (xs ++ ys)
-rises_joined t [] ys r more = more
-rises_joined t (x ∷ xs) ys r more = (r.0, rises_joined x.time xs ys r.1 more)
-
-rises_behind : (t : ℕ) (xs ys : List Event) → RisesFrom t (xs ++ ys) → RisesFrom (last_time_from t xs) ys
-rises_behind t [] ys r = r
-rises_behind t (x ∷ xs) ys r = rises_behind x.time xs ys r.1
 
 -- from the first of them on
 pub from_first : (s t : ℕ) (events : List Event) → BeginsBehind s events → RisesFrom t events → RisesFrom s events
 from_first s t [] le r = tt
 from_first s t (e ∷ events) le r = (le, r.1)
-
-pub rises_last : (t : ℕ) (events : List Event) → RisesFrom t events → t ≤ last_time_from t events
-rises_last t [] r = omega arith
-rises_last t (e ∷ events) r = omega (arith, r.0, rises_last e.time events r.1)
 
 -- behind some of them none is earlier
 begins_later : (s t : ℕ) (events : List Event) → s ≤ t → RisesFrom t events → BeginsBehind s events
@@ -60,7 +41,7 @@ module _ (t n : ℕ) (events : List Event) (r : RisesFrom t events) where
   whole = take-append-drop n events
 
   pub rest_rises : RisesFrom (last_time_from t (take n events)) (drop n events)
-  rest_rises = rises_behind t (take n events) (drop n events) (subst (RisesFrom t) (sym whole) r)
+  rest_rises = (rises_parts t (take n events) (drop n events) (subst (RisesFrom t) (sym whole) r)).1
 
   pub rest_begins : BeginsBehind t (drop n events)
   rest_begins = begins_later t (last_time_from t (take n events)) (drop n events) (front_rises t n events r) rest_rises

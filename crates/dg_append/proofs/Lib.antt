@@ -12,7 +12,6 @@ pub mod KeptBatchOutcomes
 pub mod AddedBatchOutcomes
 pub mod BatchSegmentNames
 pub mod OlderGroupNodes
-pub mod HistoryLastTime
 pub mod OlderGroupDeltas
 pub mod BatchSegmentParts
 pub mod BatchCrashes

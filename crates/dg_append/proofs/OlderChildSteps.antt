@@ -10,7 +10,7 @@ use Rattle.dg_append.specs.OlderChildSteps.{set_among}
 use Rattle.dg_append.specs.OlderGroups.{AreUndamaged, IsDamageOfGroups, TellsGroupDamage, in_groups, leaves_before}
 use Rattle.dg_build.specs.InteriorDeltas.{steps_to}
 use Rattle.dg_build.specs.OlderSteps.{last_leaf}
-use Rattle.dg_graph.proofs.ExactEvents.{none_left as nothing_left}
+use Rattle.dg_graph.proofs.ExactEvents.{none_left as nothing_left, IsSet-replay_from, replay_append}
 use Rattle.dg_graph.specs.Composition.{Delta, between, nothing}
 use Rattle.dg_graph.specs.declared.element.Element.{Element}
 use Rattle.dg_graph.specs.declared.event.Event.{Event}
@@ -24,8 +24,7 @@ use Rattle.dg_history.specs.declared.params.Params.{Params}
 use Rattle.dg_index.specs.Hierarchy.{leaves, set_at, set_of}
 use Rattle.dg_index.specs.IndexRecords.{recent_of}
 use Rattle.dg_index.specs.OpenedIndex.{Opening, event_total}
-use Rattle.dg_index.proofs.HierarchySteps.{IsSet-node, IsSet-replay}
-use Rattle.dg_index.proofs.HierarchyStability.{replay_append}
+use Rattle.dg_index.proofs.HierarchySteps.{IsSet-node}
 use Rattle.dg_list.proofs.ExactEventCuts.{changes_behind}
 use Rattle.dg_plan.specs.declared.edge.Edge.{Edge}
 use Rattle.dg_plan.specs.HistoryGraph.{all_columns}
@@ -148,7 +147,7 @@ leaf_led p past recent now base recent_is now_is changes leads =
     let at : ListOf Element = last_leaf p past in
     let here : AreChangesOf at recent = subst (AreChangesOf at) (sym recent_is) (changes_behind [] n past changes) in
     let all : now ≡ replay_from at recent = now_is ∙ ap replay (sym (take-append-drop n past)) ∙ replay_append [] (take n past) (drop n past) ∙ ap (replay_from at) (sym recent_is) in
-    leads at (IsSet-replay [] (take n past) tt) here all
+    leads at (IsSet-replay_from (take n past) [] tt) here all
 
 -- ---- one group
 

@@ -1,12 +1,11 @@
 -- The older children that a batch's interior nodes have, listed height by height.
-use Rattle.std.proofs.Common.{◌≡◌, ℕ, zero, suc, ◌+◌, ◌-◌, ◌*◌, ◌/◌, ◌^◌, ◌<◌, ◌≤◌, List as ListOf, [], ◌∷◌, ◌++◌, map, min, refl, sym, ap, subst, ◌∙◌, append_assoc, append-nil, arith, pow-suc, mul_comm, mul-le-mul_right, div-mul-le_self, le-div_iff_mul-le}
+use Rattle.std.proofs.Common.{◌≡◌, ℕ, zero, suc, ◌+◌, ◌-◌, ◌*◌, ◌/◌, ◌^◌, ◌<◌, List as ListOf, [], ◌∷◌, ◌++◌, map, min, refl, sym, ap, subst, ◌∙◌, append_assoc, append-nil, arith}
 use Rattle.std.specs.List.{flat_map}
 use native.Mathlib.Nat.{pow-zero, div-one}
 use Rattle.dg_history.specs.declared.node.NodeId.{NodeId}
 use Rattle.dg_index.specs.Hierarchy.{numbers}
 use Rattle.dg_index.specs.OlderNodes.{node_at, older_at}
 use Rattle.dg_index.proofs.HierarchyCounts.{higher}
-use Rattle.dg_index.proofs.IndexRecordColumns.{power_some}
 
 -- one more of a row of nodes
 pub next_node : (f : ℕ → NodeId) (a n left : ℕ) (now new all : ListOf NodeId) → n ≡ suc left → new ≡ now ++ f a ∷ [] → now ++ map f (numbers a n) ≡ all → new ++ map f (numbers (a + 1) left) ≡ all
@@ -23,25 +22,6 @@ pub end_nodes : (now rest all : ListOf NodeId) → rest ≡ [] → now ++ rest �
 end_nodes now rest all none so_far = sym (append-nil now) ∙ ap (λ (l : ListOf NodeId). now ++ l) (sym none) ∙ so_far
 
 -- ---- heights
-
--- a power of two or more is above its exponent
-below_power : (k h : ℕ) → 2 ≤ k → h < k ^ h
-below_power k zero le = omega (arith, pow-zero k)
-below_power k (suc h) le =
-    let two : 2 * k ^ h ≤ k ^ h * k = subst (λ n. 2 * k ^ h ≤ n) (mul_comm k (k ^ h)) (mul-le-mul_right (k ^ h) le) in
-    omega (arith, below_power k h le, two, pow-suc k h)
-
--- a height with a node is among those up to the number of leaves
-pub height_few : (k n h : ℕ) → 2 ≤ k → 1 ≤ n / k ^ h → h ≤ n
-height_few k n h le some =
-    let pos = power_some k h (omega (arith, le)) in
-    let all : 1 * k ^ h ≤ n = (le-div_iff_mul-le pos).0 some in
-    omega (arith, below_power k h le, all)
-
-pub half_fewer : (k a b : ℕ) → 2 ≤ k → a ≤ b → a / k ≤ b / k
-half_fewer k a b le up =
-    let pos : 0 < k = omega (arith, le) in
-    (le-div_iff_mul-le pos).1 (omega (arith, div-mul-le_self a k, up))
 
 pub all_leaves : (m k : ℕ) → m ≡ m / k ^ 0
 all_leaves m k = sym (ap (λ n. m / n) (pow-zero k) ∙ div-one m)

@@ -8,7 +8,7 @@ use Rattle.dg_append.specs.AddedBatches.{MeetsNoDamage, batch_with, recent_behin
 use Rattle.dg_append.specs.OlderChildSteps.{IsFirstWideDelta, IsNamedDamage}
 use Rattle.dg_append.specs.OlderGroups.{leaves_after, older_children}
 use Rattle.dg_build.specs.OlderSteps.{AreOlderSteps}
-use Rattle.dg_build.specs.SpelledRecords.{RisesFrom, last_in_rows}
+use Rattle.dg_build.specs.SpelledRecords.{last_in_rows}
 use Rattle.dg_columns.specs.NamesInRange.{NamesFit}
 use Rattle.dg_fold.specs.BytesRead.{TakesAtMost}
 use Rattle.dg_graph.specs.Composition.{Delta}
@@ -21,6 +21,7 @@ use Rattle.dg_graph.specs.ExactEvents.{AreChangesOf}
 use Rattle.dg_graph.specs.Replay.{replay}
 use Rattle.dg_history.specs.declared.limits.TheConstants.{BATCH_LINES_MAX, EVENTS_MAX}
 use Rattle.dg_history.specs.declared.node.NodeId.TheVariants.{Root}
+use Rattle.dg_history.specs.EventTimes.{RisesFrom}
 use Rattle.dg_history.specs.History.{History, events_of, first_time_of, last_time_from}
 use Rattle.dg_index.specs.FileOfHistory.{Segment, segment_of}
 use Rattle.dg_index.specs.ImageOfHistory.{IsImageOf}

@@ -8,7 +8,7 @@ use Rattle.dg_index.specs.declared.entry.BatchEntry.{BatchEntry}
 use Rattle.dg_index.specs.OpenedIndex.{Opened, earliest_in, event_total, first_in, last_end, opened_of, span_in}
 use Rattle.dg_index.proofs.OpenedIndexHistories.{IsBehind}
 use Rattle.dg_planner.specs.HistoryLaws.{kept_span}
-use Rattle.dg_ask.proofs.OpenedIndexHistory.{behind}
+use Rattle.dg_index.proofs.OpenedLegalHistories.{behind}
 use Rattle.dg_ask.specs.HeldIndex.{ends_pair, span_held}
 
 -- the next batch begins behind the last time of the batches

@@ -1,5 +1,4 @@
 pub mod RecordListingLines
-pub mod OpenedIndexHistory
 pub mod HeldIndexHistory
 pub mod HeldIndexHandles
 pub mod KeptAdjacencies

@@ -1,8 +1,8 @@
 -- The nodes that handles hold are nodes of the index after a batch, and of the graph in which plans are made.
-use Rattle.std.proofs.Common.{◌≡◌, ℕ, ◌+◌, ◌*◌, ◌^◌, ◌<◌, ◌≤◌, Bool, true, false, List as ListOf, [], ◌∷◌, Option, Some, None, refl, sym, ◌∙◌, ap, subst, arith}
+use Rattle.std.proofs.Common.{◌≡◌, ℕ, ◌+◌, ◌*◌, ◌^◌, ◌<◌, ◌≤◌, Bool, true, List as ListOf, [], ◌∷◌, Option, Some, None, sym, ◌∙◌, ap, subst, arith}
 use Rattle.std.specs.Prelude.{IfSome, is_some, ◌&&◌, nat_le}
 use Rattle.std.specs.List.{All}
-use Rattle.std.proofs.lemmas.Bool.{leb-true, le-leb, false≢true}
+use Rattle.std.proofs.lemmas.Bool.{leb-true, le-leb, false≢true, and_parts}
 use Rattle.std.proofs.lemmas.List.Elements.{All-cons, All-head, All-nil, All-tail}
 use Rattle.std.proofs.lemmas.List.Sums.{sum_by_push}
 use Rattle.dg_append.specs.declared.batch.AddedBatch.{AddedBatch}
@@ -25,10 +25,6 @@ use Rattle.dg_machine.specs.Needs.{can_be_held}
 use Rattle.dg_ask.specs.HeldIndex.{HasNodeOf, HasNodes}
 use Rattle.dg_start.specs.StoredHistory.{index_opening}
 
-both_hold : (a b : Bool) → (a && b) ≡ true → (a ≡ true) × (b ≡ true)
-both_hold true b e = (refl, e)
-both_hold false b e = absurd (false≢true e)
-
 -- a node that can be held is there with more events
 module _ (p : Params) (pos : 0 < p.l) (n more : ℕ) where
   few : leaves p n ≤ leaves p (n + more)
@@ -40,12 +36,12 @@ module _ (p : Params) (pos : 0 < p.l) (n more : ℕ) where
   held_more Recent r = r
   held_more (EventList i) r = r
   held_more (Leaf j) r =
-      let parts = both_hold (nat_le 1 j) (nat_le j (leaves p n)) r in
+      let parts = and_parts (nat_le 1 j) (nat_le j (leaves p n)) r in
       ap (λ (b : Bool). b && nat_le j (leaves p (n + more))) parts.0
       ∙ le-leb j (leaves p (n + more)) (omega (arith, few, leb-true j (leaves p n) parts.1))
   held_more (Inner h j) r =
-      let parts = both_hold (nat_le 1 h) (nat_le 1 j && nat_le (j * p.k ^ h) (leaves p n)) r in
-      let rest = both_hold (nat_le 1 j) (nat_le (j * p.k ^ h) (leaves p n)) parts.1 in
+      let parts = and_parts (nat_le 1 h) (nat_le 1 j && nat_le (j * p.k ^ h) (leaves p n)) r in
+      let rest = and_parts (nat_le 1 j) (nat_le (j * p.k ^ h) (leaves p n)) parts.1 in
       ap (λ (b : Bool). b && (nat_le 1 j && nat_le (j * p.k ^ h) (leaves p (n + more)))) parts.0
       ∙ ap (λ (b : Bool). b && nat_le (j * p.k ^ h) (leaves p (n + more))) rest.0
       ∙ le-leb (j * p.k ^ h) (leaves p (n + more)) (omega (arith, few, leb-true (j * p.k ^ h) (leaves p n) rest.1))

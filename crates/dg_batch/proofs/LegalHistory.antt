@@ -1,10 +1,10 @@
 -- A legal history with the next batch is legal.
 use Rattle.std.proofs.Common.{◌≡◌, ℕ, ◌+◌, ◌<◌, ◌≤◌, ◌^◌, List, [], ◌∷◌, ◌++◌, Option, Some, None, Ok, length, drop, get_or, sym, ◌∙◌, ap, subst, arith, append_assoc, length-append}
 use Rattle.std.specs.Prelude.{IfSome}
-use Rattle.std.specs.List.{All, flat_map}
+use Rattle.std.specs.List.{All}
 use Rattle.std.proofs.lemmas.Grind.{flat_map-append}
 use Rattle.std.proofs.lemmas.List.{append-nil}
-use Rattle.std.proofs.lemmas.List.Elements.{All-nil, All-append}
+use Rattle.std.proofs.lemmas.List.Elements.{All-nil}
 use Rattle.dg_graph.specs.declared.element.Element.{Element}
 use Rattle.dg_graph.specs.declared.event.Change.{Change}
 use Rattle.dg_graph.specs.declared.event.Event.{Event}
@@ -17,8 +17,9 @@ use Rattle.dg_history.specs.History.{History, Batch, events_of, names_of, with_b
 use Rattle.dg_history.specs.LegalHistory.{FitsEvent, IsLegal, IsLegalBatch, AreLegalAfter}
 use Rattle.dg_graph.specs.Names.{are_new}
 use Rattle.dg_graph.specs.Replay.{replay}
-use Rattle.dg_batch.proofs.CompletedChanges.{AllCome, all_come, as_many}
-use Rattle.dg_batch.proofs.LegalHistoryRanges.{BodyFits, ChangeFits, ElementFits, HasKey, WhatFits, body_more, changes_fit, events_fit, events_keys, from_legal, has_key_more, legal_body, lines_grow, replay_fits, times_fit}
+use Rattle.dg_graph.proofs.Completions.{AllCome, all_come, as_many, times_fit}
+use Rattle.dg_history.proofs.LegalHistories.{all_fit, events_among}
+use Rattle.dg_batch.proofs.LegalHistoryRanges.{BodyFits, ChangeFits, ElementFits, HasKey, WhatFits, body_more, changes_fit, events_fit, events_keys, from_legal, has_key_more, legal_body, lines_grow, replay_fits}
 use Rattle.dg_batch.proofs.NamesAfter.{Grows, changes_length, grown_drop, grown_long, grows_none, new_joined}
 use Rattle.dg_batch.proofs.ChangeGrammarRanges.{SaidFits}
 use Rattle.dg_append.specs.Fronts.{lines}
@@ -38,19 +39,13 @@ batch_more names more before b l =
     }
 
 batches_more : (names more : List (List ℕ)) (before : List Event) (batches : List Batch) (b : Batch) → AreLegalAfter names before batches
-    → IsLegalBatch (names ++ more) (before ++ flat_map (λ (b : Batch). b.events) batches) b → AreLegalAfter (names ++ more) before (batches ++ b ∷ [])
+    → IsLegalBatch (names ++ more) (before ++ events_among batches) b → AreLegalAfter (names ++ more) before (batches ++ b ∷ [])
 batches_more names more before [] b l h = (subst (λ (es : List Event). IsLegalBatch (names ++ more) es b) (append-nil before) h, tt)
 batches_more names more before (x ∷ batches) b l h = (
   batch_more names more before x l.0,
   batches_more names more (before ++ x.events) batches b l.1
-      (subst (λ (es : List Event). IsLegalBatch (names ++ more) es b) (sym (append_assoc before x.events (flat_map (λ (b : Batch). b.events) batches))) h),
+      (subst (λ (es : List Event). IsLegalBatch (names ++ more) es b) (sym (append_assoc before x.events (events_among batches))) h),
 )
-
-pub events_all : (names : List (List ℕ)) (before : List Event) (batches : List Batch) → AreLegalAfter names before batches
-    → All (FitsEvent (length names)) (flat_map (λ (b : Batch). b.events) batches)
-events_all names before [] l = All-nil (FitsEvent (length names))
-events_all names before (b ∷ batches) l =
-    All-append (FitsEvent (length names)) b.events (flat_map (λ (b : Batch). b.events) batches) l.0.fits (events_all names (before ++ b.events) batches l.1)
 
 -- ---- the history with the next batch
 
@@ -108,7 +103,7 @@ next_legal z asked changes grown events legal n =
     let come : AllCome earliest set (lines changes) events = all_come 1 earliest set (lines changes) events n.comes in
     let fit : All (λ c. IfSome c (ChangeFits grown)) (lines changes) = fitting_next (names_of z) grown asked changes n.fit n.changes_are n.names_are in
     let long : length (names_of z) ≤ length grown = grown_long (names_of z) grown (grown_next (names_of z) grown asked n.fit n.names_are) in
-    let old : All (FitsEvent (length (names_of z))) (events_of z) = events_all (names_of z) [] z.batches legal.batches in
+    let old : All (FitsEvent (length (names_of z))) (events_of z) = all_fit (names_of z) [] z.batches legal.batches in
     let set_fit : All (ElementFits (λ n. n < 2 ^ 64) (length grown)) set =
     replay_fits (λ n. n < 2 ^ 64) (length grown) [] (events_of z)
     (λ k d lt. from_legal (length grown) (get_or (events_of z) k d).body (body_more (length (names_of z)) (length grown) (get_or (events_of z) k d).body long (old k d lt).1))

@@ -1,7 +1,7 @@
 -- The ids and the numbers of names in events are those of changes, and so are in their ranges.
-use Rattle.std.proofs.Common.{◌≡◌, ℕ, ◌<◌, ◌≤◌, ◌^◌, Bool, true, false, not, ◌&&◌, List, [], ◌∷◌, ◌++◌, Option, Some, None, Ok, Err, if◌then◌else◌, length, find, refl, sym, ◌∙◌, ap, subst, arith}
-use Rattle.std.specs.Prelude.{IfSome, IsTrue, is_some, nat_eq, option_and_then}
-use Rattle.std.specs.List.{All, list_any}
+use Rattle.std.proofs.Common.{◌≡◌, ℕ, ◌<◌, ◌≤◌, ◌^◌, Bool, true, false, not, List, [], ◌∷◌, ◌++◌, Option, Some, None, Ok, if◌then◌else◌, length, find, refl, sym, ◌∙◌, ap, subst, arith}
+use Rattle.std.specs.Prelude.{IfSome, IsTrue, nat_eq, option_and_then}
+use Rattle.std.specs.List.{All}
 use Rattle.std.specs.Option.{option_map, option_eq}
 use Rattle.std.proofs.lemmas.List.{get_or_append_left}
 use Rattle.std.proofs.lemmas.List.Elements.{All-nil, All-cons, All-head, All-tail, All-filter}
@@ -13,17 +13,16 @@ use Rattle.dg_graph.specs.declared.event.Change.{Change}
 use Rattle.dg_graph.specs.declared.event.Event.{Event}
 use Rattle.dg_graph.specs.declared.event.What.{What}
 use Rattle.dg_graph.specs.declared.event.What.TheVariants as what
-use Rattle.dg_graph.specs.declared.event.TheConstants.{REASON_NODE_EXISTS, REASON_NO_NODE, REASON_NODE_IN_USE, REASON_EDGE_EXISTS, REASON_NO_EDGE, REASON_NO_END}
 use Rattle.dg_graph.specs.declared.limits.TheConstants.{TIME_MAX}
 use Rattle.dg_history.specs.Batch.{changes_after, names_after}
-use Rattle.dg_graph.specs.Completion.{has_node, is_edge, edge_of, needs_node, needs_edge, node_value, edge_value, is_node_value, is_edge_value, value_in, value_removal, edge_removal, complete, has_key}
+use Rattle.dg_graph.specs.Completion.{is_edge, node_value, edge_value, is_node_value, is_edge_value, value_in, complete, has_key}
 use Rattle.dg_graph.specs.Effect.{forwards, removed_by, added_by, moved}
 use Rattle.dg_graph.specs.Elements.{before, same, put, with_one, without}
 use Rattle.dg_history.specs.ChangeGrammar.{WhatByText, Plain, Sets_node, Unsets_node, Sets_edge, Unsets_edge, ChangeByText, named, change_with, what_in}
 use Rattle.dg_history.specs.LegalHistory.{FitsBody}
 use Rattle.dg_graph.specs.Names.{added, is_key, is_name, name_text}
 use Rattle.dg_graph.specs.Replay.{replay_from}
-use Rattle.dg_batch.proofs.CompletedChanges.{AllCome}
+use Rattle.dg_graph.proofs.Completions.{AllCome, IsCompletion, completion}
 use Rattle.dg_batch.proofs.NamesAfter.{Grows, Has, grows_none, grows_both, added_grows, added_has, has_more, key_is_name, number_within, text_is}
 use Rattle.dg_batch.proofs.ChangeGrammarRanges.{AskedFits, PlainFits, SaidFits}
 use Rattle.dg_append.specs.AddedBatches.{WhatHasNamesThere}
@@ -118,68 +117,32 @@ value_fits I n (Some (element.Edge id src dst directed)) h = tt
 value_fits I n (Some (element.NodeAttr id key value)) h = h (element.NodeAttr id key value) refl
 value_fits I n (Some (element.EdgeAttr id key value)) h = h (element.EdgeAttr id key value) refl
 
--- A fact of what a change comes to, by its tests.
-by_test : (P : Body → Type 0) (there : Bool) (reason : ℕ) (x b : Body) → (if there then Ok x else Err reason) ≡ Ok b → P x → P b
-by_test P true reason x b h f = let e : x ≡ b = cc in subst P e f
-by_test P false reason x b h f = cc
-
-node_added : (P : Body → Type 0) (there : Bool) (id : ℕ) (b : Body) → (if there then Err REASON_NODE_EXISTS else Ok (body.NodeAdded id)) ≡ Ok b → P (body.NodeAdded id) → P b
-node_added P true id b h f = cc
-node_added P false id b h f = let e : body.NodeAdded id ≡ b = cc in subst P e f
-
-node_removed : (P : Body → Type 0) (there used : Bool) (id : ℕ) (b : Body)
-    → (if not there then Err REASON_NO_NODE else (if used then Err REASON_NODE_IN_USE else Ok (body.NodeRemoved id))) ≡ Ok b → P (body.NodeRemoved id) → P b
-node_removed P false used id b h f = cc
-node_removed P true true id b h f = cc
-node_removed P true false id b h f = let e : body.NodeRemoved id ≡ b = cc in subst P e f
-
-edge_added : (P : Body → Type 0) (there ends : Bool) (id src dst : ℕ) (directed : Bool) (b : Body)
-    → (if there then Err REASON_EDGE_EXISTS else (if ends then Ok (body.EdgeAdded id src dst directed) else Err REASON_NO_END)) ≡ Ok b
-    → P (body.EdgeAdded id src dst directed) → P b
-edge_added P true ends id src dst directed b h f = cc
-edge_added P false false id src dst directed b h f = cc
-edge_added P false true id src dst directed b h f = let e : body.EdgeAdded id src dst directed ≡ b = cc in subst P e f
-
-edge_removed : (P : Body → Type 0) (needed : Bool) (found : Option Element) (b : Body) → edge_removal needed found ≡ Ok b
-    → ((id src dst : ℕ) (directed : Bool) → found ≡ Some (element.Edge id src dst directed) → P (body.EdgeRemoved id src dst directed)) → P b
-edge_removed P needed None b h f = cc
-edge_removed P needed (Some (element.Node id)) b h f = cc
-edge_removed P needed (Some (element.NodeAttr id key value)) b h f = cc
-edge_removed P needed (Some (element.EdgeAttr id key value)) b h f = cc
-edge_removed P true (Some (element.Edge id src dst directed)) b h f = cc
-edge_removed P false (Some (element.Edge id src dst directed)) b h f =
-    let e : body.EdgeRemoved id src dst directed ≡ b = cc in subst P e (f id src dst directed refl)
-
-value_unset : (P : Body → Type 0) (there : Bool) (reason : ℕ) (make : Option ℕ → Option ℕ → Body) (found : Option ℕ) (b : Body)
-    → (if there then value_removal make found else Err reason) ≡ Ok b
-    → ((v : ℕ) → found ≡ Some v → P (make (Some v) None)) → P b
-value_unset P false reason make found b h f = cc
-value_unset P true reason make None b h f = cc
-value_unset P true reason make (Some v) b h f = let e : make (Some v) None ≡ b = cc in subst P e (f v refl)
-
-some_value : (n : ℕ) (found : Option ℕ) (v : ℕ) → IfSome found (λ v. v < n) → found ≡ Some v → v < n
-some_value n found v h e = subst (λ (o : Option ℕ). IfSome o (λ v. v < n)) e h
-
 pub body_fits : (I : ℕ → Type 0) (n : ℕ) (w : What) (set : List Element) (b : Body) → WhatFits I n w → All (ElementFits I n) set → complete w set ≡ Ok b → BodyFits I n b
-body_fits I n (what.AddNode id) set b f all h = node_added (BodyFits I n) (has_node set id) id b h f
-body_fits I n (what.RemoveNode id) set b f all h = node_removed (BodyFits I n) (has_node set id) (list_any (needs_node id) set) id b h f
-body_fits I n (what.AddEdge id src dst directed) set b f all h =
-    edge_added (BodyFits I n) (is_some (edge_of set id)) (has_node set src && has_node set dst) id src dst directed b h f
-body_fits I n (what.RemoveEdge id) set b f all h =
-    edge_removed (BodyFits I n) (list_any (needs_edge id) set) (edge_of set id) b h
-    (λ id' src dst directed e. found_fits I n (is_edge id) set (element.Edge id' src dst directed) all e)
-body_fits I n (what.SetNode id key value) set b f all h =
-    by_test (BodyFits I n) (has_node set id) REASON_NO_NODE (body.NodeAttr id key (node_value set id key) (Some value)) b h
-    (f.0, f.1, value_fits I n (find (is_node_value id key) set) (λ x e. found_fits I n (is_node_value id key) set x all e), f.2)
-body_fits I n (what.UnsetNode id key) set b f all h =
-    value_unset (BodyFits I n) (has_node set id) REASON_NO_NODE (λ old new. body.NodeAttr id key old new) (node_value set id key) b h
-    (λ v e. (f.0, f.1, some_value n (node_value set id key) v (value_fits I n (find (is_node_value id key) set) (λ x k. found_fits I n (is_node_value id key) set x all k)) e, tt))
-body_fits I n (what.SetEdge id key value) set b f all h =
-    by_test (BodyFits I n) (is_some (edge_of set id)) REASON_NO_EDGE (body.EdgeAttr id key (edge_value set id key) (Some value)) b h
-    (f.0, f.1, value_fits I n (find (is_edge_value id key) set) (λ x e. found_fits I n (is_edge_value id key) set x all e), f.2)
-body_fits I n (what.UnsetEdge id key) set b f all h =
-    value_unset (BodyFits I n) (is_some (edge_of set id)) REASON_NO_EDGE (λ old new. body.EdgeAttr id key old new) (edge_value set id key) b h
-    (λ v e. (f.0, f.1, some_value n (edge_value set id key) v (value_fits I n (find (is_edge_value id key) set) (λ x k. found_fits I n (is_edge_value id key) set x all k)) e, tt))
+body_fits I n w set b f all h = by w f (completion w set b h)
+  where
+    so : (x : Body) → x ≡ b → BodyFits I n x → BodyFits I n b
+    so x is fits = subst (BodyFits I n) is fits
+
+    found : (t : Element → Bool) → IfSome (option_and_then value_in (find t set)) (λ v. v < n)
+    found t = value_fits I n (find t set) (λ x e. found_fits I n t set x all e)
+
+    taken : (t : Element → Bool) (v : ℕ) → option_and_then value_in (find t set) ≡ Some v → v < n
+    taken t v is = subst (λ (o : Option ℕ). IfSome o (λ v. v < n)) is (found t)
+
+    by : (w : What) → WhatFits I n w → IsCompletion w set b → BodyFits I n b
+    by (what.AddNode id) f c = so (body.NodeAdded id) c.0 f
+    by (what.RemoveNode id) f c = so (body.NodeRemoved id) c.0 f
+    by (what.AddEdge id src dst directed) f c = so (body.EdgeAdded id src dst directed) c.0 f
+    by (what.RemoveEdge id) f c =
+        so (body.EdgeRemoved c.id c.src c.dst c.directed) c.is (found_fits I n (is_edge id) set (element.Edge c.id c.src c.dst c.directed) all c.found_is)
+    by (what.SetNode id key value) f c =
+        so (body.NodeAttr id key (node_value set id key) (Some value)) c.0 (f.0, f.1, found (is_node_value id key), f.2)
+    by (what.UnsetNode id key) f c =
+        so (body.NodeAttr id key (Some c.0.value) None) c.0.is (f.0, f.1, taken (is_node_value id key) c.0.value c.0.found_is, tt)
+    by (what.SetEdge id key value) f c =
+        so (body.EdgeAttr id key (edge_value set id key) (Some value)) c.0 (f.0, f.1, found (is_edge_value id key), f.2)
+    by (what.UnsetEdge id key) f c =
+        so (body.EdgeAttr id key (Some c.0.value) None) c.0.is (f.0, f.1, taken (is_edge_value id key) c.0.value c.0.found_is, tt)
 
 pub events_fit : (I : ℕ → Type 0) (n earliest : ℕ) (set : List Element) (changes : List (Option Change)) (events : List Event)
     → AllCome earliest set changes events → All (λ c. IfSome c (λ (c : Change). WhatFits I n c.what)) changes → All (ElementFits I n) set → All (λ (e : Event). BodyFits I n e.body) events
@@ -191,17 +154,6 @@ events_fit I n earliest set (Some c ∷ changes) (e ∷ events) h f all =
     let here : BodyFits I n e.body = body_fits I n c.what set e.body (All-head (λ c. IfSome c (λ (c : Change). WhatFits I n c.what)) (Some c) changes f) all h.0.body in
     All-cons (λ (e : Event). BodyFits I n e.body) e events here
     (events_fit I n e.time (forwards set e) changes events h.1 (All-tail (λ c. IfSome c (λ (c : Change). WhatFits I n c.what)) (Some c) changes f) (set_fits I n set e here all))
-
-pub times_fit : (earliest : ℕ) (set : List Element) (changes : List (Option Change)) (events : List Event)
-    → AllCome earliest set changes events → All (λ c. IfSome c (λ (c : Change). c.time ≤ TIME_MAX)) changes → All (λ (e : Event). e.time ≤ TIME_MAX) events
-times_fit earliest set [] [] h f = All-nil (λ (e : Event). e.time ≤ TIME_MAX)
-times_fit earliest set [] (e ∷ events) h f = absurd h
-times_fit earliest set (None ∷ changes) events h f = absurd h
-times_fit earliest set (Some c ∷ changes) [] h f = absurd h
-times_fit earliest set (Some c ∷ changes) (e ∷ events) h f =
-    let here : c.time ≤ TIME_MAX = All-head (λ c. IfSome c (λ (c : Change). c.time ≤ TIME_MAX)) (Some c) changes f in
-    All-cons (λ (e : Event). e.time ≤ TIME_MAX) e events (omega (arith, here, h.0.time))
-    (times_fit e.time (forwards set e) changes events h.1 (All-tail (λ c. IfSome c (λ (c : Change). c.time ≤ TIME_MAX)) (Some c) changes f))
 
 -- ---- the key of a change and of its event
 
@@ -217,20 +169,20 @@ HasKey names (what.SetEdge id key value) = is_key (name_text names key) ≡ true
 HasKey names (what.UnsetEdge id key) = is_key (name_text names key) ≡ true
 
 body_key : (names : List (List ℕ)) (w : What) (set : List Element) (b : Body) → HasKey names w → complete w set ≡ Ok b → IsTrue (has_key names b)
-body_key names (what.AddNode id) set b f h = node_added (λ x. IsTrue (has_key names x)) (has_node set id) id b h refl
-body_key names (what.RemoveNode id) set b f h = node_removed (λ x. IsTrue (has_key names x)) (has_node set id) (list_any (needs_node id) set) id b h refl
-body_key names (what.AddEdge id src dst directed) set b f h =
-    edge_added (λ x. IsTrue (has_key names x)) (is_some (edge_of set id)) (has_node set src && has_node set dst) id src dst directed b h refl
-body_key names (what.RemoveEdge id) set b f h =
-    edge_removed (λ x. IsTrue (has_key names x)) (list_any (needs_edge id) set) (edge_of set id) b h (λ id' src dst directed e. refl)
-body_key names (what.SetNode id key value) set b f h =
-    by_test (λ x. IsTrue (has_key names x)) (has_node set id) REASON_NO_NODE (body.NodeAttr id key (node_value set id key) (Some value)) b h f
-body_key names (what.UnsetNode id key) set b f h =
-    value_unset (λ x. IsTrue (has_key names x)) (has_node set id) REASON_NO_NODE (λ old new. body.NodeAttr id key old new) (node_value set id key) b h (λ v e. f)
-body_key names (what.SetEdge id key value) set b f h =
-    by_test (λ x. IsTrue (has_key names x)) (is_some (edge_of set id)) REASON_NO_EDGE (body.EdgeAttr id key (edge_value set id key) (Some value)) b h f
-body_key names (what.UnsetEdge id key) set b f h =
-    value_unset (λ x. IsTrue (has_key names x)) (is_some (edge_of set id)) REASON_NO_EDGE (λ old new. body.EdgeAttr id key old new) (edge_value set id key) b h (λ v e. f)
+body_key names w set b f h = by w f (completion w set b h)
+  where
+    so : (x : Body) → x ≡ b → IsTrue (has_key names x) → IsTrue (has_key names b)
+    so x is has = subst (λ (y : Body). IsTrue (has_key names y)) is has
+
+    by : (w : What) → HasKey names w → IsCompletion w set b → IsTrue (has_key names b)
+    by (what.AddNode id) f c = so (body.NodeAdded id) c.0 refl
+    by (what.RemoveNode id) f c = so (body.NodeRemoved id) c.0 refl
+    by (what.AddEdge id src dst directed) f c = so (body.EdgeAdded id src dst directed) c.0 refl
+    by (what.RemoveEdge id) f c = so (body.EdgeRemoved c.id c.src c.dst c.directed) c.is refl
+    by (what.SetNode id key value) f c = so (body.NodeAttr id key (node_value set id key) (Some value)) c.0 f
+    by (what.UnsetNode id key) f c = so (body.NodeAttr id key (Some c.0.value) None) c.0.is f
+    by (what.SetEdge id key value) f c = so (body.EdgeAttr id key (edge_value set id key) (Some value)) c.0 f
+    by (what.UnsetEdge id key) f c = so (body.EdgeAttr id key (Some c.0.value) None) c.0.is f
 
 pub events_keys : (names : List (List ℕ)) (earliest : ℕ) (set : List Element) (changes : List (Option Change)) (events : List Event)
     → AllCome earliest set changes events → All (λ c. IfSome c (λ (c : Change). HasKey names c.what)) changes → All (λ (e : Event). IsTrue (has_key names e.body)) events

@@ -1,6 +1,5 @@
 pub mod BatchLineCollection
 pub mod PlanLineCollection
-pub mod CompletedChanges
 pub mod NamesAfter
 pub mod ChangeGrammarRanges
 pub mod LegalHistoryRanges

@@ -6,6 +6,7 @@ use Rattle.std.proofs.Math.Seq.{drop-append_seam}
 use Rattle.std.proofs.lemmas.List.{append-nil}
 use Rattle.std.proofs.lemmas.List.Elements.{Contains-get_or}
 use Rattle.std.proofs.lemmas.Option.{slice_get_within, get_or_from_slice_get}
+use Rattle.std.proofs.lemmas.Bool.{and_parts}
 use borrow.Author.Tests.{le-leb, leb-true, eqb-true}
 use Rattle.dg_graph.specs.declared.event.Change.{Change}
 use Rattle.dg_graph.specs.declared.limits.TheConstants.{KEY_BYTES_MAX, NAME_BYTES_MAX}
@@ -101,15 +102,10 @@ no_end b h = by_ten (b == 10) refl
     by_ten true e =
         let low : nat_lt 32 10 ≡ true = ap (nat_lt 32) (sym (eqb-true b 10 e)) ∙ h in cc
 
-pub both_parts : (a b : Bool) → (a && b) ≡ true → (a ≡ true) × (b ≡ true)
-both_parts true true h = (refl, refl)
-both_parts true false h = cc
-both_parts false b h = cc
-
 no_ends : (text : List ℕ) → list_all (λ b. nat_lt 32 b) text ≡ true → list_any (λ b. b == 10 || b == 13) text ≡ false
 no_ends [] h = refl
 no_ends (b ∷ text) h =
-    let parts = both_parts (nat_lt 32 b) (list_all (λ b. nat_lt 32 b) text) h in
+    let parts = and_parts (nat_lt 32 b) (list_all (λ b. nat_lt 32 b) text) h in
     ap (λ x. x || list_any (λ b. b == 10 || b == 13) text) (no_end b parts.0) ∙ no_ends text parts.1
 
 pub key_is_name : (text : List ℕ) → is_key text ≡ true → is_name text ≡ true

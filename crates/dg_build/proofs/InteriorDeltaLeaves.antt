@@ -10,11 +10,12 @@ use Rattle.dg_graph.specs.Elements.{IsSet}
 use Rattle.dg_graph.specs.Replay.{replay, replay_from}
 use Rattle.dg_index.specs.Hierarchy.{numbers, leaves, set_at}
 use Rattle.dg_graph.specs.ExactEvents.{AreChangesOf}
+use Rattle.dg_graph.proofs.ExactEvents.{IsSet-replay_from, replay_append}
 use Rattle.dg_index.specs.IndexRecords.{closed_list, recent_of, deltas_due}
 use Rattle.dg_index.specs.ExactSteps.{steps_at}
 use Rattle.dg_index.proofs.HierarchyCounts.{numbers_append}
-use Rattle.dg_index.proofs.HierarchySteps.{IsSet-node, IsSet-replay}
-use Rattle.dg_index.proofs.HierarchyStability.{leaf_next, list_cut, replay_append}
+use Rattle.dg_index.proofs.HierarchySteps.{IsSet-node}
+use Rattle.dg_index.proofs.HierarchyStability.{leaf_next, list_cut}
 use Rattle.dg_build.specs.InteriorDeltas.{AreNewNodes}
 use Rattle.dg_build.specs.GivenDeltas.{IsExactNet, gone_back}
 use Rattle.dg_build.specs.OlderSteps.{AreOlderSteps, first_in_time, last_leaf, older_in_time}
@@ -73,7 +74,7 @@ base_back p before more recent after steps now base some recent_is now_is change
     let at : List Element = last_leaf p before in
     let here : AreChangesOf at recent = subst (AreChangesOf at) (sym recent_is) (changes_behind [] n before (changes_cut [] before more changes).0) in
     let all : now ≡ replay_from at recent = now_is ∙ ap replay (sym (take-append-drop n before)) ∙ replay_append [] (take n before) (drop n before) ∙ ap (replay_from at) (sym recent_is) in
-    let set : IsSet at = IsSet-replay [] (take n before) tt in
+    let set : IsSet at = IsSet-replay_from (take n before) [] tt in
     leads at set here all ∙ ap (λ (l : List Delta). gone_back l at) are ∙ back_to_first p before (older_in_time p.k (leaves p (length before)) after) at set
 
 -- the new leaves up to those that the batch has

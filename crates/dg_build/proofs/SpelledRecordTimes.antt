@@ -1,28 +1,18 @@
 -- The times of the lists that are cut off do not fall, and their columns are no longer than those of so many events.
-use Rattle.std.proofs.Common.{◌≡◌, ℕ, zero, suc, ◌+◌, ◌*◌, ◌≤◌, Bool, true, false, ◌&&◌, List, [], ◌∷◌, ◌++◌, Some, length, map, take, drop, nat_le, refl, sym, ap, subst, ◌∙◌, arith, add-mul, take-append-drop, length-drop, length-take}
-use Rattle.std.proofs.lemmas.Bool.{le-leb}
+use Rattle.std.proofs.Common.{◌≡◌, ℕ, zero, suc, ◌+◌, ◌*◌, ◌≤◌, true, ◌&&◌, List, [], ◌∷◌, ◌++◌, Some, length, map, take, drop, nat_le, refl, sym, ap, subst, ◌∙◌, arith, add-mul, take-append-drop, length-drop, length-take}
+use Rattle.std.proofs.lemmas.Bool.{and_from, le-leb}
 use Rattle.std.proofs.lemmas.List.{drop-drop}
 use Rattle.dg_graph.specs.declared.event.Event.{Event}
+use Rattle.dg_history.specs.EventTimes.{RisesFrom}
 use Rattle.dg_history.specs.History.{last_time_from}
+use Rattle.dg_history.proofs.EventTimes.{last_two, rises_last, rises_parts}
 use Rattle.dg_index.specs.Hierarchy.{numbers}
 use Rattle.dg_index.specs.OpenedIndex.{lengths_of, list_bytes_max, list_row, may_be_listed, total, within}
 use Rattle.dg_index.specs.FileOfHistory.{StoredList, stored}
 use Rattle.dg_index.specs.IndexRecords.{Events}
 use Rattle.dg_index.proofs.ListBytes.{list_fits}
-use Rattle.dg_build.specs.SpelledRecords.{last_in_rows, stored_cut, RisesFrom}
+use Rattle.dg_build.specs.SpelledRecords.{last_in_rows, stored_cut}
 use Rattle.dg_build.proofs.SpelledRecordLists.{list_there}
-
-rises_le : (floor : ℕ) (xs : List Event) → RisesFrom floor xs → floor ≤ last_time_from floor xs
-rises_le floor [] r = omega arith
-rises_le floor (e ∷ xs) r = omega (arith, r.0, rises_le e.time xs r.1)
-
-last_append : (floor : ℕ) (xs ys : List Event) → last_time_from floor (xs ++ ys) ≡ last_time_from (last_time_from floor xs) ys
-last_append floor [] ys = refl
-last_append floor (e ∷ xs) ys = last_append e.time xs ys
-
-rises_cut : (floor : ℕ) (xs ys : List Event) → RisesFrom floor (xs ++ ys) → RisesFrom floor xs × RisesFrom (last_time_from floor xs) ys
-rises_cut floor [] ys r = (tt, r)
-rises_cut floor (e ∷ xs) ys r = let m = rises_cut e.time xs ys r.1 in ((r.0, m.0), m.1)
 
 -- so many lists of l events, one behind another
 cuts : ℕ → ℕ → List Event → List StoredList
@@ -35,11 +25,6 @@ cuts_are l a zero tail = refl
 cuts_are l a (suc n) tail =
     ap (λ (r : List StoredList). stored_cut (take l (drop (a * l) tail)) ∷ r)
     (cuts_are l (a + 1) n tail ∙ ap (λ m. cuts l n (drop m tail)) (let e : (a + 1) * l ≡ a * l + l = omega (arith, add-mul a 1 l) in e) ∙ ap (cuts l n) (sym (drop-drop l (a * l) tail)))
-
-both : (a b : Bool) → a ≡ true → b ≡ true → (a && b) ≡ true
-both true true e f = refl
-both true false e f = f
-both false b e f = e
 
 -- the first events have at most so many bytes as a list of so many takes
 front_fits : (l : ℕ) (events : List Event) → total (lengths_of (stored (Events (take l events)))) ≤ list_bytes_max l
@@ -60,15 +45,15 @@ listed (suc l) (suc n) floor (e ∷ es) some fits r =
     let most : ℕ = list_bytes_max (suc l) in
     let bytes : ℕ = total (lengths_of (stored (Events (e ∷ front)))) in
     let parts : front ++ back ≡ es = take-append-drop l es in
-    let r2 = rises_cut e.time front back (subst (RisesFrom e.time) (sym parts) r.1) in
-    let end : last_time_from e.time es ≡ last_time_from last back = ap (last_time_from e.time) (sym parts) ∙ last_append e.time front back in
-    let here : e.time ≤ last = rises_le e.time front r2.0 in
-    let there : last ≤ last_time_from e.time es = omega (arith, rises_le last back r2.1, end) in
+    let r2 = rises_parts e.time front back (subst (RisesFrom e.time) (sym parts) r.1) in
+    let end : last_time_from e.time es ≡ last_time_from last back = ap (last_time_from e.time) (sym parts) ∙ last_two e.time front back in
+    let here : e.time ≤ last = rises_last e.time front r2.0 in
+    let there : last ≤ last_time_from e.time es = omega (arith, rises_last last back r2.1, end) in
     let short : nat_le bytes most ≡ true = le-leb bytes most (front_fits (suc l) (e ∷ es)) in
-    both (within most floor (last_time_from e.time es) bytes (Some (record { first = e.time; last = last }))) (may_be_listed most last (last_time_from e.time es) (map list_row (cuts (suc l) n back)))
-    (both (nat_le floor e.time) (nat_le e.time last && (nat_le last (last_time_from e.time es) && nat_le bytes most)) (le-leb floor e.time r.0)
-    (both (nat_le e.time last) (nat_le last (last_time_from e.time es) && nat_le bytes most) (le-leb e.time last here)
-    (both (nat_le last (last_time_from e.time es)) (nat_le bytes most) (le-leb last (last_time_from e.time es) there) short)))
+    and_from (within most floor (last_time_from e.time es) bytes (Some (record { first = e.time; last = last }))) (may_be_listed most last (last_time_from e.time es) (map list_row (cuts (suc l) n back)))
+    (and_from (nat_le floor e.time) (nat_le e.time last && (nat_le last (last_time_from e.time es) && nat_le bytes most)) (le-leb floor e.time r.0)
+    (and_from (nat_le e.time last) (nat_le last (last_time_from e.time es) && nat_le bytes most) (le-leb e.time last here)
+    (and_from (nat_le last (last_time_from e.time es)) (nat_le bytes most) (le-leb last (last_time_from e.time es) there) short)))
     (ap (λ m. may_be_listed most last m (map list_row (cuts (suc l) n back))) end
     ∙ listed (suc l) n last back some (omega (arith, fits, add-mul n 1 (suc l), length-drop l es)) r2.1)
 
@@ -82,7 +67,7 @@ behind (suc l) (suc n) floor (e ∷ es) some fits r =
     let front : List Event = take l es in
     let back : List Event = drop l es in
     let last : ℕ = last_time_from e.time front in
-    let r2 = rises_cut e.time front back (subst (RisesFrom e.time) (sym (take-append-drop l es)) r.1) in
+    let r2 = rises_parts e.time front back (subst (RisesFrom e.time) (sym (take-append-drop l es)) r.1) in
     let more : RisesFrom (last_in_rows last (map list_row (cuts (suc l) n back))) (drop (n * suc l) back) =
     behind (suc l) n last back some (omega (arith, fits, add-mul n 1 (suc l), length-drop l es)) r2.1 in
     let same : drop (n * suc l) back ≡ drop (suc n * suc l) (e ∷ es) =

@@ -9,10 +9,11 @@ use Rattle.dg_history.specs.declared.node.NodeId.TheVariants as node
 use Rattle.dg_history.specs.declared.params.Params.{Params}
 use Rattle.dg_graph.specs.Composition.{Delta, applied, between, reversed}
 use Rattle.dg_graph.specs.Elements.{IsSet}
+use Rattle.dg_graph.proofs.ExactEvents.{IsSet-replay_from}
 use Rattle.dg_delta.specs.Deltas.{applied_in_turn}
 use Rattle.dg_delta.proofs.Deltas.{reversed_leads_back}
 use Rattle.dg_index.specs.Hierarchy.{leaves, set_of}
-use Rattle.dg_index.proofs.HierarchySteps.{IsSet-node, IsSet-replay}
+use Rattle.dg_index.proofs.HierarchySteps.{IsSet-node}
 use Rattle.dg_build.specs.InteriorDeltas.{steps_to}
 use Rattle.dg_build.specs.GivenDeltas.{gone_back}
 
@@ -56,7 +57,7 @@ back_front d steps set = ap (λ (l : List Delta). applied_in_turn (map reversed 
 -- the set of each node is one
 pub IsSet-of : (p : Params) (past : List Event) (n : NodeId) → IsSet (set_of p past n)
 IsSet-of p past node.Root = tt
-IsSet-of p past node.Now = IsSet-replay [] past tt
+IsSet-of p past node.Now = IsSet-replay_from past [] tt
 IsSet-of p past node.Recent = IsSet-node p past 0 (leaves p (length past))
 IsSet-of p past (node.Leaf j) = IsSet-node p past 0 j
 IsSet-of p past (node.List i) = IsSet-node p past 0 i

@@ -1,5 +1,5 @@
 -- Lists and deltas as they are written, and which deltas cannot be.
-use Rattle.std.specs.Prelude.{◌≡◌, ℕ, ◌+◌, ◌≤◌, ◌<◌, ◌^◌, ◌||◌, Bool, List, [], ◌∷◌, Option, Some, None, length, nat_le, if◌then◌else◌}
+use Rattle.std.specs.Prelude.{◌≡◌, ℕ, ◌+◌, ◌<◌, ◌^◌, ◌||◌, Bool, List, [], ◌∷◌, Option, Some, None, length, nat_le, if◌then◌else◌}
 use Rattle.dg_graph.specs.declared.event.Event.{Event}
 use Rattle.dg_graph.specs.Composition.{Delta}
 use Rattle.dg_history.specs.History.{first_time_of, last_time_from}
@@ -32,11 +32,6 @@ IsFaultOfDeltas index deltas (Wide at) = first_wide index deltas ≡ Some at
 abbrev pub IsFaultBelow : ℕ → BuildFault → Type 0
 IsFaultBelow count Memory = Unit {0}
 IsFaultBelow count (Wide at) = at < count
-
--- no event is earlier than the one before it, nor the first than this time
-abbrev pub RisesFrom : ℕ → List Event → Type 0
-RisesFrom floor [] = Unit {0}
-RisesFrom floor (e ∷ events) = (floor ≤ e.time) × RisesFrom e.time events
 
 -- the last time of the last of these rows that has times, where without one it is this
 abbrev pub last_in_rows : ℕ → List Row → ℕ

@@ -4,6 +4,7 @@ ghost use Rattle.std.specs.Prelude.{◌≡◌, ◌≤◌, ◌<◌, ◌+◌, ◌-
 ghost use Rattle.dg_graph.specs.declared.event.Event.{Event};
 ghost use Rattle.dg_graph.specs.ExactEvents.{AreChangesOf};
 ghost use Rattle.dg_graph.specs.Replay.{replay};
+ghost use Rattle.dg_history.specs.EventTimes.{RisesFrom};
 ghost use Rattle.dg_history.specs.History.{first_time_of, last_time_from};
 ghost use Rattle.dg_columns.specs.NamesInRange.{NamesFit};
 ghost use Rattle.dg_index.specs.Hierarchy.{leaves, numbers};
@@ -11,7 +12,7 @@ ghost use Rattle.dg_index.specs.IndexRecords.{Events, deltas_due, recent_of, rec
 ghost use Rattle.dg_index.specs.FileOfHistory.{segment_of, stored};
 ghost use Rattle.dg_index.specs.OpenedIndex.{list_bytes_max, list_row, may_be_listed};
 ghost use Rattle.dg_build.specs.OlderSteps.{AreOlderSteps, IsTopDue, older_in_time};
-ghost use Rattle.dg_build.specs.SpelledRecords.{IsFaultBelow, RisesFrom, last_in_rows, stored_cut};
+ghost use Rattle.dg_build.specs.SpelledRecords.{IsFaultBelow, last_in_rows, stored_cut};
 ghost use Rattle.dg_build.specs.GivenDeltas.{AddsSuch, AreGiven, IsFaultOfSuch};
 ghost use Rattle.dg_build.specs.declared.fault.BuildFault.TheVariants.{Memory};
 

@@ -2,7 +2,7 @@
 use Rattle.std.proofs.Common.{◌≡◌, ℕ, zero, suc, ◌+◌, ◌<◌, ◌≤◌, Bool, true, false, cond, List as ListOf, [], ◌∷◌, Option, Some, None, Result, Ok, Err, refl, sym, ap, subst, ◌∙◌, arith, ⊎_elim}
 use Rattle.std.specs.Prelude.{◌==◌, find, slice_get}
 use Rattle.std.specs.Option.{option_map}
-use Rattle.std.proofs.lemmas.Bool.{eqb-true, false≢true, cases_lt, lt-ltb}
+use Rattle.std.proofs.lemmas.Bool.{eqb-true, false≢true, cases_lt, lt-ltb, and_parts}
 use Rattle.std.proofs.lemmas.Option.{none-some, same_Some, slice_get-map}
 use Rattle.std.proofs.lemmas.List.Sums.{sum_by-cons}
 use Rattle.dg_history.specs.declared.node.NodeId.{NodeId}
@@ -16,7 +16,7 @@ use Rattle.dg_plan.specs.InstantPoint.{same_node}
 use Rattle.dg_plan.specs.Walks.{Arc, Leads, weight_of, weight_in, IsCertificate}
 use Rattle.dg_plan.proofs.WalkLeastCosts.{certified}
 use Rattle.dg_certify.specs.WrittenLines.{written_steps, written_weight, written_potentials}
-use Rattle.dg_certify.proofs.InstantPointNodes.{both, same_node_exact}
+use Rattle.dg_certify.proofs.InstantPointNodes.{same_node_exact}
 use Rattle.dg_certify.proofs.WrittenLineClaims.{edges_in, weights_in, gains}
 
 -- the edge of a number, as an arc
@@ -39,8 +39,8 @@ steps_lead edges target n reached (s ∷ steps) none = by (slice_get edges s.edg
         → (bad_step edges target (n + 1) s.head steps ≡ None → Walk edges s.head target steps) → Walk edges reached target (s ∷ steps)
     on e there false fits none go = absurd (none-some n (sym none))
     on e there true fits none go =
-        let p = both (same_node e.from reached) _ fits in
-        let q = both (same_node e.to s.head) (e.weight == s.weight) p.1 in
+        let p = and_parts (same_node e.from reached) _ fits in
+        let q = and_parts (same_node e.to s.head) (e.weight == s.weight) p.1 in
         let rest = go none in
         let w : e.weight ≡ s.weight = eqb-true e.weight s.weight q.1 in
         let a = sum_by-cons (λ i. weight_in (slice_get (arcs_of edges) i)) s.edge (edges_in steps) in

@@ -14,3 +14,4 @@ pub mod ReadFitsDeltas
 pub mod ReadFitsParts
 pub mod ReadFitsEvents
 pub mod ColumnLawMerges
+pub mod EventRanges

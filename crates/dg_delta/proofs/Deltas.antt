@@ -1,5 +1,5 @@
 -- What deltas say of each element, and the laws that follow.
-use Rattle.std.proofs.Common.{◌≡◌, Bool, true, false, cond, not, ◌||◌, ◌&&◌, List, [], ◌∷◌, refl, sym, ap, ◌∙◌}
+use Rattle.std.proofs.Common.{◌≡◌, Bool, true, false, cond, not, ◌||◌, ◌&&◌, List, [], ◌∷◌, ◌++◌, refl, sym, ap, ◌∙◌}
 use Rattle.dg_graph.specs.declared.element.Element.{Element}
 use Rattle.dg_graph.specs.Elements.{IsSet, has}
 use Rattle.dg_graph.specs.Sets.{unioned, without_all}
@@ -198,6 +198,10 @@ has-applied_in_turn (d ∷ later) set x =
     has-applied_in_turn later (applied d set) x
     ∙ ap (is_in_after (composition later x)) (decides_each_element d set x)
     ∙ sym (in_after_both (says d x) (composition later x) (has set x))
+
+pub in_turn-append : (xs ys : List Delta) (set : List Element) → applied_in_turn (xs ++ ys) set ≡ applied_in_turn ys (applied_in_turn xs set)
+in_turn-append [] ys set = refl
+in_turn-append (d ∷ xs) ys set = in_turn-append xs ys (applied d set)
 
 pub IsSet-applied_in_turn : (list : List Delta) (set : List Element) → IsSet set → IsSet (applied_in_turn list set)
 IsSet-applied_in_turn [] set s = s

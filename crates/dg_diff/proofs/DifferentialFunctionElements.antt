@@ -9,7 +9,7 @@ use Rattle.dg_graph.specs.declared.function.Function.TheVariants.{Intersection, 
 use Rattle.dg_graph.specs.DifferentialFunction.{part, in_first, in_last, in_combined}
 use Rattle.dg_graph.specs.Elements.{has}
 use Rattle.dg_graph.specs.Sets.{without_all}
-use Rattle.dg_graph.proofs.Sets.{has-filter, has-without_all}
+use Rattle.dg_graph.proofs.Sets.{has-filter, has-without_all, and_swap}
 
 -- ---- one set
 
@@ -108,12 +108,6 @@ pub balanced_ends : (sets : List (List Element)) (f : Function) (first last : Li
 balanced_ends sets f first last x h is at_first at_last =
     (λ t. cond (part x 128) (in_last_is sets last x h at_last t) (in_first_is sets first x h at_first t))
     ∙ sym (ap (λ g. in_combined g sets x) is)
-
-and_swap : (a b : Bool) → (a && b) ≡ (b && a)
-and_swap true true = refl
-and_swap true false = refl
-and_swap false true = refl
-and_swap false false = refl
 
 pub in_half : (set whole half : List Element) → half ≡ filter (λ x. part x 128) set → set ≡ whole → (x : Element) → has half x ≡ (has whole x && part x 128)
 in_half set whole half is at x =

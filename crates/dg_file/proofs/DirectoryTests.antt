@@ -1,7 +1,7 @@
 -- What the bytes of a directory say behind what is opened so far, and whether it may stand there.
 use Rattle.std.proofs.Common.{◌≡◌, ℕ, zero, suc, ◌+◌, ◌*◌, ◌<◌, ◌≤◌, Bool, true, false, cond, List, [], ◌∷◌, ◌++◌, length, take, Option, Some, None, refl, sym, ap, subst, ◌∙◌, arith, length-append}
 use Rattle.std.specs.Prelude.{◌&&◌, ◌==◌, nat_le, nat_lt, option_and_then}
-use Rattle.std.proofs.lemmas.Bool.{and_from, le-leb, lt-leb, lt-ltb, le-ltb, eqb-true}
+use Rattle.std.proofs.lemmas.Bool.{and_from, le-leb, lt-leb, lt-ltb, le-ltb, eqb-true, and_parts}
 use Rattle.std.proofs.lemmas.List.{take_at}
 use Rattle.dg_history.specs.declared.limits.TheConstants.{EVENTS_MAX}
 use Rattle.dg_graph.specs.declared.limits.TheConstants.{NAMES_MAX}
@@ -16,7 +16,6 @@ use Rattle.dg_file.proofs.OpenedIndexKeys.{IsTimed, IsUntimed, suits_due}
 use Rattle.dg_file.specs.declared.found_directory.FoundDirectory.{FoundDirectory}
 use Rattle.dg_file.specs.Directories.{TakesNames, directory_due, TakesDirectory}
 use Rattle.dg_shape.specs.Additions.{bytes_of_rows, Suits}
-use Rattle.dg_index.proofs.ImageTextNames.{both}
 use Rattle.dg_file.proofs.OpenedIndexLists.{listed_read}
 use Rattle.dg_file.proofs.DirectoryTexts.{names_length, end_in, names_first, name_far}
 
@@ -215,7 +214,7 @@ module _ (x : Opened) (columns : ℕ) (bytes : List ℕ) (le : 28 ≤ length byt
       → first ≡ last_list (first_in batch.ends.first x.index.batches) x.index.records → may_be_listed most first batch.ends.last (take lists found.rows.items) ≡ true → TakesDirectory x.index columns bytes x.names new found
   due_taken found most first m large few room fb r k tables follow measured f listed =
       let named : may_be_named x.names taken.names ≡ true = and_from (are_new x.names taken.names) _ taken.fresh (le-leb (length x.names + length taken.names) NAMES_MAX (omega (arith, long, room))) in
-      let ends = both (length bytes == end + 32 + 40 * lists + 24 * deltas) _ tables in
+      let ends = and_parts (length bytes == end + 32 + 40 * lists + 24 * deltas) _ tables in
       let all = ap length taken.gained ∙ length-append x.names taken.names in
       let number : found.batch.names ≡ count = ap (λ (b : BatchEntry). b.names) (fb ∙ batch_is) in
       record {

@@ -2,24 +2,15 @@
 use Rattle.std.proofs.Common.{◌≡◌, ℕ, zero, suc, ◌+◌, ◌-◌, ◌<◌, ◌≤◌, Bool, true, false, not, cond, List, [], ◌∷◌, ◌++◌, length, take, drop, Option, Some, None, is_some, refl, sym, ap, subst, ◌∙◌, append_assoc, append-nil, arith}
 use Rattle.std.specs.Prelude.{◌&&◌, nat_le, nat_lt, option_and_then}
 use Rattle.std.specs.Option.{option_map}
-use Rattle.std.proofs.lemmas.Bool.{and_from, leb-true, le-ltb, lt-ltb, false≢true}
+use Rattle.std.proofs.lemmas.Bool.{and_from, leb-true, le-ltb, lt-ltb, false≢true, and_parts}
 use Rattle.dg_graph.specs.declared.limits.TheConstants.{NAME_BYTES_MAX}
 use Rattle.dg_graph.specs.Names.{number_of, added, is_name, are_new}
 use Rattle.dg_index.specs.ImageText.{two_at, name_at, names_at}
-use Rattle.dg_index.proofs.ImageTextNames.{both, in_front_of, names_more, new_append, new_first}
+use Rattle.dg_index.proofs.ImageTextNames.{in_front_of, names_more, new_append, new_first, name_with, with_room}
 use Rattle.dg_file.specs.Directories.{is_fresh, TakesName, TakesNames}
-
--- a text at an offset, behind a number that says its length
-abbrev name_with : ℕ → ℕ → ℕ → List ℕ → Option (List ℕ × ℕ)
-name_with long at len rest =
-    cond (nat_lt long (at + 2)) None (cond (nat_lt long (at + 2 + len)) None (Some (take len rest, at + 2 + len)))
 
 name_is : (bytes : List ℕ) (at : ℕ) → name_at bytes at ≡ name_with (length bytes) at (two_at bytes at) (drop (at + 2) bytes)
 name_is bytes at = refl
-
-with_room : (long at len : ℕ) (rest : List ℕ) → at + 2 + len ≤ long → name_with long at len rest ≡ Some (take len rest, at + 2 + len)
-with_room long at len rest le =
-    λ i. cond (le-ltb long (at + 2) (omega (arith, le)) i) None (cond (le-ltb long (at + 2 + len) le i) None (Some (take len rest, at + 2 + len)))
 
 -- where there is no name at the offset
 pub no_length : (bytes : List ℕ) (at : ℕ) → length bytes < at + 2 → name_at bytes at ≡ None
@@ -110,10 +101,10 @@ names_length (suc k) bytes at t e =
 
 pub fresh_short : (names : List (List ℕ)) (text : List ℕ) → is_fresh names text ≡ true → length text ≤ NAME_BYTES_MAX
 fresh_short names text e =
-    leb-true (length text) NAME_BYTES_MAX (both (nat_le (length text) NAME_BYTES_MAX) _ (both (is_name text) _ e).0).0
+    leb-true (length text) NAME_BYTES_MAX (and_parts (nat_le (length text) NAME_BYTES_MAX) _ (and_parts (is_name text) _ e).0).0
 
 pub fresh_added : (names : List (List ℕ)) (text : List ℕ) → is_fresh names text ≡ true → added names text ≡ names ++ text ∷ []
-fresh_added names text e = by (number_of names text) (both (is_name text) _ e).1
+fresh_added names text e = by (number_of names text) (and_parts (is_name text) _ e).1
   where
     by : (o : Option ℕ) → not (is_some o) ≡ true → cond (is_some o) names (names ++ text ∷ []) ≡ names ++ text ∷ []
     by None e = refl

@@ -1,8 +1,9 @@
 -- What the writes that make an index leave, each of them whole or in part.
-use Rattle.std.proofs.Common.{◌≡◌, ℕ, ◌+◌, ◌-◌, ◌<◌, ◌≤◌, ◌⊎◌, inl, inr, Bool, true, false, List, [], ◌∷◌, ◌++◌, length, get_or, drop, Option, Some, None, refl, sym, ap, subst, ◌∙◌, append-nil, arith, length-append, length-drop}
+use Rattle.std.proofs.Common.{◌≡◌, ℕ, ◌+◌, ◌-◌, ◌<◌, ◌≤◌, inl, inr, Bool, true, false, List, [], ◌∷◌, ◌++◌, length, get_or, drop, Option, Some, None, refl, sym, ap, subst, ◌∙◌, append-nil, arith, length-append, length-drop}
 use Rattle.std.specs.Prelude.{◌≢◌, ◌&&◌, ◌||◌, ◌==◌, not, nat_lt, IfSome}
-use Rattle.std.proofs.lemmas.Bool.{cases_lt, lt-ltb, ltb-true, eqb-true, eq-eqb, ne_eqb, false≢true}
+use Rattle.std.proofs.lemmas.Bool.{cases_lt, lt-ltb, ltb-true, eqb-true, eq-eqb, ne_eqb, false≢true, or_cases, and_parts}
 use Rattle.std.proofs.lemmas.List.{drop_all}
+use Rattle.std.proofs.Math.Bool.{or-true}
 use Rattle.dg_disk.specs.Image.{HasOffset, PartWritten, WritesPart, put_at, with_piece}
 use Rattle.dg_history.specs.declared.params.Params.{Params}
 use Rattle.dg_history.specs.History.{are_parameters, empty_history}
@@ -10,7 +11,6 @@ use Rattle.dg_index.specs.ImageOfHistory.{IsImageOf, is_blank}
 use Rattle.dg_file.specs.Growth.{Moved}
 use Rattle.dg_file.specs.Headers.{header_rest}
 use Rattle.dg_file.specs.Images.{IsMadeInPart}
-use Rattle.dg_index.proofs.ImageTextNames.{both}
 use Rattle.dg_file.proofs.ImageSegments.{image_made}
 use Rattle.dg_file.proofs.GrowthMoves.{moved_put, moved_part, moved_after}
 
@@ -20,19 +20,11 @@ offset_zero (Some a) = omega arith
 
 -- ---- blank images
 
-either : (a b : Bool) → (a || b) ≡ true → (a ≡ true) ⊎ (b ≡ true)
-either true b e = inl refl
-either false b e = inr e
-
-or_true : (b : Bool) → (b || true) ≡ true
-or_true true = refl
-or_true false = refl
-
 blank_few : (image : List ℕ) → is_blank image ≡ true → length image ≤ 18
 blank_few image e =
-    elim (either (nat_lt (length image) 18) _ e) [
+    elim (or_cases (nat_lt (length image) 18) _ e) [
       | inl few ↦ omega (arith, ltb-true (length image) 18 few)
-      | inr same ↦ omega (arith, eqb-true (length image) 18 (both (length image == 18) _ same).0)
+      | inr same ↦ omega (arith, eqb-true (length image) 18 (and_parts (length image == 18) _ same).0)
     ]
 
 blank_short : (image : List ℕ) → length image < 18 → is_blank image ≡ true
@@ -42,7 +34,7 @@ blank_closed : (image : List ℕ) → length image ≤ 18 → get_or image 0 0 �
 blank_closed image le closed =
     elim (cases_lt (length image) 18) [
       | inl lt ↦ blank_short image lt
-      | inr ge ↦ (λ i. nat_lt (length image) 18 || (eq-eqb (length image) 18 (omega (arith, ge)) i && not (ne_eqb (get_or image 0 0) 1 closed i))) ∙ or_true (nat_lt (length image) 18)
+      | inr ge ↦ (λ i. nat_lt (length image) 18 || (eq-eqb (length image) 18 (omega (arith, ge)) i && not (ne_eqb (get_or image 0 0) 1 closed i))) ∙ or-true (nat_lt (length image) 18)
     ]
 
 -- ---- the three writes

@@ -2,7 +2,7 @@
 use Rattle.std.proofs.Common.{◌≡◌, ℕ, zero, suc, ◌+◌, ◌-◌, ◌≤◌, Bool, true, false, cond, not, List, [], ◌∷◌, length, get_or, take, drop, Option, Some, None, Result, Ok, Err, refl, sym, ap, subst, ◌∙◌, arith}
 use Rattle.std.specs.Prelude.{IfSome, IfOk, is_some, ◌==◌, ◌||◌, nat_le, nat_lt}
 use Rattle.std.specs.Map.{lookup}
-use Rattle.std.proofs.lemmas.Bool.{eqb-true, leb-true, ltb-false}
+use Rattle.std.proofs.lemmas.Bool.{eqb-true, leb-true, ltb-false, and_parts}
 use Rattle.dg_disk.specs.Image.{HasRange}
 use Rattle.dg_graph.specs.declared.element.Column.{Column}
 use Rattle.dg_history.specs.declared.node.Key.{Key}
@@ -13,12 +13,11 @@ use Rattle.dg_index.specs.OpenedIndex.{total, Opening, Opened, Directory, openin
 use Rattle.dg_index.specs.declared.entry.Entry.{Entry}
 use Rattle.dg_index.specs.declared.entry.Row.{Row}
 use Rattle.dg_index.proofs.IndexRecordColumns.{Each, each_append}
-use Rattle.dg_index.proofs.OpenedSoFar.{was, one_more}
+use Rattle.dg_index.proofs.OpenedSoFar.{was, one_more, opened_in}
 use Rattle.std.proofs.lemmas.List.Sums.{sum_by-cons}
 use Rattle.dg_shape.specs.Additions.{bytes_of_rows}
 use Rattle.dg_file.specs.Images.{IsOpenedAs}
 use Rattle.dg_file.specs.Directories.{directory_due}
-use Rattle.dg_index.proofs.ImageTextNames.{both}
 use Rattle.dg_file.proofs.DirectoryTexts.{some_then}
 use Rattle.dg_graph.specs.declared.element.Column.TheVariants as column
 
@@ -46,16 +45,12 @@ next_within image x d e =
     let at : ℕ = x.index.used in
     let columns : ℕ = eight_at image (at + 8) in
     let a = then_some (is_within image at) (directory_due x columns (take (eight_at image at) (drop (at + 16) image))) d e in
-    let w = both (nat_le (at + 16) (length image)) _ a.0 in
-    let w2 = both (nat_le (gate_behind image at + 1) (length image)) _ w.1 in
+    let w = and_parts (nat_le (at + 16) (length image)) _ a.0 in
+    let w2 = and_parts (nat_le (gate_behind image at + 1) (length image)) _ w.1 in
     let s = some_then (λ d. if_it_may (may_stand x columns d) d) (directory_in x.index (take (eight_at image at) (drop (at + 16) image))) d a.1 in
     let may = it_may (may_stand x columns s.0) s.0 d s.2 in
-    let m = both (bytes_of_rows (rows_in s.0) == columns) _ may.0 in
+    let m = and_parts (bytes_of_rows (rows_in s.0) == columns) _ may.0 in
     omega (arith, leb-true _ _ w2.0, eqb-true (bytes_of_rows (rows_in s.0)) columns m.0, ap (λ (d : Directory). bytes_of_rows (rows_in d)) may.1)
-
-abbrev opened_in : Opened → Result Opened ℕ → Opened
-opened_in x (Ok y) = y
-opened_in x (Err offset) = x
 
 read_within : (image : List ℕ) (x : Opened) (k : ℕ) (y : Opened) → read_on k image y ≡ Ok x → Each (IsWithin (length image)) y.index.records → Each (IsWithin (length image)) x.index.records
 read_within image x zero y is all = subst (λ (z : Opened). Each (IsWithin (length image)) z.index.records) (ap (opened_in x) is) all
@@ -114,8 +109,8 @@ next_used : (image : List ℕ) (x : Opened) (d : Directory) → directory_next x
 next_used image x d e =
     let at : ℕ = x.index.used in
     let a = then_some (is_within image at) (directory_due x (eight_at image (at + 8)) (take (eight_at image at) (drop (at + 16) image))) d e in
-    let w = both (nat_le (at + 16) (length image)) _ a.0 in
-    let w2 = both (nat_le (gate_behind image at + 1) (length image)) _ w.1 in
+    let w = and_parts (nat_le (at + 16) (length image)) _ a.0 in
+    let w2 = and_parts (nat_le (gate_behind image at + 1) (length image)) _ w.1 in
     leb-true _ _ w2.0
 
 read_used : (image : List ℕ) (x : Opened) (k : ℕ) (y : Opened) → read_on k image y ≡ Ok x → y.index.used ≤ length image → x.index.used ≤ length image

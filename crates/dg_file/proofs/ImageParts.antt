@@ -1,18 +1,18 @@
 -- What the parts of an image that are read say of it.
-use Rattle.std.proofs.Common.{◌≡◌, ℕ, ◌+◌, ◌-◌, ◌<◌, ◌≤◌, Bool, true, false, cond, List, ◌∷◌, ◌++◌, length, get_or, take, drop, slice_range, Option, Some, None, refl, sym, ap, ◌∙◌, add-zero, arith}
-use Rattle.std.specs.Prelude.{◌&&◌, ◌||◌, ◌==◌, not, nat_lt, nat_le, codes, IfSome, Err}
-use Rattle.std.specs.Str.{bytes_eq}
-use Rattle.std.proofs.lemmas.Bool.{le-ltb, lt-ltb, leb-true, eq-eqb, ne_eqb, cond_both}
+use Rattle.std.proofs.Common.{◌≡◌, ℕ, ◌+◌, ◌-◌, ◌<◌, ◌≤◌, true, false, cond, List, ◌++◌, length, get_or, take, drop, slice_range, Option, Some, None, refl, sym, ap, ◌∙◌, add-zero, arith}
+use Rattle.std.specs.Prelude.{◌&&◌, ◌||◌, ◌==◌, not, nat_lt, nat_le, IfSome, Err}
+use Rattle.std.proofs.lemmas.Bool.{le-ltb, lt-ltb, leb-true, eq-eqb, ne_eqb, cond_both, false_from_ne_true, and_parts}
 use Rattle.std.proofs.lemmas.List.{take-take, take_at, get_or-take, get_or-drop}
+use Rattle.std.proofs.Math.Bool.{or-true}
 use Rattle.dg_disk.specs.Counts.{raised_by}
 use Rattle.dg_disk.specs.Image.{IsLengthOf, IsRangeOf, HasRange}
 use Rattle.dg_history.specs.declared.limits.TheConstants.{FILE_BYTES_MAX}
 use Rattle.dg_history.specs.declared.params.Params.{Params}
 use Rattle.dg_index.specs.ImageOfHistory.{is_blank}
-use Rattle.dg_index.specs.ImageText.{eight_at, function_in, gate_behind, is_within, params_in, params_with}
+use Rattle.dg_index.specs.ImageText.{eight_at, gate_behind, is_within, params_in}
 use Rattle.dg_index.specs.OpenedIndex.{opened_by, opening, No_index, Not_ours}
-use Rattle.dg_index.proofs.ImageTextNames.{both}
-use Rattle.dg_index.proofs.ImageTextRanges.{Same, byte_same, four_same, piece_eight, same_fewer}
+use Rattle.dg_index.proofs.ImageTextRanges.{piece_eight}
+use Rattle.dg_index.proofs.OpenedSoFar.{params_same}
 use Rattle.dg_file.specs.declared.lengths.Lengths.{Lengths}
 use Rattle.dg_file.specs.declared.reads.Found.{Found}
 use Rattle.dg_file.specs.Directories.{fit_in, gate_after, segment_lengths_at}
@@ -24,14 +24,6 @@ opened_blank image e = ap (λ b. cond b (Err No_index) (opened_by image (params_
 
 opened_foreign : (image : List ℕ) → is_blank image ≡ false → params_in image ≡ None → opening image ≡ Err Not_ours
 opened_foreign image e p = ap (λ b. cond b (Err No_index) (opened_by image (params_in image))) e ∙ ap (opened_by image) p
-
-params_same : (n : ℕ) (image other : List ℕ) → 17 ≤ n → Same n image other → params_in image ≡ params_in other
-params_same n image other le same =
-    let front : take 8 image ≡ take 8 other = same_fewer 8 n image other (omega arith) same in
-    let l = four_same n 8 image other (omega arith) same in
-    let k = four_same n 12 image other (omega arith) same in
-    let f = byte_same n 16 image other (omega arith) same in
-    λ i. cond (bytes_eq (front i) (1 ∷ codes "DGRAPH1")) (params_with (l i) (k i) (function_in (f i))) None
 
 within_is : (image : List ℕ) (at : ℕ) → is_within image at ≡ fit_in at (length image) (segment_lengths_at image at)
 within_is image at = refl
@@ -73,14 +65,10 @@ test_is header image len l h =
     let byte : get_or header 0 0 ≡ get_or image 0 0 = ap (λ (l : List ℕ). get_or l 0 0) h ∙ get_or-take 18 image 0 0 (omega arith) in
     λ i. l i == 18 && not (byte i == 1)
 
-or_true : (b : Bool) → (b || true) ≡ true
-or_true true = refl
-or_true false = refl
-
 pub blank_closed_image : (x : Option (List ℕ)) (len : ℕ) (header : List ℕ) → length header ≡ 18 → (len == 18 && not (get_or header 0 0 == 1)) ≡ true → IsLengthOf x len → IsRangeOf x 0 header → IfSome x (λ image. opening image ≡ Err No_index)
 blank_closed_image x len header long closed l h =
     some_both x (LengthIs len) (RangeIs 0 header) (λ image. opening image ≡ Err No_index)
-    (λ image e is. opened_blank image (ap (λ b. nat_lt (length image) 18 || b) (sym (test_is header image len e (header_is header image long is)) ∙ closed) ∙ or_true (nat_lt (length image) 18))) l h
+    (λ image e is. opened_blank image (ap (λ b. nat_lt (length image) 18 || b) (sym (test_is header image len e (header_is header image long is)) ∙ closed) ∙ or-true (nat_lt (length image) 18))) l h
 
 there : (header image : List ℕ) (len : ℕ) → 18 ≤ len → (len == 18 && not (get_or header 0 0 == 1)) ≡ false → len ≡ length image → header ≡ take 18 image → is_blank image ≡ false
 there header image len long test l h =
@@ -108,15 +96,11 @@ found_image x len gate header params long enough test some g l h =
 
 -- ---- the head of a segment
 
-none_stands : (b : Bool) → (b ≡ true → ⊥) → b ≡ false
-none_stands true f = absurd (f refl)
-none_stands false f = refl
-
 -- the offset has no room for the two lengths and the gate
 pub within_short : (x : Option (List ℕ)) (at len : ℕ) → len - at ≤ 16 → IsLengthOf x len → IfSome x (λ image. is_within image at ≡ false)
 within_short x at len le l =
     some_weaker x (LengthIs len) (λ image. is_within image at ≡ false)
-    (λ image e. none_stands (is_within image at) (λ there. let ends = both (nat_le (gate_behind image at + 1) (length image)) _ (both (nat_le (at + 16) (length image)) _ there).1 in absurd (omega (arith, e, leb-true (gate_behind image at + 1) (length image) ends.0)))) l
+    (λ image e. false_from_ne_true (is_within image at) (λ there. let ends = and_parts (nat_le (gate_behind image at + 1) (length image)) _ (and_parts (nat_le (at + 16) (length image)) _ there).1 in absurd (omega (arith, e, leb-true (gate_behind image at + 1) (length image) ends.0)))) l
 
 lengths_in : (bytes image : List ℕ) (at : ℕ) (h : Lengths) → length bytes ≡ 16 → h ≡ segment_lengths_at bytes 0 → RangeIs at bytes image → h ≡ segment_lengths_at image at
 lengths_in bytes image at h long is r =
@@ -140,8 +124,8 @@ found_byte x bytes offset byte long b r =
 -- what the test of the two lengths says
 pub fit_facts : (at len : ℕ) (h : Lengths) → fit_in at len h ≡ true → (at + 17 + h.directory + h.columns ≤ len) × (at + 17 + h.directory + h.columns ≤ FILE_BYTES_MAX)
 fit_facts at len h e =
-    let a = both (nat_le (at + 16) len) _ e in
-    let b = both (nat_le (gate_after at h + 1) len) _ a.1 in
+    let a = and_parts (nat_le (at + 16) len) _ e in
+    let b = and_parts (nat_le (gate_after at h + 1) len) _ a.1 in
     (omega (arith, leb-true (gate_after at h + 1) len b.0), omega (arith, leb-true (gate_after at h + 1) FILE_BYTES_MAX b.1))
 
 pub range_within : (x : Option (List ℕ)) (at n len : ℕ) → at + n ≤ len → IsLengthOf x len → HasRange x at n

@@ -1,7 +1,7 @@
 -- What an index holds with one segment more.
 use Rattle.std.proofs.Common.{◌≡◌, ℕ, suc, ◌+◌, ◌-◌, ◌≤◌, true, List, [], ◌∷◌, ◌++◌, length, map, Option, Some, None, refl, sym, ap, subst, ◌∙◌, arith, length-append}
 use Rattle.std.specs.Prelude.{nat_le, slice_get}
-use Rattle.std.proofs.lemmas.Bool.{leb-true}
+use Rattle.std.proofs.lemmas.Bool.{leb-true, and_parts}
 use Rattle.std.proofs.lemmas.List.Sums.{sum_by-cons, sum_by_push, sum_by-append}
 use Rattle.dg_history.specs.declared.limits.TheConstants.{BATCH_LINES_MAX, EVENTS_MAX, FILE_BYTES_MAX}
 use Rattle.dg_graph.specs.declared.limits.TheConstants.{NAMES_MAX, TIME_MAX}
@@ -22,7 +22,6 @@ use Rattle.dg_shape.specs.Additions.{bytes_of_rows, Suits, IsRoomFor}
 use Rattle.dg_file.specs.Invariant.{IndexIsSound, TimesRise, last_from, later, listed_after, with_rows}
 use Rattle.dg_shape.proofs.AdditionRecords.{suits_length}
 use Rattle.dg_file.proofs.InvariantLists.{span_push, times_with}
-use Rattle.dg_index.proofs.ImageTextNames.{both}
 
 earliest_push : (t : ℕ) (batches : List BatchEntry) (b : BatchEntry) → earliest_in t (batches ++ b ∷ []) ≡ b.ends.last + 1
 earliest_push t [] b = refl
@@ -68,12 +67,12 @@ bytes_with o b rows offset used s =
 ends_by : (most first t : ℕ) (last : Option ℕ) (rows : List Row) → last_from 0 last ≤ t → may_be_listed most first t rows ≡ true → last_from 0 (listed_after last rows) ≤ t
 ends_by most first t last [] le may = le
 ends_by most first t last (r ∷ rows) le may =
-    let parts = both (within most first t (total r.lengths) r.ends) _ may in
+    let parts = and_parts (within most first t (total r.lengths) r.ends) _ may in
     ends_by most (last_or first r.ends) t (later last r.ends) rows (by r.ends parts.0) parts.1
   where
     by : (ends : Option Ends) → within most first t (total r.lengths) ends ≡ true → last_from 0 (later last ends) ≤ t
     by None i = le
-    by (Some e) i = leb-true _ _ (both (nat_le e.last t) _ (both (nat_le e.first e.last) _ (both (nat_le first e.first) _ i).1).1).0
+    by (Some e) i = leb-true _ _ (and_parts (nat_le e.last t) _ (and_parts (nat_le e.first e.last) _ (and_parts (nat_le first e.first) _ i).1).1).0
 
 -- what the test of a batch behind others says
 pub record Follows (count earliest : ℕ) (b : BatchEntry) : Type 0 where
@@ -86,11 +85,11 @@ pub record Follows (count earliest : ℕ) (b : BatchEntry) : Type 0 where
 
 pub follows_in : (count earliest : ℕ) (b : BatchEntry) → may_follow count earliest b ≡ true → Follows count earliest b
 follows_in count earliest b e =
-    let a = both (nat_le 1 b.events) _ e in
-    let c = both (nat_le b.events BATCH_LINES_MAX) _ a.1 in
-    let d = both (nat_le (count + b.events) EVENTS_MAX) _ c.1 in
-    let f = both (nat_le earliest b.ends.first) _ d.1 in
-    let g = both (nat_le b.ends.first b.ends.last) _ f.1 in
+    let a = and_parts (nat_le 1 b.events) _ e in
+    let c = and_parts (nat_le b.events BATCH_LINES_MAX) _ a.1 in
+    let d = and_parts (nat_le (count + b.events) EVENTS_MAX) _ c.1 in
+    let f = and_parts (nat_le earliest b.ends.first) _ d.1 in
+    let g = and_parts (nat_le b.ends.first b.ends.last) _ f.1 in
     record { some = leb-true _ _ a.0; few = leb-true _ _ c.0; all = leb-true _ _ d.0; starts = leb-true _ _ f.0; rises = leb-true _ _ g.0; in_time = leb-true _ _ g.1 }
 
 pub noted_sound : (o : Opening) (events names from : ℕ) (last : Option ℕ) (span : Option Ends) (b : BatchEntry) (rows : List Row) (offset used : ℕ) → IndexIsSound o events names from last span → Suits (keys_next o b.events) rows

@@ -2,7 +2,7 @@
 use Rattle.std.proofs.Common.{◌≡◌, ℕ, zero, suc, ◌+◌, ◌-◌, ◌*◌, ◌/◌, ◌^◌, ◌<◌, ◌≤◌, Bool, true, false, cond, ◌==◌, List, [], ◌∷◌, ◌++◌, map, Option, Some, None, is_some, refl, sym, ap, subst, ◌∙◌, arith, append_assoc}
 use Rattle.std.specs.Prelude.{nat_le, option_and_then}
 use Rattle.std.specs.Map.{lookup}
-use Rattle.std.proofs.lemmas.Bool.{leb-true, eqb-true, eqb-false, eq-eqb, ne_eqb, false≢true}
+use Rattle.std.proofs.lemmas.Bool.{leb-true, eqb-true, eqb-false, eq-eqb, ne_eqb, false≢true, and_parts}
 use Rattle.std.proofs.lemmas.Option.{same_Some}
 use Rattle.dg_history.specs.declared.node.Key.{Key}
 use Rattle.dg_history.specs.declared.node.Key.TheVariants as key
@@ -16,7 +16,6 @@ use Rattle.dg_index.specs.Hierarchy.{numbers, leaves, children}
 use Rattle.dg_index.specs.IndexKeys.{keys_among}
 use Rattle.dg_index.specs.IndexRecords.{lists_due, deltas_of, inner_due, deltas_due_at, deltas_due}
 use Rattle.dg_index.specs.OpenedIndex.{Opening, first_in, keys_next, laid, last_end, last_list, last_or, list_bytes_max, may_be_listed, span_in, total, within}
-use Rattle.dg_index.proofs.ImageTextNames.{both}
 use Rattle.dg_index.proofs.IndexRecordColumns.{Each, each_append, each_flat, each_map, each_number}
 use Rattle.dg_index.proofs.OpenedIndexHistories.{large_parameters}
 use Rattle.dg_index.proofs.HierarchyStability.{leaves_more}
@@ -40,14 +39,14 @@ span_push (c ∷ batches) b = λ i. Some (record { first = c.ends.first; last = 
 begins : (most t last bytes : ℕ) (ends : Option Ends) → within most t last bytes ends ≡ true → BeginsFrom t ends
 begins most t last bytes None e = tt
 begins most t last bytes (Some x) e =
-    let a = both (nat_le t x.first) _ e in
-    (leb-true _ _ a.0, leb-true _ _ (both (nat_le x.first x.last) _ a.1).0)
+    let a = and_parts (nat_le t x.first) _ e in
+    (leb-true _ _ a.0, leb-true _ _ (and_parts (nat_le x.first x.last) _ a.1).0)
 
 times_laid : (most t last offset : ℕ) (keys : List Key) (rows : List Row) → may_be_listed most t last rows ≡ true → TimesRise t (laid offset keys rows)
 times_laid most t last offset [] rows e = tt
 times_laid most t last offset (k ∷ keys) [] e = tt
 times_laid most t last offset (k ∷ keys) (r ∷ rows) e =
-    let b = both (within most t last (total r.lengths) r.ends) _ e in
+    let b = and_parts (within most t last (total r.lengths) r.ends) _ e in
     (begins most t last (total r.lengths) r.ends b.0, times_laid most (last_or t r.ends) last (offset + total r.lengths) keys rows b.1)
 
 times_append : (t : ℕ) (xs ys : List (Key × Entry)) → TimesRise t xs → TimesRise (last_list t xs) ys → TimesRise t (xs ++ ys)

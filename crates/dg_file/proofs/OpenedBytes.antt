@@ -1,7 +1,7 @@
 -- Opening all of an index reads no less than opening its first segments.
-use Rattle.std.proofs.Common.{◌≡◌, ℕ, zero, suc, ◌+◌, ◌-◌, ◌<◌, ◌≤◌, Bool, true, false, cond, List, [], ◌∷◌, ◌++◌, length, get_or, Some, None, Option, Result, Ok, Err, refl, sym, ap, subst, ◌∙◌, arith}
+use Rattle.std.proofs.Common.{◌≡◌, ℕ, zero, suc, ◌+◌, ◌-◌, ◌≤◌, Bool, true, false, cond, List, [], ◌∷◌, ◌++◌, length, Some, None, Option, Result, Ok, Err, refl, sym, ap, subst, ◌∙◌, arith}
 use Rattle.std.specs.Prelude.{◌==◌, if◌then◌else◌, not, option_and_then, slice_index, IfSome, IsErr, IsErrAnd, IsErrOf}
-use Rattle.std.proofs.lemmas.Bool.{eq-eqb, eqb-true}
+use Rattle.std.proofs.lemmas.Bool.{eq-eqb, eqb-true, and_parts}
 use Rattle.std.proofs.lemmas.List.Sums.{sum_by-cons, sum_by-append}
 use Rattle.dg_disk.specs.Counts.{raised_by}
 use Rattle.dg_history.specs.declared.node.Key.{Key}
@@ -11,10 +11,8 @@ use Rattle.dg_index.specs.declared.entry.Row.{Row}
 use Rattle.dg_index.specs.ImageOfHistory.{is_blank}
 use Rattle.dg_index.specs.ImageText.{eight_at, is_within, params_in}
 use Rattle.dg_index.specs.IndexGrowth.{columns_in}
-use Rattle.dg_index.specs.OpenedIndex.{Unopened, No_index, Not_ours, Directory, Opened, Opening, directory_in, directory_next, bare, go_on_with, if_it_may, keys_next, laid, may_stand, opened_by, opened_or, opening, read_on, rows_in, total}
-use Rattle.dg_index.specs.OpenedSoFar.{OpensOn}
-use Rattle.dg_index.proofs.ImageTextNames.{both}
-use Rattle.dg_index.proofs.OpenedSoFar.{one_more}
+use Rattle.dg_index.specs.OpenedIndex.{No_index, Not_ours, Directory, Opened, Opening, directory_next, bare, go_on_with, if_it_may, keys_next, laid, may_stand, opened_by, opened_or, opening, read_on, rows_in, total}
+use Rattle.dg_index.proofs.OpenedSoFar.{one_more, some_turn}
 use Rattle.dg_shape.specs.Additions.{bytes_of_rows}
 use Rattle.dg_file.specs.declared.lengths.Lengths.{Lengths}
 use Rattle.dg_file.specs.Directories.{segment_lengths_at}
@@ -52,7 +50,7 @@ record GoesOn (image : List ℕ) (x next : Opened) : Type 0 where
   more : opening_bytes x.index + segment_reads image x ≤ opening_bytes next.index
 
 measured : (x : Opened) (columns : ℕ) (d : Directory) → may_stand x columns d ≡ true → bytes_of_rows (rows_in d) ≡ columns
-measured x columns d may = eqb-true (bytes_of_rows (rows_in d)) columns (both (bytes_of_rows (rows_in d) == columns) _ may).0
+measured x columns d may = eqb-true (bytes_of_rows (rows_in d)) columns (and_parts (bytes_of_rows (rows_in d) == columns) _ may).0
 
 goes_on : (image : List ℕ) (x : Opened) (d : Directory) → HasColumns x → may_stand x (eight_at image (x.index.used + 8)) d ≡ true → GoesOn image x (one_more image x d)
 goes_on image x d sound may =
@@ -100,10 +98,6 @@ reads_more (suc k) image y x sound e = by (slice_index image (x.index.used - 1) 
 was_ok : (r : Result Opened ℕ) (y : Opened) → opened_or r ≡ Ok y → r ≡ Ok y
 was_ok (Ok x) y e = cc
 was_ok (Err offset) y e = absurd cc
-
-some_turn : (n : ℕ) → 1 ≤ n → (k : ℕ) × (n ≡ suc k)
-some_turn zero le = absurd (omega (arith, le))
-some_turn (suc k) le = (k, refl)
 
 -- an image that is opened on behind an open gate
 opened_more : (image : List ℕ) (o : Opening) (names : List (List ℕ)) (y : Opened) → columns_in o.records + 18 ≤ o.used → IsOpenedSoFar image o names 1 → opening image ≡ Ok y

@@ -1,15 +1,14 @@
 -- Where the lists of a directory may be listed, all its rows may: the others have no times.
 use Rattle.std.proofs.Common.{◌≡◌, ℕ, zero, suc, ◌+◌, true, List, [], ◌∷◌, ◌++◌, map, refl}
-use Rattle.std.proofs.lemmas.Bool.{and_from}
+use Rattle.std.proofs.lemmas.Bool.{and_from, and_parts}
 use Rattle.dg_index.specs.declared.entry.Row.{Row}
 use Rattle.dg_index.specs.FileOfHistory.{Segment, Stored}
 use Rattle.dg_index.specs.OpenedIndex.{directory_of, last_or, list_row, may_be_listed, record_at, record_row, rows_at, rows_in, total, within}
-use Rattle.dg_index.proofs.ImageTextNames.{both}
 
 listed_append : (most first last : ℕ) (xs ys : List Row) → may_be_listed most first last xs ≡ true → ((t : ℕ) → may_be_listed most t last ys ≡ true) → may_be_listed most first last (xs ++ ys) ≡ true
 listed_append most first last [] ys e more = more first
 listed_append most first last (r ∷ rows) ys e more =
-    let b = both (within most first last (total r.lengths) r.ends) _ e in
+    let b = and_parts (within most first last (total r.lengths) r.ends) _ e in
     and_from (within most first last (total r.lengths) r.ends) _ b.0 (listed_append most (last_or first r.ends) last rows ys b.1 more)
 
 deltas_read : (most first last count : ℕ) (bytes : List ℕ) (at : ℕ) (more : List Row) → may_be_listed most first last more ≡ true → may_be_listed most first last (rows_at record_at 24 count bytes at ++ more) ≡ true

@@ -1,4 +1,3 @@
-pub mod DeltaReplays
 pub mod PathIndependenceWalks
 pub mod PathIndependenceRecords
 pub mod PathIndependenceInstants

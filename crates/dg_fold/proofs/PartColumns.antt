@@ -16,7 +16,7 @@ use Rattle.dg_graph.specs.Columns.{same_column, column_of_body, placed_from, pla
 use Rattle.dg_graph.specs.Composition.{Delta, Says, In, Out, As_it_was, says, then_says, composition}
 use Rattle.dg_graph.specs.Effect.{moved, removed_by, added_by}
 use Rattle.dg_graph.specs.Elements.{has, same, asks, column_of}
-use Rattle.dg_graph.proofs.Sets.{element_exact, has-filter}
+use Rattle.dg_graph.proofs.Sets.{element_exact, has-filter, and_swap}
 use Rattle.dg_columns.proofs.ColumnLawDeltas.{deltas_back}
 use Rattle.dg_columns.proofs.ColumnLawEvents.{events_back}
 use Rattle.dg_delta.proofs.Deltas.{word, can_be_cut}
@@ -141,12 +141,6 @@ events_placed col (e ∷ events) n = by (in_col col e) (events_placed col events
 filter_first : (p : Event → Bool) (e : Event) (events : List Event) (b : Bool) → filter p (cond b (e ∷ events) events) ≡ cond (b && p e) (e ∷ filter p events) (filter p events)
 filter_first p e events true = refl
 filter_first p e events false = refl
-
-and_swap : (a b : Bool) → (a && b) ≡ (b && a)
-and_swap true true = refl
-and_swap true false = refl
-and_swap false true = refl
-and_swap false false = refl
 
 filter_swap : (p q : Event → Bool) (events : List Event) → filter p (filter q events) ≡ filter q (filter p events)
 filter_swap p q [] = refl

@@ -15,7 +15,7 @@ use Rattle.dg_graph.specs.Composition.{between}
 use Rattle.dg_graph.specs.Elements.{IsSet}
 use Rattle.dg_graph.specs.Replay.{replay, replay_from}
 use Rattle.dg_graph.specs.ExactEvents.{AreChangesOf}
-use Rattle.dg_graph.proofs.ExactEvents.{IsSet-replay_from}
+use Rattle.dg_graph.proofs.ExactEvents.{IsSet-replay_from, replay_append}
 use Rattle.dg_plan.specs.declared.edge.Edge.{Edge}
 use Rattle.dg_plan.specs.declared.edge.Via.{Via}
 use Rattle.dg_plan.specs.declared.edge.Via.TheVariants as via
@@ -24,7 +24,6 @@ use Rattle.dg_index.specs.IndexRecords.{Events, Exact, heights, record_among}
 use Rattle.dg_fold.specs.PathIndependence.{taken, Contents, IsSoundEdge, DeltasLead, via_deltas, enters_held, contents, EdgesAreSound}
 use Rattle.dg_list.proofs.ExactEventCuts.{changes_behind}
 use Rattle.dg_fold.proofs.PathIndependenceRecords.{exact_leads, events_lead, events_lead_back, slice_leads}
-use Rattle.dg_fold.proofs.PathIndependenceWalks.{replay_from-append}
 use Rattle.dg_index.proofs.HierarchySteps.{IsSet-node}
 use Rattle.dg_index.specs.Hierarchy.{leaves, parent, set_at, set_of, numbers}
 use Rattle.dg_plan.specs.IndexGraph.{Ground, inners_at, level_node, leaf, is_root, edge, base_edge, top_edge, first_edges, list_edges, child_edges, inner_edges, level_edges, recent_edges, kept, edges_of}
@@ -184,7 +183,7 @@ module _ (z : History) (g : Ground) (some : 1 ≤ z.params.k) (changes : AreChan
       let mid = replay (take n events) in
       let recent = drop n events in
       let whole : replay events ≡ replay_from mid recent =
-      ap replay (sym (take-append-drop n events)) ∙ replay_from-append (take n events) recent [] in
+      ap replay (sym (take-append-drop n events)) ∙ replay_append [] (take n events) recent in
       let s = IsSet-replay_from (take n events) [] tt in
       let behind = changes_behind [] n events changes in
       let last : set_of p events (leaf g.leaves) ≡ mid = leaf_set g.leaves ∙ ap (λ m. set_at p events 0 m) m in (

@@ -1,18 +1,13 @@
 -- Where an instant parts the events of a history.
-use Rattle.std.proofs.Common.{◌≡◌, ◌<◌, ◌≤◌, ℕ, zero, suc, Bool, true, false, cond, ◌&&◌, List, [], ◌∷◌, length, take, drop, nat_le, refl, sym, ap, subst, ◌∙◌, arith}
+use Rattle.std.proofs.Common.{◌≡◌, ◌<◌, ◌≤◌, ℕ, zero, suc, Bool, true, false, cond, List, [], ◌∷◌, length, take, drop, nat_le, refl, sym, ap, subst, ◌∙◌, arith}
 use Rattle.std.specs.List.{All}
-use Rattle.std.proofs.lemmas.Bool.{true≢false}
+use Rattle.std.proofs.lemmas.Bool.{and_parts}
 use Rattle.std.proofs.lemmas.Bool.Decides.{nat_tests}
 use Rattle.std.proofs.lemmas.List.Elements.{All-nil, All-cons}
 use Rattle.dg_graph.specs.declared.event.Event.{Event}
 use Rattle.dg_graph.specs.ColumnMerge.{never_fall}
 use Rattle.dg_graph.specs.Replay.{events_until}
 use Rattle.dg_fold.specs.PathIndependence.{InstantsPart}
-
-both : (a b : Bool) → (a && b) ≡ true → (a ≡ true) × (b ≡ true)
-both true true e = (refl, refl)
-both true false e = absurd (true≢false (sym e))
-both false b e = absurd (true≢false (sym e))
 
 at_most : (m n : ℕ) → nat_le m n ≡ true → m ≤ n
 at_most m n e = grind (arith, nat_tests)
@@ -27,14 +22,14 @@ Later t e = t < e.time
 all_later : (t m : ℕ) (events : List Event) → t < m → never_fall m events ≡ true → All (λ e. t < e.time) events
 all_later t m [] h rise = All-nil (λ (e : Event). t < e.time)
 all_later t m (e ∷ events) h rise =
-    let parts = both (nat_le m e.time) (never_fall e.time events) rise in
+    let parts = and_parts (nat_le m e.time) (never_fall e.time events) rise in
     let here : t < e.time = (let le = at_most m e.time parts.0 in omega arith) in
     All-cons (λ (x : Event). t < x.time) e events here (all_later t e.time events here parts.1)
 
 none_until : (t m : ℕ) (events : List Event) → t < m → never_fall m events ≡ true → length (events_until events t) ≡ 0
 none_until t m [] h rise = refl
 none_until t m (e ∷ events) h rise =
-    let parts = both (nat_le m e.time) (never_fall e.time events) rise in
+    let parts = and_parts (nat_le m e.time) (never_fall e.time events) rise in
     let here : t < e.time = (let le = at_most m e.time parts.0 in omega arith) in
     ap (λ b. length (cond b (e ∷ events_until events t) (events_until events t))) (not_le e.time here) ∙ none_until t e.time events here parts.1
   where
@@ -48,7 +43,7 @@ front : (t m n : ℕ) (events : List Event) → never_fall m events ≡ true →
 front t m zero events rise few = All-nil (λ (e : Event). nat_le e.time t ≡ true)
 front t m (suc n) [] rise few = absurd (omega arith)
 front t m (suc n) (e ∷ events) rise few =
-    let parts = both (nat_le m e.time) (never_fall e.time events) rise in
+    let parts = and_parts (nat_le m e.time) (never_fall e.time events) rise in
     by (nat_le e.time t) refl parts.1 (front t e.time n events parts.1)
   where
     by : (b : Bool) → nat_le e.time t ≡ b → never_fall e.time events ≡ true
@@ -66,7 +61,7 @@ behind t m n [] rise many = subst (All (λ (e : Event). t < e.time)) (sym (nothi
     nothing zero = refl
     nothing (suc k) = refl
 behind t m zero (e ∷ events) rise many =
-    let parts = both (nat_le m e.time) (never_fall e.time events) rise in
+    let parts = and_parts (nat_le m e.time) (never_fall e.time events) rise in
     by (nat_le e.time t) refl parts.1
   where
     by : (b : Bool) → nat_le e.time t ≡ b → never_fall e.time events ≡ true → All (λ x. t < x.time) (e ∷ events)
@@ -74,7 +69,7 @@ behind t m zero (e ∷ events) rise many =
     by false is rest =
         All-cons (λ (x : Event). t < x.time) e events (above e.time t is) (all_later t e.time events (above e.time t is) rest)
 behind t m (suc n) (e ∷ events) rise many =
-    let parts = both (nat_le m e.time) (never_fall e.time events) rise in
+    let parts = and_parts (nat_le m e.time) (never_fall e.time events) rise in
     by (nat_le e.time t) refl parts.1 (behind t e.time n events parts.1)
   where
     by : (b : Bool) → nat_le e.time t ≡ b → never_fall e.time events ≡ true

@@ -8,14 +8,12 @@ use Rattle.dg_graph.specs.Replay.{replay, replay_from}
 use Rattle.dg_delta.specs.Deltas.{applied_in_turn}
 use Rattle.dg_delta.proofs.Deltas.{between_leads_on, reversed_leads_back}
 use Rattle.dg_graph.specs.ExactEvents.{effect_of, AreChangesOf}
-use Rattle.dg_graph.proofs.ExactEvents.{IsSet-replay_from}
+use Rattle.dg_graph.proofs.ExactEvents.{IsSet-replay_from, replay_append}
 use Rattle.dg_list.proofs.ExactEventCuts.{changes_front, changes_behind}
-use Rattle.dg_list.proofs.ReplayNets.{all_count}
-use Rattle.dg_fold.proofs.DeltaReplays.{replays_in_turn, back_in_turn}
+use Rattle.dg_list.proofs.ReplayNets.{all_count, back_in_turn, replays_in_turn}
 use Rattle.dg_plan.specs.declared.edge.Way.TheVariants.{Forward, Back}
 use Rattle.dg_index.specs.IndexRecords.{Events}
 use Rattle.dg_fold.specs.PathIndependence.{taken, DeltasLead, ExactLeads, SliceLeads, RecordsLead}
-use Rattle.dg_fold.proofs.PathIndependenceWalks.{replay_from-append}
 
 pub exact_leads : (a b : List Element) → IsSet a → IsSet b → ExactLeads a b
 exact_leads a b s t = record { on = between_leads_on a b s t; back = reversed_leads_back a b s t }
@@ -30,7 +28,7 @@ events_lead_back set events s changes = back_in_turn events set s changes
 
 module _ (events : List Event) (from count : ℕ) where
   pub two_fronts : replay (take (from + count) events) ≡ replay_from (replay (take from events)) (take count (drop from events))
-  two_fronts = ap replay (take-add from count events) ∙ replay_from-append (take from events) (take count (drop from events)) []
+  two_fronts = ap replay (take-add from count events) ∙ replay_append [] (take from events) (take count (drop from events))
 
   slice_changes : AreChangesOf [] events → AreChangesOf (replay (take from events)) (take count (drop from events))
   slice_changes changes = changes_front (replay (take from events)) count (drop from events) (changes_behind [] from events changes)

@@ -12,12 +12,12 @@ use Rattle.dg_history.specs.declared.node.NodeId.{NodeId}
 use Rattle.dg_history.specs.declared.node.NodeId.TheVariants.{Root}
 use Rattle.dg_graph.specs.Composition.{Delta, applied, composition}
 use Rattle.dg_graph.specs.Elements.{IsSet, has, shown, asks, column_of}
-use Rattle.dg_graph.specs.Effect.{forwards}
 use Rattle.dg_graph.specs.Replay.{events_until, replay, replay_from, replay_at}
 use Rattle.dg_graph.proofs.Sets.{same_members, has-filter, IsSet-filter}
+use Rattle.dg_graph.proofs.ExactEvents.{replay_append}
 use Rattle.dg_delta.specs.Deltas.{applied_in_turn, is_in_after}
-use Rattle.dg_delta.proofs.Deltas.{decides_each_element, has-applied_in_turn, IsSet-applied, IsSet-applied_in_turn}
-use Rattle.dg_fold.proofs.DeltaReplays.{in_turn-append, replays_in_turn}
+use Rattle.dg_delta.proofs.Deltas.{decides_each_element, has-applied_in_turn, in_turn-append, IsSet-applied, IsSet-applied_in_turn}
+use Rattle.dg_list.proofs.ReplayNets.{replays_in_turn}
 use Rattle.dg_plan.specs.declared.edge.Edge.{Edge}
 use Rattle.dg_plan.specs.declared.edge.Via.{Via}
 use Rattle.dg_plan.specs.declared.edge.Via.TheVariants as via
@@ -108,10 +108,6 @@ walks_lead x sets walk sound u v w cols d composes set s alike =
 
 -- ---- instants
 
-pub replay_from-append : (xs ys : List Event) (set : List Element) → replay_from set (xs ++ ys) ≡ replay_from (replay_from set xs) ys
-replay_from-append [] ys set = refl
-replay_from-append (e ∷ xs) ys set = replay_from-append xs ys (forwards set e)
-
 all_until : (t : ℕ) (events : List Event) → All (λ e. nat_le e.time t ≡ true) events → events_until events t ≡ events
 all_until t [] h = refl
 all_until t (e ∷ events) h =
@@ -135,7 +131,7 @@ pub replay_until : (first next last : List Event) (t : ℕ)
     → replay_from (replay first) (events_until next t) ≡ replay_at (first ++ (next ++ last)) t
 replay_until first next last t f l =
     let p = λ (e : Event). nat_le e.time t in
-    sym (replay_from-append first (events_until next t) [])
+    sym (replay_append [] first (events_until next t))
     ∙ ap (replay_from []) (
     ap (λ xs. first ++ xs) (sym (append-nil (events_until next t)) ∙ ap (λ xs. events_until next t ++ xs) (sym (none_until t last l)))
     ∙ ap (λ xs. first ++ xs) (sym (filter-append p next last))

@@ -2,7 +2,7 @@
 use Rattle.std.proofs.Common.{◌≡◌, ◌<◌, ◌≤◌, ◌^◌, ◌+◌, ◌*◌, ◌-◌, ℕ, zero, suc, Bool, true, false, cond, not, ◌||◌, ◌&&◌, List, [], ◌∷◌, ◌++◌, length, take, drop, Option, Some, None, IfSome, nat_eq, refl, sym, ap, subst, ◌∙◌, arith}
 use Rattle.std.specs.Option.{option_to_list, option_map, option_eq}
 use Rattle.std.specs.List.{flat_map}
-use Rattle.std.proofs.lemmas.Bool.{false≢true}
+use Rattle.std.proofs.lemmas.Bool.{false≢true, or_right}
 use Rattle.dg_graph.specs.declared.element.Element.{Element}
 use Rattle.dg_graph.specs.declared.element.Element.TheVariants as element
 use Rattle.dg_graph.specs.declared.event.Body.{Body}
@@ -14,6 +14,7 @@ use Rattle.dg_graph.specs.Elements.{same, IsSet, has, with_one}
 use Rattle.dg_graph.specs.Sets.{without_all}
 use Rattle.dg_graph.proofs.Sets.{element_exact, has_first, has-put, has-without_all, IsSet-put, IsSet-without_all}
 use Rattle.dg_columns.specs.Ranges.{BodyFits, ElementFits, ElementsFit, EventsFit}
+use Rattle.dg_columns.proofs.EventRanges.{fit_drop, fit_parts, fit_take}
 use Rattle.dg_delta.proofs.Deltas.{apart_between}
 use Rattle.dg_history.specs.declared.node.Key.{Key}
 use Rattle.dg_history.specs.declared.node.Key.TheVariants as key
@@ -44,10 +45,6 @@ has_with set (Some y) q = has-put y set q ∙ ap (λ b. b || has set q) (or_none
     or_none : (a : Bool) → a ≡ (a || false)
     or_none true = refl
     or_none false = refl
-
-or_second : (a b : Bool) → b ≡ true → (a || b) ≡ true
-or_second true b e = refl
-or_second false b e = e
 
 or_of : {P : Type 0} (a b : Bool) → (a || b) ≡ true → (a ≡ true → P) → (b ≡ true → P) → P
 or_of true b e f g = f refl
@@ -83,24 +80,9 @@ ever_fits names earliest (e ∷ events) f q h =
 
 elements_fit : (names : ℕ) (set : List Element) → ((q : Element) → has set q ≡ true → ElementFits names q) → ElementsFit names set
 elements_fit names [] f = tt
-elements_fit names (x ∷ set) f = (f x (has_first x set), elements_fit names set (λ q h. f q (or_second (same q x) (has set q) h)))
+elements_fit names (x ∷ set) f = (f x (has_first x set), elements_fit names set (λ q h. f q (or_right (same q x) (has set q) h)))
 
 -- ---- the events of lists
-
-later_fit : (names a b : ℕ) (events : List Event) → a ≤ b → EventsFit names b events → EventsFit names a events
-later_fit names a b [] h f = tt
-later_fit names a b (e ∷ events) h f =
-    (record { not_before = (let k = f.0.not_before in omega arith); not_after = f.0.not_after; fits = f.0.fits }, f.1)
-
-drop_fit : (names : ℕ) (n earliest : ℕ) (events : List Event) → EventsFit names earliest events → EventsFit names 0 (drop n events)
-drop_fit names zero earliest events f = later_fit names 0 earliest events (omega arith) f
-drop_fit names (suc n) earliest [] f = tt
-drop_fit names (suc n) earliest (e ∷ events) f = drop_fit names n e.time events f.1
-
-take_fit : (names : ℕ) (n earliest : ℕ) (events : List Event) → EventsFit names earliest events → EventsFit names earliest (take n events)
-take_fit names zero earliest events f = tt
-take_fit names (suc n) earliest [] f = tt
-take_fit names (suc n) earliest (e ∷ events) f = (f.0, take_fit names n e.time events f.1)
 
 take_length : (n : ℕ) (events : List Event) → length (take n events) ≤ n
 take_length zero events = omega arith
@@ -109,19 +91,15 @@ take_length (suc n) (e ∷ events) = (let rest = take_length n events in omega a
 
 -- ---- pieces
 
-append_fit : (names earliest : ℕ) (xs ys : List Event) → EventsFit names earliest (xs ++ ys) → EventsFit names earliest xs × EventsFit names 0 ys
-append_fit names earliest [] ys f = (tt, later_fit names 0 earliest ys (omega arith) f)
-append_fit names earliest (e ∷ xs) ys f = (let rest = append_fit names e.time xs ys f.1 in ((f.0, rest.0), rest.1))
-
 pieces_fit : (names : ℕ) (p : Params) → 0 < p.l → p.l ≤ 65536 → (before : List Event) (batches : List Batch) (s : ℕ)
     → EventsFit names 0 (flat_map (λ (b : Batch). b.events) batches) → RecordFits names (Events (piece_at p before batches s))
 pieces_fit names p some short before [] s f = ((omega arith), tt)
 pieces_fit names p some short before (b ∷ batches) zero f = (
   (let few = piece_short p before b some in omega arith),
-  drop_fit names (leaves p (length before + length b.events) * p.l - length before) 0 b.events (append_fit names 0 b.events (flat_map (λ (c : Batch). c.events) batches) f).0,
+  fit_drop names 0 (leaves p (length before + length b.events) * p.l - length before) b.events (fit_parts names 0 b.events (flat_map (λ (c : Batch). c.events) batches) f).0,
 )
 pieces_fit names p some short before (b ∷ batches) (suc s) f =
-    pieces_fit names p some short (before ++ b.events) batches s (append_fit names 0 b.events (flat_map (λ (c : Batch). c.events) batches) f).1
+    pieces_fit names p some short (before ++ b.events) batches s (fit_parts names 0 b.events (flat_map (λ (c : Batch). c.events) batches) f).1
 
 -- ---- records
 
@@ -160,7 +138,7 @@ module _ (names : ℕ) (z : History) (fit : EventsFit names 0 (events_of z)) (fe
   pub record_fits : (k : Key) → RecordFits names (record_among p events z.batches k)
   record_fits (key.List i) = (
     (let n = take_length p.l (drop (i * p.l) events) in omega arith),
-    take_fit names p.l 0 (drop (i * p.l) events) (drop_fit names (i * p.l) 0 events fit),
+    fit_take names 0 p.l (drop (i * p.l) events) (fit_drop names 0 (i * p.l) events fit),
   )
   record_fits (key.Piece s) = pieces_fit names p some short [] z.batches s fit
   record_fits (key.Top h) = exact_fits [] (set_at p events h 1) tt (sets h 1) (λ q e. absurd (false≢true e)) (node_within p events h 1)

@@ -14,11 +14,11 @@ use Rattle.dg_fold.specs.TreeSteps.{IsAmongSteps, step_edges}
 use Rattle.dg_fold.specs.WritingSteps.{IsEnteredNode, AreRooted}
 
 -- the node is Root, or one of the edges enters it
-abbrev IsHead : NodeId → List Edge → Type 0
+abbrev pub IsHead : NodeId → List Edge → Type 0
 IsHead n edges = (n ≡ Root) ⊎ ((e : Edge) × IsAmong e edges × (n ≡ e.to))
 
 -- each edge leaves Root, or a node that an edge before it enters
-abbrev Rooted : List Edge → List Edge → Type 0
+abbrev pub Rooted : List Edge → List Edge → Type 0
 Rooted before [] = Unit {0}
 Rooted before (e ∷ edges) = IsHead e.from before × Rooted (before ++ e ∷ []) edges
 
@@ -31,18 +31,18 @@ among_last : (e : Edge) (xs : List Edge) → IsAmong e (xs ++ e ∷ [])
 among_last e [] = inl refl
 among_last e (x ∷ xs) = inr (among_last e xs)
 
-head_front : (n : NodeId) (xs ys : List Edge) → IsHead n xs → IsHead n (xs ++ ys)
+pub head_front : (n : NodeId) (xs ys : List Edge) → IsHead n xs → IsHead n (xs ++ ys)
 head_front n xs ys (inl root) = inl root
 head_front n xs ys (inr h) = inr (h.0, among_front h.0 xs ys h.1, h.2)
 
 -- a walk from Root or a head
-walk_rooted : (before walk : List Edge) (u v : NodeId) → IsHead u before → IsWalk u walk v → Rooted before walk × IsHead v (before ++ walk)
+pub walk_rooted : (before walk : List Edge) (u v : NodeId) → IsHead u before → IsWalk u walk v → Rooted before walk × IsHead v (before ++ walk)
 walk_rooted before [] u v h w = (tt, subst (λ n. IsHead n (before ++ [])) w (head_front u before [] h))
 walk_rooted before (e ∷ walk) u v h w =
     let rest = walk_rooted (before ++ e ∷ []) walk e.to v (inr (e, among_last e before, refl)) w.1 in
     ((subst (λ n. IsHead n before) (sym w.0) h, rest.0), subst (IsHead v) (append_assoc before (e ∷ []) walk) rest.1)
 
-rooted_append : (before xs ys : List Edge) → Rooted before xs → Rooted (before ++ xs) ys → Rooted before (xs ++ ys)
+pub rooted_append : (before xs ys : List Edge) → Rooted before xs → Rooted (before ++ xs) ys → Rooted before (xs ++ ys)
 rooted_append before [] ys h k = subst (λ l. Rooted l ys) (append-nil before) k
 rooted_append before (x ∷ xs) ys h k =
     (h.0, rooted_append (before ++ x ∷ []) xs ys h.1 (subst (λ l. Rooted l ys) (sym (append_assoc before (x ∷ []) xs)) k))

@@ -1,5 +1,5 @@
 -- An event that is a change of a set, as the exact delta to the set after it; the sets after events.
-use Rattle.std.proofs.Common.{◌≡◌, Bool, true, false, not, ◌&&◌, ◌||◌, List, [], ◌∷◌, Option, Some, None, IfSome, option_to_list, refl, sym, ap, ◌∙◌}
+use Rattle.std.proofs.Common.{◌≡◌, Bool, true, false, not, ◌&&◌, ◌||◌, List, [], ◌∷◌, ◌++◌, Option, Some, None, IfSome, option_to_list, refl, sym, ap, ◌∙◌}
 use Rattle.dg_graph.specs.declared.element.Element.{Element}
 use Rattle.dg_graph.specs.declared.event.Event.{Event}
 use Rattle.dg_graph.specs.Composition.{between}
@@ -93,3 +93,8 @@ IsSet-forwards set e is = IsSet-with_one (without set (removed_by e.body)) (adde
 pub IsSet-replay_from : (events : List Event) (set : List Element) → IsSet set → IsSet (replay_from set events)
 IsSet-replay_from [] set is = is
 IsSet-replay_from (e ∷ events) set is = IsSet-replay_from events (forwards set e) (IsSet-forwards set e is)
+
+-- events and then others, over the set
+pub replay_append : (set : List Element) (xs ys : List Event) → replay_from set (xs ++ ys) ≡ replay_from (replay_from set xs) ys
+replay_append set [] ys = refl
+replay_append set (x ∷ xs) ys = replay_append (forwards set x) xs ys

@@ -3,3 +3,4 @@ pub mod ColumnRows
 pub mod GrammarRows
 pub mod DifferentialFunctionDeltas
 pub mod ExactEvents
+pub mod Completions

@@ -259,7 +259,7 @@ or_end : (a : Bool) → a ≡ (a || false)
 or_end true = refl
 or_end false = refl
 
-and_swap : (a b : Bool) → (a && b) ≡ (b && a)
+pub and_swap : (a b : Bool) → (a && b) ≡ (b && a)
 and_swap true true = refl
 and_swap true false = refl
 and_swap false true = refl

@@ -10,6 +10,7 @@ pub mod Replay
 pub mod ExactEvents
 pub mod Completion
 pub mod CompletedChanges
+pub mod MadeByChanges
 pub mod Graph
 pub mod Columns
 pub mod ColumnGrammar

@@ -1,10 +1,11 @@
 -- Which numbers a list has.
-use Rattle.std.proofs.Common.{arith, ◌≡◌, ℕ, zero, suc, ◌+◌, ◌≤◌, ◌<◌, Bool, true, false, ◌||◌, eqb, List, [], ◌∷◌, ◌++◌, length, map, take, drop, get_or, length-append, refl, sym, ap, ◌∙◌, subst, ◌⊎◌, inl, inr}
+use Rattle.std.proofs.Common.{arith, ◌≡◌, ℕ, zero, suc, ◌+◌, ◌≤◌, ◌<◌, true, false, ◌||◌, eqb, List, [], ◌∷◌, ◌++◌, length, map, take, drop, get_or, length-append, refl, sym, ap, ◌∙◌, subst, ◌⊎◌, inl, inr}
 use Rattle.std.specs.List.{All}
 use Rattle.std.proofs.lemmas.Bool.{eq-eqb, eqb-true, ne_eqb, or_cases, or_from, or_left, or_parts, or_right, both_ways}
 use Rattle.std.proofs.lemmas.List.{drop_more}
 use Rattle.std.proofs.lemmas.List.Folds.{list_any-append, list_any_at}
 use Rattle.std.proofs.Math.ListN.{take-append-drop}
+use Rattle.std.proofs.Math.Bool.{or-false}
 use Rattle.dg_graph.proofs.Sets.{or_swap}
 use Rattle.dg_pool.specs.Changes.{AreDistinct}
 use Rattle.dg_pool.specs.Graphs.{is_listed}
@@ -12,12 +13,8 @@ use Rattle.dg_pool.specs.Graphs.{is_listed}
 pub listed-append : (xs ys : List ℕ) (s : ℕ) → is_listed (xs ++ ys) s ≡ (is_listed xs s || is_listed ys s)
 listed-append xs ys s = list_any-append (λ n. eqb n s) xs ys
 
-or_end : (a : Bool) → (a || false) ≡ a
-or_end true = refl
-or_end false = refl
-
 pub listed_push : (xs : List ℕ) (k s : ℕ) → is_listed (xs ++ k ∷ []) s ≡ (is_listed xs s || eqb k s)
-listed_push xs k s = listed-append xs (k ∷ []) s ∙ ap (λ t. is_listed xs s || t) (or_end (eqb k s))
+listed_push xs k s = listed-append xs (k ∷ []) s ∙ ap (λ t. is_listed xs s || t) (or-false (eqb k s))
 
 -- a number in the middle
 pub listed_middle : (xs : List ℕ) (k : ℕ) (ys : List ℕ) (s : ℕ) → is_listed (xs ++ k ∷ ys) s ≡ (eqb k s || is_listed (xs ++ ys) s)

@@ -1,7 +1,8 @@
 -- The union of a pool, by the graphs of the handles.
-use Rattle.std.proofs.Common.{arith, ◌≡◌, ℕ, zero, suc, ◌+◌, ◌<◌, ◌≤◌, Bool, true, false, ◌||◌, eqb, List, [], ◌∷◌, Option, Some, None, IsSome, length, refl, sym, ap, ◌∙◌, ◌⊎◌, inl, inr}
+use Rattle.std.proofs.Common.{arith, ◌≡◌, ℕ, zero, suc, ◌+◌, ◌<◌, ◌≤◌, Bool, true, ◌||◌, eqb, List, [], ◌∷◌, Option, Some, None, IsSome, length, refl, sym, ap, ◌∙◌, ◌⊎◌, inl, inr}
 use Rattle.std.proofs.lemmas.Bool.{cases_lt, eqb-true, or_cases, or_left, or_right}
 use Rattle.std.proofs.lemmas.List.{get_or_past}
+use Rattle.std.specs.Cmp.{both_ways}
 use Rattle.dg_graph.specs.declared.element.Element.{Element}
 use Rattle.dg_graph.specs.Elements.{IsSet, has, with_one}
 use Rattle.dg_graph.specs.Sets.{unioned}
@@ -14,11 +15,6 @@ use Rattle.dg_pool.specs.declared.slots.SlotState.{SlotState}
 use Rattle.dg_pool.specs.declared.slots.SlotState.TheVariants as state
 use Rattle.dg_pool.specs.Graphs.{PoolState, SlotGraph, given, graph_as, graph_now, is_listed, picked, slot_at, slot_graph}
 use Rattle.dg_pool.specs.Sweeps.{live_union, members_as}
-
-alike : (a b : Bool) → (a ≡ true → b ≡ true) → (b ≡ true → a ≡ true) → a ≡ b
-alike true b f g = sym (f refl)
-alike false true f g = g refl
-alike false false f g = refl
 
 -- ---- by slots
 
@@ -86,7 +82,7 @@ module _ (p : PoolState) (x : Element) where
       at (inr past) = absurd (some_nowhere (slot_graph p s) (ap (graph_as p.rows s) (get_or_past p.slots s state.Free past)) h)
 
   has_alike : (h : HandlesState) → IsTied p h → has (live_union p.rows 0 p.slots) x ≡ has (union_of_sets (slot_graphs p h.slots)) x
-  has_alike h t = alike (has (live_union p.rows 0 p.slots) x) (has (union_of_sets (slot_graphs p h.slots)) x) forth back
+  has_alike h t = both_ways (has (live_union p.rows 0 p.slots) x) (has (union_of_sets (slot_graphs p h.slots)) x) forth back
     where
       forth : has (live_union p.rows 0 p.slots) x ≡ true → has (union_of_sets (slot_graphs p h.slots)) x ≡ true
       forth e =

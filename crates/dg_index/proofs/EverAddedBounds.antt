@@ -1,8 +1,8 @@
 -- What an index holds after one more segment, and how large the sets of a history can be.
-use Rattle.std.proofs.Common.{◌≡◌, ℕ, zero, suc, ◌+◌, ◌-◌, ◌*◌, ◌/◌, ◌<◌, ◌≤◌, Bool, true, false, cond, not, ◌&&◌, ◌||◌, List, [], ◌∷◌, ◌++◌, length, map, take, Option, Some, None, refl, sym, ap, ◌∙◌, arith, append_assoc, append-nil, length-append, length-drop, add-mul, div-lt_iff_lt-mul, ⊎_elim, inl, inr}
-use Rattle.std.specs.Prelude.{◌⊎◌, IsTrue}
+use Rattle.std.proofs.Common.{◌≡◌, ℕ, zero, suc, ◌+◌, ◌-◌, ◌*◌, ◌/◌, ◌<◌, ◌≤◌, Bool, true, false, cond, not, ◌||◌, List, [], ◌∷◌, ◌++◌, length, map, take, Option, Some, None, refl, sym, ap, ◌∙◌, arith, append_assoc, append-nil, length-append, length-drop, add-mul, div-lt_iff_lt-mul, ⊎_elim}
+use Rattle.std.specs.Prelude.{IsTrue}
 use Rattle.std.specs.List.{list_any}
-use Rattle.std.proofs.lemmas.Bool.{false≢true}
+use Rattle.std.proofs.lemmas.Bool.{and_parts, false≢true, or_cases, or_left, or_right}
 use Rattle.std.proofs.lemmas.List.{map-append, length-map}
 use Rattle.std.proofs.lemmas.List.Sums.{sum_by-cons}
 use Rattle.dg_graph.specs.declared.element.Element.{Element}
@@ -15,7 +15,7 @@ use Rattle.dg_graph.specs.Effect.{forwards, removed_by, added_by}
 use Rattle.dg_graph.specs.Elements.{IsSet, has, same, before, element_cmp, put, with_one, without}
 use Rattle.dg_history.specs.History.{Batch}
 use Rattle.dg_graph.specs.Replay.{replay_from}
-use Rattle.dg_graph.proofs.Sets.{has-put, has-take_out, has-filter, IsSet-put, same_itself, element_exact, lacks_below, IsBelowFirst-trans, before_from_Greater}
+use Rattle.dg_graph.proofs.Sets.{has-put, has-take_out, has-filter, same_itself, element_exact, lacks_below, IsBelowFirst-trans, before_from_Greater}
 use Rattle.dg_index.specs.Hierarchy.{numbers, leaves, children, set_at}
 use Rattle.dg_index.specs.IndexRecords.{lists_due, deltas_due, piece_of}
 use Rattle.dg_index.specs.declared.entry.BatchEntry.{BatchEntry}
@@ -26,6 +26,7 @@ use Rattle.dg_index.specs.EverAdded.{ever}
 use Rattle.dg_index.specs.IndexKeys.{keys_among, AreKept}
 use Rattle.dg_index.proofs.HierarchyCounts.{numbers_length}
 use Rattle.dg_graph.proofs.DifferentialFunctionDeltas.{has-all_of}
+use Rattle.dg_graph.proofs.ExactEvents.{IsSet-with_one}
 use Rattle.dg_index.proofs.HierarchySteps.{IsSet-node}
 use Rattle.std.specs.declared.cmp.Ordering.{Ordering}
 use Rattle.std.specs.declared.cmp.Ordering.TheVariants.{Less, Equal, Greater}
@@ -128,34 +129,13 @@ pub ever_few : (events : List Event) → length (ever events) ≤ length events
 ever_few [] = omega arith
 ever_few (e ∷ events) = omega (arith, with_length (ever events) (added_by e.body), ever_few events)
 
-set_with : (set : List Element) (x : Option Element) → IsSet set → IsSet (with_one set x)
-set_with set None is = is
-set_with set (Some x) is = IsSet-put x set is
-
 IsSet-ever : (events : List Event) → IsSet (ever events)
 IsSet-ever [] = tt
-IsSet-ever (e ∷ events) = set_with (ever events) (added_by e.body) (IsSet-ever events)
-
--- in one of two
-either : (a b : Bool) → (a || b) ≡ true → (a ≡ true) ⊎ (b ≡ true)
-either true b e = inl refl
-either false b e = inr e
-
-or_left : (a b : Bool) → a ≡ true → (a || b) ≡ true
-or_left true b e = refl
-or_left false b e = absurd (false≢true e)
-
-or_right : (a b : Bool) → b ≡ true → (a || b) ≡ true
-or_right true b e = refl
-or_right false b e = e
-
-and_right : (a b : Bool) → (a && b) ≡ true → b ≡ true
-and_right true b e = e
-and_right false b e = absurd (false≢true e)
+IsSet-ever (e ∷ events) = IsSet-with_one (ever events) (added_by e.body) (IsSet-ever events)
 
 in_without : (set : List Element) (o : Option Element) (q : Element) → has (without set o) q ≡ true → has set q ≡ true
 in_without set None q e = e
-in_without set (Some x) q e = and_right (not (same q x)) (has set q) (sym (has-take_out x set q) ∙ e)
+in_without set (Some x) q e = (and_parts (not (same q x)) (has set q) (sym (has-take_out x set q) ∙ e)).1
 
 -- an element of a replay was there before or was added
 pub replay_within : (set : List Element) (events : List Event) (q : Element) → has (replay_from set events) q ≡ true → (has set q || has (ever events) q) ≡ true
@@ -164,7 +144,7 @@ replay_within set (v ∷ events) q e =
     ⊎_elim
     (λ (in_next : has (forwards set v) q ≡ true). by (added_by v.body) in_next)
     (λ (later : has (ever events) q ≡ true). or_right (has set q) (has (ever (v ∷ events)) q) (more (added_by v.body) later))
-    (either (has (forwards set v) q) (has (ever events) q) (replay_within (forwards set v) events q e))
+    (or_cases (has (forwards set v) q) (has (ever events) q) (replay_within (forwards set v) events q e))
   where
     more : (o : Option Element) → has (ever events) q ≡ true → has (with_one (ever events) o) q ≡ true
     more None later = later
@@ -175,7 +155,7 @@ replay_within set (v ∷ events) q e =
     by (Some x) there =
         ⊎_elim (λ (one : same q x ≡ true). or_right (has set q) (has (put x (ever events)) q) (has-put x (ever events) q ∙ or_left (same q x) (has (ever events) q) one))
         (λ (old : has (without set (removed_by v.body)) q ≡ true). or_left (has set q) (has (put x (ever events)) q) (in_without set (removed_by v.body) q old))
-        (either (same q x) (has (without set (removed_by v.body)) q) (sym (has-put x (without set (removed_by v.body)) q) ∙ there))
+        (or_cases (same q x) (has (without set (removed_by v.body)) q) (sym (has-put x (without set (removed_by v.body)) q) ∙ there))
 
 ever_take : (n : ℕ) (events : List Event) (q : Element) → has (ever (take n events)) q ≡ true → has (ever events) q ≡ true
 ever_take zero events q e = absurd (false≢true e)
@@ -186,12 +166,12 @@ ever_take (suc n) (v ∷ events) q e = by (added_by v.body) (λ f. ever_take n e
     by None more e = more e
     by (Some x) more e =
         has-put x (ever events) q ∙ ⊎_elim (λ (one : same q x ≡ true). or_left (same q x) (has (ever events) q) one) (λ (old : has (ever (take n events)) q ≡ true). or_right (same q x) (has (ever events) q) (more old))
-        (either (same q x) (has (ever (take n events)) q) (sym (has-put x (ever (take n events)) q) ∙ e))
+        (or_cases (same q x) (has (ever (take n events)) q) (sym (has-put x (ever (take n events)) q) ∙ e))
 
 any_set : (f : ℕ → List Element) (q : Element) (all : List Element) → ((n : ℕ) → has (f n) q ≡ true → has all q ≡ true) → (ns : List ℕ) → list_any (λ (set : List Element). has set q) (map f ns) ≡ true → has all q ≡ true
 any_set f q all each [] e = absurd (false≢true e)
 any_set f q all each (n ∷ ns) e =
-    ⊎_elim (λ (here : has (f n) q ≡ true). each n here) (λ (later : list_any (λ (set : List Element). has set q) (map f ns) ≡ true). any_set f q all each ns later) (either (has (f n) q) _ e)
+    ⊎_elim (λ (here : has (f n) q ≡ true). each n here) (λ (later : list_any (λ (set : List Element). has set q) (map f ns) ≡ true). any_set f q all each ns later) (or_cases (has (f n) q) _ e)
 
 -- each element of a node was added by some event
 pub node_within : (p : Params) (events : List Event) (h j : ℕ) (q : Element) → has (set_at p events h j) q ≡ true → has (ever events) q ≡ true
@@ -199,7 +179,7 @@ node_within p events zero j q e = ever_take (j * p.l) events q (replay_within []
 node_within p events (suc h) j q e =
     let sets : List (List Element) = map (set_at p events h) (children p.k j) in
     any_set (set_at p events h) q (ever events) (λ n there. node_within p events h n q there) (children p.k j)
-    (sym (has-all_of sets q) ∙ and_right (in_combined p.function sets q) (has (all_of sets) q) (sym (has-filter (in_combined p.function sets) (all_of sets) q) ∙ e))
+    (sym (has-all_of sets q) ∙ (and_parts (in_combined p.function sets q) (has (all_of sets) q) (sym (has-filter (in_combined p.function sets) (all_of sets) q) ∙ e)).1)
 
 -- a set within another has no more elements
 pub fewer : (a b : List Element) → IsSet a → IsSet b → ((q : Element) → has a q ≡ true → has b q ≡ true) → length a ≤ length b
@@ -212,14 +192,14 @@ fewer (x ∷ xs) (y ∷ ys) sa sb sub = by (same x y) refl (fewer xs ys sa.1 sb.
         let is : x ≡ y = element_exact x y e in
         let le : length xs ≤ length ys = both_on (λ q there. ⊎_elim
         (λ (one : same q y ≡ true). absurd (false≢true (sym (lacks_below x xs sa.0 sa.1) ∙ ap (has xs) (is ∙ sym (element_exact q y one)) ∙ there)))
-        (λ (old : has ys q ≡ true). old) (either (same q y) (has ys q) (sub q (or_right (same q x) (has xs q) there)))) in
+        (λ (old : has ys q ≡ true). old) (or_cases (same q y) (has ys q) (sub q (or_right (same q x) (has xs q) there)))) in
         omega (arith, le)
     by false e both_on skip =
-        let le : length (x ∷ xs) ≤ length ys = skip (λ q there. ⊎_elim (λ (one : same q y ≡ true). absurd (false≢true (sym (lacks_y (element_cmp x y) refl) ∙ ap (has (x ∷ xs)) (sym (element_exact q y one)) ∙ there))) (λ (old : has ys q ≡ true). old) (either (same q y) (has ys q) (sub q there))) in
+        let le : length (x ∷ xs) ≤ length ys = skip (λ q there. ⊎_elim (λ (one : same q y ≡ true). absurd (false≢true (sym (lacks_y (element_cmp x y) refl) ∙ ap (has (x ∷ xs)) (sym (element_exact q y one)) ∙ there))) (λ (old : has ys q ≡ true). old) (or_cases (same q y) (has ys q) (sub q there))) in
         omega (arith, le)
       where
         x_in : has ys x ≡ true
-        x_in = ⊎_elim (λ (one : same x y ≡ true). absurd (false≢true (sym e ∙ one))) (λ (old : has ys x ≡ true). old) (either (same x y) (has ys x) (sub x (or_left (same x x) (has xs x) (same_itself x))))
+        x_in = ⊎_elim (λ (one : same x y ≡ true). absurd (false≢true (sym e ∙ one))) (λ (old : has ys x ≡ true). old) (or_cases (same x y) (has ys x) (sub x (or_left (same x x) (has xs x) (same_itself x))))
 
         lacks_y : (o : Ordering) → element_cmp x y ≡ o → has (x ∷ xs) y ≡ false
         lacks_y Less is =

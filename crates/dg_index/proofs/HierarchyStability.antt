@@ -2,12 +2,11 @@
 use Rattle.std.proofs.Common.{◌≡◌, ℕ, zero, suc, ◌+◌, ◌-◌, ◌*◌, ◌/◌, ◌^◌, ◌<◌, ◌≤◌, List, [], ◌∷◌, ◌++◌, length, map, take, drop, refl, sym, ap, subst, ◌∙◌, arith, length-append, le-div_iff_mul-le, pow-suc, mul_comm, mul_assoc, add-mul, mul-le-mul_right, div-mul-le_self, take-add, drop-drop}
 use lib.Seq.{take-append-le, drop-append-le}
 use native.Mathlib.Nat.{pow-zero}
-use Rattle.dg_graph.specs.declared.element.Element.{Element}
 use Rattle.dg_graph.specs.declared.event.Event.{Event}
 use Rattle.dg_history.specs.declared.params.Params.{Params}
-use Rattle.dg_graph.specs.Effect.{forwards}
 use Rattle.dg_history.specs.History.{Batch}
 use Rattle.dg_graph.specs.Replay.{replay, replay_from}
+use Rattle.dg_graph.proofs.ExactEvents.{replay_append}
 use Rattle.dg_index.specs.Hierarchy.{numbers, leaves, set_at}
 use Rattle.dg_graph.specs.DifferentialFunction.{combined}
 use Rattle.dg_index.specs.IndexRecords.{closed_list, recent_of, piece_of}
@@ -50,10 +49,6 @@ stable p events more pos (suc h) j some le =
     (λ c from to. stable p events more pos h c (omega (arith, from)) (child_within p.k h j c (p.k ^ h) (leaves p (length events)) some to refl le)))
 
 -- ---- leaves by the events behind an earlier one
-
-pub replay_append : (set : List Element) (xs ys : List Event) → replay_from set (xs ++ ys) ≡ replay_from (replay_from set xs) ys
-replay_append set [] ys = refl
-replay_append set (e ∷ xs) ys = replay_append (forwards set e) xs ys
 
 -- a leaf by one before it and the events between them
 pub leaf_on : (p : Params) (events : List Event) (m i : ℕ) → set_at p events 0 (m + i) ≡ replay_from (set_at p events 0 m) (take (i * p.l) (drop (m * p.l) events))

@@ -1,14 +1,12 @@
 -- From the nodes of one height to those above it, by exact deltas alone.
-use Rattle.std.proofs.Common.{◌≡◌, ℕ, zero, suc, ◌+◌, ◌-◌, ◌*◌, ◌≤◌, List, [], ◌∷◌, map, take, Option, Some, None, refl, sym, ap, ◌∙◌, arith}
+use Rattle.std.proofs.Common.{◌≡◌, ℕ, zero, suc, ◌+◌, ◌-◌, ◌*◌, ◌≤◌, List, [], ◌∷◌, map, take, refl, sym, ap, ◌∙◌, arith}
 use Rattle.dg_graph.specs.declared.element.Element.{Element}
 use Rattle.dg_graph.specs.declared.event.Event.{Event}
 use Rattle.dg_history.specs.declared.node.Key.TheVariants as key
 use Rattle.dg_history.specs.declared.params.Params.{Params}
 use Rattle.dg_graph.specs.Composition.{Delta, between, chained}
-use Rattle.dg_graph.specs.Effect.{forwards, removed_by, added_by}
-use Rattle.dg_graph.specs.Elements.{IsSet, with_one, without}
-use Rattle.dg_graph.specs.Replay.{replay_from}
-use Rattle.dg_graph.proofs.Sets.{IsSet-put, IsSet-take_out}
+use Rattle.dg_graph.specs.Elements.{IsSet}
+use Rattle.dg_graph.proofs.ExactEvents.{IsSet-replay_from}
 use Rattle.dg_index.specs.Hierarchy.{numbers, children, set_at}
 use Rattle.dg_graph.specs.DifferentialFunction.{combined, inward}
 use Rattle.dg_index.specs.IndexRecords.{Exact, record_among}
@@ -20,24 +18,12 @@ use Rattle.dg_index.proofs.IndexRecordColumns.{parent_is}
 
 -- ---- the sets of nodes are sets
 
-set_with : (set : List Element) (x : Option Element) → IsSet set → IsSet (with_one set x)
-set_with set None is = is
-set_with set (Some x) is = IsSet-put x set is
-
-set_without : (set : List Element) (x : Option Element) → IsSet set → IsSet (without set x)
-set_without set None is = is
-set_without set (Some x) is = IsSet-take_out x set is
-
-pub IsSet-replay : (set : List Element) (events : List Event) → IsSet set → IsSet (replay_from set events)
-IsSet-replay set [] is = is
-IsSet-replay set (e ∷ events) is = IsSet-replay (forwards set e) events (set_with (without set (removed_by e.body)) (added_by e.body) (set_without set (removed_by e.body) is))
-
 sets_of : (f : ℕ → List Element) (ns : List ℕ) → ((n : ℕ) → IsSet (f n)) → AreSets (map f ns)
 sets_of f [] is = tt
 sets_of f (n ∷ ns) is = (is n, sets_of f ns is)
 
 pub IsSet-node : (p : Params) (events : List Event) (h j : ℕ) → IsSet (set_at p events h j)
-IsSet-node p events zero j = IsSet-replay [] (take (j * p.l) events) tt
+IsSet-node p events zero j = IsSet-replay_from (take (j * p.l) events) [] tt
 IsSet-node p events (suc h) j = IsSet-combined p.function (map (set_at p events h) (children p.k j)) (sets_of (set_at p events h) (children p.k j) (λ n. IsSet-node p events h n))
 
 -- ---- one node and its children

@@ -4,7 +4,7 @@ use Rattle.std.specs.Prelude.{◌&&◌, nat_le, nat_lt, option_and_then}
 use Rattle.std.specs.Int.{from_be_bytes, w16}
 use Rattle.std.specs.List.{flat_map}
 use Rattle.std.specs.Option.{option_map}
-use Rattle.std.proofs.lemmas.Bool.{leb-true, le-ltb, false≢true}
+use Rattle.std.proofs.lemmas.Bool.{leb-true, le-ltb, and_parts}
 use Rattle.std.proofs.lemmas.List.{take_at}
 use Rattle.std.proofs.lemmas.Nat.{from_be_bytes-to_be_bytes_2}
 use Rattle.dg_graph.specs.declared.limits.TheConstants.{NAME_BYTES_MAX}
@@ -17,14 +17,14 @@ use Rattle.dg_index.proofs.ImageTextRanges.{behind}
 -- ---- one name
 
 -- a text at an offset, behind a number that says its length
-abbrev name_with : ℕ → ℕ → ℕ → List ℕ → Option (List ℕ × ℕ)
+abbrev pub name_with : ℕ → ℕ → ℕ → List ℕ → Option (List ℕ × ℕ)
 name_with long at len rest =
     cond (nat_lt long (at + 2)) None (cond (nat_lt long (at + 2 + len)) None (Some (take len rest, at + 2 + len)))
 
 name_is : (bytes : List ℕ) (at : ℕ) → name_at bytes at ≡ name_with (length bytes) at (two_at bytes at) (drop (at + 2) bytes)
 name_is bytes at = refl
 
-with_room : (long at len : ℕ) (rest : List ℕ) → at + 2 + len ≤ long → name_with long at len rest ≡ Some (take len rest, at + 2 + len)
+pub with_room : (long at len : ℕ) (rest : List ℕ) → at + 2 + len ≤ long → name_with long at len rest ≡ Some (take len rest, at + 2 + len)
 with_room long at len rest le =
     λ i. cond (le-ltb long (at + 2) (omega (arith, le)) i) None (cond (le-ltb long (at + 2 + len) le i) None (Some (take len rest, at + 2 + len)))
 
@@ -86,17 +86,13 @@ new_append names (x ∷ xs) ys =
     ∙ and_assoc (is_fresh names x) (are_new (names ++ x ∷ []) xs) (are_new (names ++ x ∷ xs) ys)
     ∙ ap (λ b. b && are_new (names ++ x ∷ xs) ys) (sym (new_first names x xs))
 
-pub both : (a b : Bool) → (a && b) ≡ true → (a ≡ true) × (b ≡ true)
-both true b e = (refl, e)
-both false b e = absurd (false≢true e)
-
 pub new_parts : (names xs ys : List (List ℕ)) → are_new names (xs ++ ys) ≡ true → (are_new names xs ≡ true) × (are_new (names ++ xs) ys ≡ true)
-new_parts names xs ys e = both (are_new names xs) (are_new (names ++ xs) ys) (sym (new_append names xs ys) ∙ e)
+new_parts names xs ys e = and_parts (are_new names xs) (are_new (names ++ xs) ys) (sym (new_append names xs ys) ∙ e)
 
 pub new_short : (names texts : List (List ℕ)) → are_new names texts ≡ true → AreShort texts
 new_short names [] e = tt
 new_short names (text ∷ texts) e =
-    let parts = both (is_fresh names text) _ (sym (new_first names text texts) ∙ e) in
-    let name = both (is_name text) _ parts.0 in
-    let short = both (nat_le (length text) NAME_BYTES_MAX) _ name.0 in
+    let parts = and_parts (is_fresh names text) _ (sym (new_first names text texts) ∙ e) in
+    let name = and_parts (is_name text) _ parts.0 in
+    let short = and_parts (nat_le (length text) NAME_BYTES_MAX) _ name.0 in
     (leb-true (length text) NAME_BYTES_MAX short.0, new_short (names ++ text ∷ []) texts parts.1)

@@ -3,7 +3,7 @@ use Rattle.std.proofs.Common.{◌≡◌, ℕ, zero, suc, ◌+◌, ◌-◌, ◌*�
 use Rattle.std.specs.Prelude.{nat_lt, nat_le}
 use Rattle.std.specs.List.{flat_map}
 use Rattle.std.specs.Map.{lookup}
-use Rattle.std.proofs.lemmas.Bool.{eq-eqb, ltb-true, ltb-false, le-ltb, lt-leb, leb-true, leb-false}
+use Rattle.std.proofs.lemmas.Bool.{eq-eqb, ltb-true, ltb-false, le-ltb, lt-leb, leb-true, leb-false, or_right, or_left, and_parts}
 use Rattle.std.proofs.lemmas.List.Sums.{sum_by-cons}
 use native.Mathlib.Nat.{pow-zero}
 use Rattle.dg_history.specs.declared.node.Key.{Key}
@@ -18,15 +18,6 @@ use Rattle.dg_index.specs.OpenedIndex.{event_total}
 use Rattle.dg_index.specs.IndexKeys.{keys_among, key_exists, among}
 use Rattle.dg_index.proofs.HierarchyCounts.{due_from}
 use Rattle.dg_index.proofs.IndexRecordColumns.{power_some}
-use Rattle.dg_index.proofs.ImageTextNames.{both}
-
-or_true : (a b : Bool) → b ≡ true → (a || b) ≡ true
-or_true true b e = refl
-or_true false b e = e
-
-or_first : (a b : Bool) → a ≡ true → (a || b) ≡ true
-or_first true b e = refl
-or_first false b e = absurd cc
 
 or_assoc : (a b c : Bool) → ((a || b) || c) ≡ (a || (b || c))
 or_assoc true b c = refl
@@ -37,10 +28,10 @@ among_append k [] ys = refl
 among_append k (x ∷ xs) ys = ap (λ b. same_key k x || b) (among_append k xs ys) ∙ sym (or_assoc (same_key k x) (among k xs) (among k ys))
 
 among_left : (k : Key) (xs ys : List Key) → among k xs ≡ true → among k (xs ++ ys) ≡ true
-among_left k xs ys e = among_append k xs ys ∙ or_first (among k xs) (among k ys) e
+among_left k xs ys e = among_append k xs ys ∙ or_left (among k xs) (among k ys) e
 
 among_right : (k : Key) (xs ys : List Key) → among k ys ≡ true → among k (xs ++ ys) ≡ true
-among_right k xs ys e = among_append k xs ys ∙ or_true (among k xs) (among k ys) e
+among_right k xs ys e = among_append k xs ys ∙ or_right (among k xs) (among k ys) e
 
 -- it is among those of one of the numbers
 among_flat : (k : Key) (f : ℕ → List Key) (a n c : ℕ) → a ≤ c → c < a + n → among k (f c) ≡ true → among k (flat_map f (numbers a n)) ≡ true
@@ -52,8 +43,8 @@ among_flat k f a (suc n) c le lt e =
 among_map : (k : Key) (make : ℕ → Key) (a n c : ℕ) → a ≤ c → c < a + n → same_key k (make c) ≡ true → among k (map make (numbers a n)) ≡ true
 among_map k make a zero c le lt e = absurd (omega (arith, le, lt))
 among_map k make a (suc n) c le lt e =
-    ⊎_elim (λ (is : a ≡ c). or_first (same_key k (make a)) (among k (map make (numbers (a + 1) n))) (ap (λ c. same_key k (make c)) is ∙ e))
-    (λ (less : a < c). or_true (same_key k (make a)) (among k (map make (numbers (a + 1) n))) (among_map k make (a + 1) n c (omega (arith, less)) (omega (arith, lt)) e)) (eq-or-lt_of_le le)
+    ⊎_elim (λ (is : a ≡ c). or_left (same_key k (make a)) (among k (map make (numbers (a + 1) n))) (ap (λ c. same_key k (make c)) is ∙ e))
+    (λ (less : a < c). or_right (same_key k (make a)) (among k (map make (numbers (a + 1) n))) (among_map k make (a + 1) n c (omega (arith, less)) (omega (arith, lt)) e)) (eq-or-lt_of_le le)
 
 same_itself : (k : Key) → same_key k k ≡ true
 same_itself (key.List m) = eq-eqb m m refl
@@ -62,7 +53,7 @@ same_itself (key.Top m) = eq-eqb m m refl
 same_itself (key.Down m c) = λ i. eq-eqb m m refl i && eq-eqb c c refl i
 
 -- a height at which there is a node is at most the number of leaves
-height_low : (k h : ℕ) → 2 ≤ k → h + 1 ≤ k ^ h
+pub height_low : (k h : ℕ) → 2 ≤ k → h + 1 ≤ k ^ h
 height_low k zero le = omega (arith, pow-zero k)
 height_low k (suc h) le =
     let below = height_low k h le in
@@ -121,17 +112,17 @@ module _ (p : Params) (pos : 0 < p.l) (two : 2 ≤ p.k) where
       (le-ltb i (leaves p 0) (let z : leaves p 0 ≤ i = omega arith in z)) (ap (λ n. nat_lt i (leaves p n)) (let z : 0 + event_total batches ≡ event_total batches = omega arith in z) ∙ e)
   exists_held batches (key.Piece s) e = absurd cc
   exists_held batches (key.Top h) e =
-      let parts = both (nat_le 1 h) _ e in
+      let parts = and_parts (nat_le 1 h) _ e in
       let low : 1 ≤ h = leb-true 1 h parts.0 in
       held_by (key.Top h) batches 0 0 (λ n. nat_le (p.k ^ h) n)
       (λ m after below high.
       among_right (key.Top h) (map (λ i. key.List i) (numbers m (after - m))) (deltas_due p.k m after)
       (node_due p.k m after h 1 (key.Top h) two low (omega arith) (omega (arith, leb-false (p.k ^ h) m below)) (omega (arith, leb-true (p.k ^ h) after high))
-      (or_first (same_key (key.Top h) (key.Top h)) _ (same_itself (key.Top h)))))
+      (or_left (same_key (key.Top h) (key.Top h)) _ (same_itself (key.Top h)))))
       (none_first (p.k ^ h) (power_some p.k h (omega (arith, two)))) (ap (λ n. nat_le (p.k ^ h) (leaves p n)) (let z : 0 + event_total batches ≡ event_total batches = omega arith in z) ∙ parts.1)
   exists_held batches (key.Down h c) e =
-      let parts = both (nat_le 1 h) _ e in
-      let more = both (nat_le 1 c) _ parts.1 in
+      let parts = and_parts (nat_le 1 h) _ e in
+      let more = and_parts (nat_le 1 c) _ parts.1 in
       let low : 1 ≤ h = leb-true 1 h parts.0 in
       let some : 1 ≤ c = leb-true 1 c more.0 in
       let j : ℕ = parent p.k c in

@@ -4,11 +4,10 @@ use lib.Seq.{take-append-le, drop-append-le}
 use native.Mathlib.Nat.{pow-zero}
 use Rattle.std.specs.Prelude.{◌==◌, slice_index}
 use Rattle.std.specs.List.{flat_map}
-use Rattle.std.proofs.lemmas.Bool.{eqb-true, false≢true}
+use Rattle.std.proofs.lemmas.Bool.{eqb-true, false≢true, and_parts}
 use Rattle.std.specs.Map.{lookup}
 use Rattle.dg_history.specs.Keys.{same_key}
 use Rattle.dg_index.specs.ImageOfHistory.{IsImageOf}
-use Rattle.dg_index.proofs.ImageTextNames.{both}
 use Rattle.dg_index.proofs.OpenedIndexHistories.{large_parameters}
 use Rattle.std.proofs.lemmas.List.Concat.{flat_map-append}
 use Rattle.std.proofs.lemmas.List.Sums.{sum_by_push}
@@ -24,6 +23,7 @@ use Rattle.dg_history.specs.declared.params.Params.{Params}
 use Rattle.dg_graph.specs.Composition.{between}
 use Rattle.dg_index.specs.FileOfHistory.{header, Stored, StoredList, Segment, bytes_of, directory, stored_in, blobs, segment_bytes, segment_of, segments_from, stored_list, stored, file}
 use Rattle.dg_history.specs.History.{History, Batch, events_of}
+use Rattle.dg_history.proofs.LegalHistories.{events_among}
 use Rattle.dg_index.specs.Hierarchy.{numbers, leaves, children, parent, set_at}
 use Rattle.dg_index.specs.IndexRecords.{Record, Events, Exact, closed_list, piece_of, piece_at, record_among, column_of_record, column_in, deltas_of, inner_due, deltas_due_at, deltas_due, lists_due}
 use Rattle.dg_index.specs.declared.entry.Entry.{Entry}
@@ -216,9 +216,6 @@ lists_match z all later pos is i (suc n) others more le m =
         let front : drop (i * l) (all ++ later) ≡ drop (i * l) all ++ later = drop-append-le (i * l) all later (omega (arith, le, sum)) in
         sym (ap (λ (e : List Event). take l (drop (i * l) e)) is ∙ ap (take l) front ∙ take-append-le l (drop (i * l) all) later (omega (arith, le, sum, length-drop (i * l) all)))
 
-abbrev pub events_among : List Batch → List Event
-events_among batches = flat_map (λ (b : Batch). b.events) batches
-
 -- the piece of a batch behind others
 pub piece_there : (p : Params) (before : List Event) (front : List Batch) (b : Batch) (more : List Batch) → piece_at p before (front ++ b ∷ more) (length front) ≡ piece_of p (before ++ events_among front) b
 piece_there p before [] b more = ap (λ (l : List Event). piece_of p l b) (sym (append-nil before))
@@ -289,7 +286,7 @@ same_key_exact (key.List m) (key.List n) e = ap key.List (eqb-true m n e)
 same_key_exact (key.Piece m) (key.Piece n) e = ap key.Piece (eqb-true m n e)
 same_key_exact (key.Top m) (key.Top n) e = ap key.Top (eqb-true m n e)
 same_key_exact (key.Down m c) (key.Down n d) e =
-    let a = both (m == n) (c == d) e in
+    let a = and_parts (m == n) (c == d) e in
     λ i. key.Down (eqb-true m n a.0 i) (eqb-true c d a.1 i)
 same_key_exact (key.List m) (key.Piece n) e = absurd (false≢true e)
 same_key_exact (key.List m) (key.Top n) e = absurd (false≢true e)
@@ -308,15 +305,16 @@ abbrev entry_or : Entry → Option Entry → Entry
 entry_or e None = e
 entry_or e (Some x) = x
 
-found_kept : (z : History) (image : List ℕ) (k : Key) (e : Entry) (records : List (Key × Entry)) → Each (IsKept z image) records → lookup (same_key k) records ≡ Some e → IsKept z image (k, e)
-found_kept z image k e [] all is = absurd cc
-found_kept z image k e (r ∷ records) all is = by (found_kept z image k e records all.1) (same_key k r.0) refl is
+-- what holds of each record holds of the one at a key
+pub at_key : (P : Key × Entry → Type 0) (k : Key) (e : Entry) (records : List (Key × Entry)) → Each P records → lookup (same_key k) records ≡ Some e → P (k, e)
+at_key P k e [] all is = absurd cc
+at_key P k e (r ∷ records) all is = by (at_key P k e records all.1) (same_key k r.0) refl is
   where
-    by : (lookup (same_key k) records ≡ Some e → IsKept z image (k, e)) → (b : Bool) → same_key k r.0 ≡ b → cond b (Some r.1) (lookup (same_key k) records) ≡ Some e → IsKept z image (k, e)
-    by more true there found =
-        let here : r.1 ≡ e = ap (entry_or e) found in
-        subst (λ (k : Key). IsKept z image (k, e)) (sym (same_key_exact k r.0 there)) (subst (λ (e : Entry). IsKept z image (r.0, e)) here all.0)
-    by more false there found = more found
+    by : (lookup (same_key k) records ≡ Some e → P (k, e)) → (b : Bool) → same_key k r.0 ≡ b → cond b (Some r.1) (lookup (same_key k) records) ≡ Some e → P (k, e)
+    by more true there is =
+        let here : r.1 ≡ e = ap (entry_or e) is in
+        subst (λ (k : Key). P (k, e)) (sym (same_key_exact k r.0 there)) (subst (λ (e : Entry). P (r.0, e)) here all.0)
+    by more false there is = more is
 
 -- of an image of a history, the column of a record that is held is that of the history
 pub columns_are_kept : (z : History) (image : List ℕ) → IsImageOf z image → (k : Key) (e : Entry) → lookup (same_key k) (opened_of z).index.records ≡ Some e → (col : Column) → column_at image e col ≡ column_in z k col
@@ -328,4 +326,4 @@ columns_are_kept z image h k e found =
     let is : image ≡ file z ++ rest = sym (take-append-drop n image) ∙ ap (λ (l : List ℕ). l ++ rest) h.begins in
     let text : drop 17 image ≡ body ++ rest = ap (drop 17) (is ∙ append_assoc (header z.params) body rest) in
     let kept = all_kept z image (omega (arith, large.0)) (omega (arith, large.1)) [] z.batches rest (bare z.params) refl (record { params = refl; count = refl; number = refl; kept = tt }) (omega arith) text in
-    found_kept z image k e (opened_of z).index.records kept found
+    at_key (IsKept z image) k e (opened_of z).index.records kept found

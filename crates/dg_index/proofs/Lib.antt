@@ -17,4 +17,5 @@ pub mod IndexKeyUniqueness
 pub mod EverAddedBounds
 pub mod RecentEventPieces
 pub mod OpenedIndexRecords
-pub mod HistoryTimes
+pub mod OpenedLegalHistories
+pub mod HeldRecords

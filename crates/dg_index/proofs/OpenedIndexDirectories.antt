@@ -2,7 +2,7 @@
 use Rattle.std.proofs.Common.{◌≡◌, ℕ, zero, suc, ◌+◌, ◌-◌, ◌*◌, ◌^◌, ◌<◌, ◌≤◌, Bool, true, false, cond, not, List, [], ◌∷◌, ◌++◌, length, get_or, take, drop, map, Option, Some, None, Ok, refl, sym, ap, ◌∙◌, append_assoc, append-nil, arith, length-append, length-drop}
 use Rattle.std.specs.Prelude.{◌&&◌, ◌==◌, nat_le, option_and_then, sum_by}
 use Rattle.std.specs.List.{flat_map}
-use Rattle.std.proofs.lemmas.Bool.{and_from, leb-true, le-leb, eq-eqb, le-ltb}
+use Rattle.std.proofs.lemmas.Bool.{and_from, leb-true, le-leb, eq-eqb, le-ltb, and_parts}
 use Rattle.std.proofs.lemmas.List.{take_at}
 use Rattle.std.proofs.lemmas.List.Sums.{sum_by-cons}
 use Rattle.dg_graph.specs.declared.limits.TheConstants.{NAMES_MAX, TIME_MAX}
@@ -15,7 +15,7 @@ use Rattle.dg_index.specs.OpenedIndex.{may_be_named, Opened, Directory, lengths_
 use Rattle.dg_index.specs.declared.entry.BatchEntry.{BatchEntry}
 use Rattle.dg_index.specs.declared.entry.Row.{Row}
 use Rattle.dg_index.proofs.ImageTextRanges.{eight_read, four_read, behind}
-use Rattle.dg_index.proofs.ImageTextNames.{AreShort, names_read, new_short, both}
+use Rattle.dg_index.proofs.ImageTextNames.{AreShort, names_read, new_short}
 
 -- ---- rows of a table
 
@@ -121,10 +121,10 @@ lists_small (x ∷ all) timed small = ((timed.0, timed.1, small.0), lists_small 
 pub timed : (most first last : ℕ) (all : List StoredList) → last ≤ TIME_MAX → may_be_listed most first last (map list_row all) ≡ true → AreTimed all
 timed most first last [] le e = tt
 timed most first last (x ∷ all) le e =
-    let a = both (within most first last (total (lengths_of x.columns)) (Some (record { first = x.first; last = x.last }))) _ e in
-    let b = both (nat_le first x.first) _ a.0 in
-    let c = both (nat_le x.first x.last) _ b.1 in
-    let d = both (nat_le x.last last) _ c.1 in
+    let a = and_parts (within most first last (total (lengths_of x.columns)) (Some (record { first = x.first; last = x.last }))) _ e in
+    let b = and_parts (nat_le first x.first) _ a.0 in
+    let c = and_parts (nat_le x.first x.last) _ b.1 in
+    let d = and_parts (nat_le x.last last) _ c.1 in
     let in_turn : x.first ≤ x.last = leb-true _ _ c.0 in
     let ends : x.last ≤ last = leb-true _ _ d.0 in
     (omega (arith, in_turn, ends, le), omega (arith, ends, le), timed most x.last last all le a.1)
@@ -172,11 +172,11 @@ record Follows (events first last : ℕ) : Type 0 where
 
 follows_from : (count earliest : ℕ) (b : BatchEntry) → may_follow count earliest b ≡ true → Follows b.events b.ends.first b.ends.last
 follows_from count earliest b e =
-    let a = both (nat_le 1 b.events) _ e in
-    let c = both (nat_le b.events BATCH_LINES_MAX) _ a.1 in
-    let d = both (nat_le (count + b.events) EVENTS_MAX) _ c.1 in
-    let f = both (nat_le earliest b.ends.first) _ d.1 in
-    let g = both (nat_le b.ends.first b.ends.last) _ f.1 in
+    let a = and_parts (nat_le 1 b.events) _ e in
+    let c = and_parts (nat_le b.events BATCH_LINES_MAX) _ a.1 in
+    let d = and_parts (nat_le (count + b.events) EVENTS_MAX) _ c.1 in
+    let f = and_parts (nat_le earliest b.ends.first) _ d.1 in
+    let g = and_parts (nat_le b.ends.first b.ends.last) _ f.1 in
     record { few = leb-true _ _ c.0; rises = leb-true _ _ g.0; in_time = leb-true _ _ g.1 }
 
 module _ (x : Opened) (s : Segment) (may : MayStand x s) (few : length (blobs s) < 2 ^ 64) where
@@ -191,8 +191,8 @@ module _ (x : Opened) (s : Segment) (may : MayStand x s) (few : length (blobs s)
       let lists : List ℕ = flat_map list_bytes s.lists in
       let deltas : List ℕ = flat_map lengths_bytes s.deltas in
       let end : ℕ = 28 + length names in
-      let few_names : length s.names ≤ NAMES_MAX = omega (arith, leb-true (length x.names + length s.names) NAMES_MAX (both (are_new x.names s.names) _ may.named).1) in
-      let short : AreShort s.names = new_short x.names s.names (both (are_new x.names s.names) _ may.named).0 in
+      let few_names : length s.names ≤ NAMES_MAX = omega (arith, leb-true (length x.names + length s.names) NAMES_MAX (and_parts (are_new x.names s.names) _ may.named).1) in
+      let short : AreShort s.names = new_short x.names s.names (and_parts (are_new x.names s.names) _ may.named).0 in
       let small = all_small (stored_in s) few in
       let parts = small_parts (map (λ (x : StoredList). x.columns) s.lists) (s.deltas ++ s.piece ∷ []) small in
       let others = small_parts s.deltas (s.piece ∷ []) parts.1 in

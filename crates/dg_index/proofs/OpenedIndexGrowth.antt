@@ -1,14 +1,11 @@
 -- The file of a history and what it is opened as, with one batch more.
 use Rattle.std.proofs.Common.{◌≡◌, ℕ, ◌+◌, List, [], ◌∷◌, ◌++◌, length, sym, ap, ◌∙◌, append_assoc, append-nil, arith, length-append}
-use Rattle.std.specs.List.{flat_map}
 use Rattle.dg_graph.specs.declared.event.Event.{Event}
 use Rattle.dg_history.specs.declared.params.Params.{Params}
 use Rattle.dg_index.specs.FileOfHistory.{header, segment_bytes, segment_of, segments_from, file, size}
 use Rattle.dg_history.specs.History.{History, Batch, events_of, with_batch}
+use Rattle.dg_history.proofs.LegalHistories.{events_among}
 use Rattle.dg_index.specs.OpenedIndex.{Opened, bare, with_segment, opened_onto, opened_of}
-
-abbrev events_among : List Batch → List Event
-events_among batches = flat_map (λ (b : Batch). b.events) batches
 
 -- the events behind some, with those of batches
 pub behind_all : (before : List Event) (b : Batch) (batches : List Batch) → (before ++ b.events) ++ events_among batches ≡ before ++ events_among (b ∷ batches)

@@ -1,15 +1,11 @@
 -- An image of a history is opened as what the history is opened as.
-use Rattle.std.proofs.Common.{◌≡◌, ℕ, zero, suc, ◌+◌, ◌-◌, ◌*◌, ◌<◌, ◌≤◌, Bool, true, false, cond, List, [], ◌∷◌, ◌++◌, length, get_or, take, drop, map, Some, None, Result, Ok, Err, refl, sym, ap, subst, ◌∙◌, append_assoc, arith, length-append, length-drop, length-take-le, take-add, drop-drop, add-mul, div-mul-le_self, div-le_self}
+use Rattle.std.proofs.Common.{◌≡◌, ℕ, zero, suc, ◌+◌, ◌-◌, ◌*◌, ◌<◌, ◌≤◌, true, false, cond, List, [], ◌∷◌, ◌++◌, length, get_or, take, drop, map, Some, None, Ok, Err, refl, sym, ap, subst, ◌∙◌, append_assoc, arith, length-append, length-drop, length-take-le, take-add, drop-drop, add-mul, div-mul-le_self, div-le_self}
 use lib.Seq.{take-append-le}
-use Rattle.std.specs.Prelude.{◌≢◌, All, nat_lt, nat_le, ◌==◌, ◌&&◌, ◌||◌, not}
-use Rattle.std.specs.List.{flat_map}
-use Rattle.std.proofs.lemmas.Bool.{and_from, ltb-false, leb-true, le-leb, eq-eqb, le-ltb, ne_eqb}
+use Rattle.std.specs.Prelude.{◌≢◌, nat_le, ◌==◌, ◌&&◌, ◌||◌, not}
+use Rattle.std.proofs.lemmas.Bool.{and_from, and_right, le-leb, eq-eqb, le-ltb, ne_eqb}
 use Rattle.std.proofs.lemmas.List.{drop_more, take-append-drop, length-map}
 use Rattle.std.proofs.lemmas.List.Sums.{sum_by_push}
 use Rattle.std.proofs.lemmas.Option.{slice_get_within, get_or_from_slice_get}
-use Rattle.dg_graph.specs.declared.element.Element.{Element}
-use Rattle.dg_graph.specs.declared.event.Body.{Body}
-use Rattle.dg_graph.specs.declared.event.Change.{Change}
 use Rattle.dg_graph.specs.declared.event.Event.{Event}
 use Rattle.dg_graph.specs.declared.limits.TheConstants.{NAMES_MAX, TIME_MAX}
 use Rattle.dg_history.specs.declared.limits.TheConstants.{BATCH_LINES_MAX, EVENTS_MAX, FILE_BYTES_MAX}
@@ -18,18 +14,18 @@ use Rattle.dg_history.specs.declared.node.Key.TheVariants as key
 use Rattle.dg_graph.specs.declared.function.Function.{Function}
 use Rattle.dg_graph.specs.declared.function.Function.TheVariants as function
 use Rattle.dg_history.specs.declared.params.Params.{Params}
-use Rattle.dg_graph.specs.CompletedChanges.{completed, event_of, go_on, on_value}
 use Rattle.dg_graph.specs.Columns.{four}
-use Rattle.dg_graph.specs.Completion.{complete}
-use Rattle.dg_graph.specs.Effect.{forwards}
 use Rattle.dg_index.specs.FileOfHistory.{header, function_byte, Stored, StoredList, Segment, directory, segment_bytes, segment_of, segments_from, stored_list, stored, file}
+use Rattle.dg_history.specs.EventTimes.{RisesFrom}
 use Rattle.dg_history.specs.History.{first_time_of, History, Batch, are_parameters, names_of, span_of, last_time_from, earliest_next}
-use Rattle.dg_history.specs.LegalHistory.{IsLegalBatch, AreLegalAfter, FitsEvent}
+use Rattle.dg_history.specs.LegalHistory.{IsLegalBatch, AreLegalAfter}
+use Rattle.dg_history.proofs.EventTimes.{earliest_behind, first_and_last, last_earliest, last_in_time, last_some, last_two, rises_join, rises_last, rises_later, rises_parts}
+use Rattle.dg_history.proofs.LegalHistories.{batch_rises, events_among, names_among}
+use Rattle.dg_history.proofs.ParameterRanges.{in_range}
 use Rattle.dg_index.specs.ImageOfHistory.{is_blank, IsImageOf}
 use Rattle.dg_graph.specs.Names.{are_new}
 use Rattle.dg_index.specs.OpenedIndex.{No_index, may_be_named, rows_in, Opened, bare, opening, opened_of, opened_onto, with_segment, directory_of, list_row, record_row, laid, total, last_list, last_or, first_in, earliest_in, event_total, may_follow, lengths_of, list_bytes_max, may_be_listed, within, read_on, opened_or, opened_by, keys_next, MayStand}
 use Rattle.dg_index.specs.ImageText.{params_in, params_with, function_in, four_at}
-use Rattle.dg_graph.specs.declared.event.TheConstants.{REASON_TIME}
 use Rattle.dg_index.specs.Hierarchy.{numbers, leaves}
 use Rattle.dg_index.specs.IndexRecords.{Events, record_among, closed_list, deltas_due, lists_due}
 use Rattle.dg_index.specs.declared.entry.Entry.{Entry}
@@ -39,7 +35,7 @@ use Rattle.dg_index.proofs.OpenedIndexDirectories.{map_last, stands_next, read_n
 use Rattle.dg_index.proofs.ListBytes.{list_fits}
 use Rattle.dg_index.proofs.HierarchyCounts.{deltas_fit, numbers_length}
 use Rattle.dg_index.proofs.HierarchyStability.{leaves_more}
-use Rattle.dg_index.proofs.ImageTextNames.{both, new_parts}
+use Rattle.dg_index.proofs.ImageTextNames.{new_parts}
 use Rattle.dg_index.proofs.ImageTextRanges.{four_read, behind, byte_read}
 
 record Follows (count earliest events first last : ℕ) : Type 0 where
@@ -57,68 +53,17 @@ follows_to count earliest b f =
 
 -- ---- the times of a legal batch
 
-abbrev pub Rises : ℕ → List Event → Type 0
-Rises t [] = Unit {0}
-Rises t (e ∷ events) = (t ≤ e.time) × Rises e.time events
-
-pub rises_last : (t : ℕ) (events : List Event) → Rises t events → t ≤ last_time_from t events
-rises_last t [] r = omega arith
-rises_last t (e ∷ events) r = omega (arith, r.0, rises_last e.time events r.1)
-
-time_in : Result Event ℕ → ℕ
-time_in (Ok e) = e.time
-time_in (Err p) = 0
-
-event_read : (t reason : ℕ) (b : Bool) (r : Result Body ℕ) (e : Event) → cond b (Err reason) (on_value (λ (body : Body). record { time = t; body = body }) r) ≡ Ok e → (b ≡ false) × (t ≡ e.time)
-unfolding time_in
-event_read t reason true r e is = absurd cc
-event_read t reason false (Err p) e is = absurd cc
-event_read t reason false (Ok body) e is = (refl, ap time_in is)
-
-on_value_read : {A B E : Type 0} (f : A → B) (r : Result A E) (y : B) → on_value f r ≡ Ok y → (x : A) × (r ≡ Ok x) × (f x ≡ y)
-on_value_read f (Ok x) y e = (x, refl, cc)
-on_value_read f (Err d) y e = absurd cc
-
-go_on_read : (n : ℕ) (rest : Event → Result (List Event) (ℕ × ℕ)) (r : Result Event ℕ) (events : List Event) → go_on n rest r ≡ Ok events → (e : Event) × (r ≡ Ok e) × ((es : List Event) × (rest e ≡ Ok es) × (e ∷ es ≡ events))
-go_on_read n rest (Err reason) events is = absurd cc
-go_on_read n rest (Ok e) events is = (e, refl, on_value_read (λ (events : List Event). e ∷ events) (rest e) events is)
-
-pub completed_rises : (changes : List Change) (n earliest : ℕ) (set : List Element) (events : List Event) → completed n earliest set (map (λ (c : Change). Some c) changes) ≡ Ok events → Rises earliest events
-completed_rises [] n earliest set events is =
-    let none : [] ≡ events = cc in
-    subst (Rises earliest) none tt
-completed_rises (c ∷ changes) n earliest set events is =
-    let r = go_on_read n (λ e. completed (n + 1) e.time (forwards set e) (map (λ (c : Change). Some c) changes)) (event_of earliest set c) events is in
-    let e : Event = r.0 in
-    let due = event_read c.time REASON_TIME (nat_lt c.time earliest) (complete c.what set) e r.1 in
-    let late : earliest ≤ c.time = ltb-false c.time earliest due.0 in
-    let more = completed_rises changes (n + 1) e.time (forwards set e) r.2.0 r.2.1 in
-    subst (Rises earliest) r.2.2 (omega (arith, late, due.1), more)
-
-last_in_time : (names t : ℕ) (events : List Event) → t ≤ TIME_MAX → All (FitsEvent names) events → last_time_from t events ≤ TIME_MAX
-last_in_time names t [] le all = le
-last_in_time names t (e ∷ events) le all =
-    last_in_time names e.time events (all 0 e (omega arith)).0 (λ i d lt. all (suc i) d (omega (arith, lt)))
-
-first_and_last : (t : ℕ) (events : List Event) → 1 ≤ length events → Rises t events → (t ≤ first_time_of events) × (first_time_of events ≤ last_time_from 0 events)
-first_and_last t [] some r = absurd (omega arith)
-first_and_last t (e ∷ events) some r = (r.0, rises_last e.time events r.1)
-
 batch_follows : (names : List (List ℕ)) (before : List Event) (b : Batch) → IsLegalBatch names before b → length before + length b.events ≤ EVENTS_MAX → Follows (length before) (earliest_next (span_of before)) (length b.events) (first_time_of b.events) (last_time_from 0 b.events)
 batch_follows names before b legal few =
-    let rises = completed_rises legal.changes 1 (earliest_next (span_of before)) _ b.events legal.comes in
-    let ends = first_and_last (earliest_next (span_of before)) b.events legal.some rises in
-    record { some = legal.some; few = legal.few; all = few; later = ends.0; rises = ends.1; in_time = last_in_time (length names) 0 b.events (omega arith) legal.fits }
-
--- the earliest time after events of which the last ones are not none
-last_time_append : (t : ℕ) (xs : List Event) (e : Event) (es : List Event) → last_time_from t (xs ++ e ∷ es) ≡ last_time_from e.time es
-last_time_append t [] e es = refl
-last_time_append t (x ∷ xs) e es = last_time_append x.time xs e es
-
-earliest_behind : (before events : List Event) → 1 ≤ length events → earliest_next (span_of (before ++ events)) ≡ last_time_from 0 events + 1
-earliest_behind before [] some = absurd (omega arith)
-earliest_behind [] (e ∷ events) some = refl
-earliest_behind (x ∷ before) (e ∷ events) some = ap (λ n. n + 1) (last_time_append x.time before e events)
+    let ends = first_and_last (earliest_next (span_of before)) b.events legal.some (batch_rises names before b legal) in
+    record {
+      some = legal.some;
+      few = legal.few;
+      all = few;
+      later = ends.0;
+      rises = ends.1;
+      in_time = last_in_time 0 b.events (omega arith) (λ i d lt. (legal.fits i d lt).0);
+    }
 
 -- ---- the header
 
@@ -127,28 +72,16 @@ function_read function.Intersection = refl
 function_read function.Union = refl
 function_read function.Balanced = refl
 
-small_parameters : (l k : ℕ) → are_parameters l k ≡ true → (l ≤ 65536) × (k ≤ 65536)
-small_parameters l k e =
-    let a = both (nat_le 2 l) _ e in
-    let b = both (nat_le l 65536) _ a.1 in
-    let c = both (nat_le 2 k) _ b.1 in
-    let le : k ≤ 64 = leb-true k 64 c.1 in
-    (leb-true l 65536 b.0, omega arith)
-
 params_read : (params : Params) (rest : List ℕ) → are_parameters params.l params.k ≡ true → params_in (header params ++ rest) ≡ Some params
 params_read params rest e =
-    let small = small_parameters params.l params.k e in
-    let l : four_at (header params ++ rest) 8 ≡ params.l = four_read (header params ++ rest) 8 params.l (four params.k ++ (function_byte params.function ∷ rest)) (omega (arith, small.0)) refl in
-    let k : four_at (header params ++ rest) 12 ≡ params.k = four_read (header params ++ rest) 12 params.k (function_byte params.function ∷ rest) (omega (arith, small.1)) refl in
+    let range = in_range params.l params.k e in
+    let l : four_at (header params ++ rest) 8 ≡ params.l = four_read (header params ++ rest) 8 params.l (four params.k ++ (function_byte params.function ∷ rest)) (omega (arith, range.list_most)) refl in
+    let k : four_at (header params ++ rest) 12 ≡ params.k = four_read (header params ++ rest) 12 params.k (function_byte params.function ∷ rest) (omega (arith, range.arity_most)) refl in
     (λ i. params_with (l i) (k i) (function_read params.function i)) ∙ ap (λ b. cond b (Some params) None) e
-
-and_false : (b : Bool) → (b && false) ≡ false
-and_false true = refl
-and_false false = refl
 
 not_blank_open : (image : List ℕ) → 18 ≤ length image → get_or image 0 0 ≡ 1 → is_blank image ≡ false
 not_blank_open image long opens =
-    (λ i. le-ltb (length image) 18 long i || (length image == 18 && not (eq-eqb (get_or image 0 0) 1 opens i))) ∙ and_false (length image == 18)
+    (λ i. le-ltb (length image) 18 long i || (length image == 18 && not (eq-eqb (get_or image 0 0) 1 opens i))) ∙ and_right (length image == 18) false refl
 
 -- an image of the history, cut at its gate
 pub image_parts : (z : History) (image : List ℕ) → (h : IsImageOf z image) → image ≡ file z ++ h.gate ∷ drop (length (file z) + 1) image
@@ -160,33 +93,9 @@ image_parts z image h =
 
 -- ---- the times of lists
 
--- events in order lead to a last time that does not fall
-pub rises_parts : (t : ℕ) (xs ys : List Event) → Rises t (xs ++ ys) → Rises t xs × Rises (last_time_from t xs) ys
-rises_parts t [] ys r = (tt, r)
-rises_parts t (x ∷ xs) ys r =
-    let more = rises_parts x.time xs ys r.1 in
-    ((r.0, more.0), more.1)
-
-pub rises_join : (t : ℕ) (xs ys : List Event) → Rises t xs → Rises (last_time_from t xs) ys → Rises t (xs ++ ys)
-rises_join t [] ys r more = more
-rises_join t (x ∷ xs) ys r more = (r.0, rises_join x.time xs ys r.1 more)
-
-pub rises_later : (s t : ℕ) (events : List Event) → s ≤ t → Rises t events → Rises s events
-rises_later s t [] le r = tt
-rises_later s t (e ∷ events) le r = (omega (arith, le, r.0), r.1)
-
-last_two : (t : ℕ) (xs ys : List Event) → last_time_from t (xs ++ ys) ≡ last_time_from (last_time_from t xs) ys
-last_two t [] ys = refl
-last_two t (x ∷ xs) ys = last_two x.time xs ys
-
--- the last time of a list that is not empty does not depend on what was before
-last_some : (s t : ℕ) (events : List Event) → 1 ≤ length events → last_time_from s events ≡ last_time_from t events
-last_some s t [] some = absurd (omega arith)
-last_some s t (e ∷ events) some = refl
-
 -- a list of events that are in order, behind a time that is not later, and before others, and whose columns are no longer
 -- than the most
-list_within : (most t last bytes : ℕ) (list rest : List Event) → 1 ≤ length list → Rises t (list ++ rest) → last ≡ last_time_from t (list ++ rest) → bytes ≤ most
+list_within : (most t last bytes : ℕ) (list rest : List Event) → 1 ≤ length list → RisesFrom t (list ++ rest) → last ≡ last_time_from t (list ++ rest) → bytes ≤ most
     → within most t last bytes (Some (record { first = first_time_of list; last = last_time_from 0 list })) ≡ true
 list_within most t last bytes [] rest some r is fits = absurd (omega arith)
 list_within most t last bytes (e ∷ list) rest some r is fits =
@@ -208,7 +117,7 @@ module _ (p : Params) (pos : 0 < p.l) where
   next_drop : (events : List Event) (i : ℕ) → drop p.l (drop (i * p.l) events) ≡ drop ((i + 1) * p.l) events
   next_drop events i = drop-drop p.l (i * p.l) events ∙ ap (λ n. drop n events) (let e : i * p.l + p.l ≡ (i + 1) * p.l = omega (arith, add-mul i 1 p.l) in e)
 
-  pub are_listed : (events : List Event) (t i n last : ℕ) → (i + n) * p.l ≤ length events → Rises t (drop (i * p.l) events) → last ≡ last_time_from t (drop (i * p.l) events)
+  pub are_listed : (events : List Event) (t i n last : ℕ) → (i + n) * p.l ≤ length events → RisesFrom t (drop (i * p.l) events) → last ≡ last_time_from t (drop (i * p.l) events)
       → may_be_listed (list_bytes_max p.l) t last (map list_row (map (stored_list p events) (numbers i n))) ≡ true
   are_listed events t i zero last le r is = refl
   are_listed events t i (suc n) last le r is =
@@ -218,20 +127,20 @@ module _ (p : Params) (pos : 0 < p.l) where
       let sum : (i + suc n) * p.l ≡ (i + 1) * p.l + n * p.l = omega (arith, add-mul i (suc n) p.l, add-mul i 1 p.l, add-mul n 1 p.l) in
       let long = list_length events i (omega (arith, le, sum)) in
       let some : 1 ≤ length list = omega (arith, long, pos) in
-      let r_all : Rises t (list ++ rest) = subst (Rises t) (sym all) r in
+      let r_all : RisesFrom t (list ++ rest) = subst (RisesFrom t) (sym all) r in
       let parts = rises_parts t list rest r_all in
       let bytes : ℕ = total (lengths_of (stored (Events list))) in
       let fits : bytes ≤ list_bytes_max p.l = subst (λ n. bytes ≤ list_bytes_max n) long (list_fits list) in
       let here = list_within (list_bytes_max p.l) t last bytes list rest some r_all (is ∙ ap (last_time_from t) (sym all)) fits in
       let same : last_time_from t list ≡ last_time_from 0 list = last_some t 0 list some in
-      let r_next : Rises (last_time_from 0 list) (drop ((i + 1) * p.l) events) = subst (λ (l : List Event). Rises (last_time_from 0 list) l) (next_drop events i) (subst (λ s. Rises s rest) same parts.1) in
+      let r_next : RisesFrom (last_time_from 0 list) (drop ((i + 1) * p.l) events) = subst (λ (l : List Event). RisesFrom (last_time_from 0 list) l) (next_drop events i) (subst (λ s. RisesFrom s rest) same parts.1) in
       let is_next : last ≡ last_time_from (last_time_from 0 list) (drop ((i + 1) * p.l) events) = is ∙ ap (last_time_from t) (sym all) ∙ last_two t list rest ∙ (λ j. last_time_from (same j) (next_drop events i j)) in
       and_from (within (list_bytes_max p.l) t last bytes (Some (record { first = first_time_of list; last = last_time_from 0 list }))) _ here
       (are_listed events (last_time_from 0 list) (i + 1) n last (subst (λ c. c * p.l ≤ length events) (let e : i + suc n ≡ i + 1 + n = omega arith in e) le) r_next is_next)
 
 -- ---- the last list among the records
 
-last_list_more : (t : ℕ) (xs ys : List (Key × Entry)) → last_list t (xs ++ ys) ≡ last_list (last_list t xs) ys
+pub last_list_more : (t : ℕ) (xs ys : List (Key × Entry)) → last_list t (xs ++ ys) ≡ last_list (last_list t xs) ys
 last_list_more t [] ys = refl
 last_list_more t (x ∷ xs) ys = last_list_more (last_or t x.1.ends) xs ys
 
@@ -259,11 +168,11 @@ module _ (p : Params) (pos : 0 < p.l) where
 
 -- ---- what is opened behind so many batches
 
-first_more : (t : ℕ) (xs : List BatchEntry) (b : BatchEntry) → first_in t (xs ++ b ∷ []) ≡ first_in b.ends.first xs
+pub first_more : (t : ℕ) (xs : List BatchEntry) (b : BatchEntry) → first_in t (xs ++ b ∷ []) ≡ first_in b.ends.first xs
 first_more t [] b = refl
 first_more t (x ∷ xs) b = refl
 
-earliest_more : (t : ℕ) (xs : List BatchEntry) (b : BatchEntry) → earliest_in t (xs ++ b ∷ []) ≡ b.ends.last + 1
+pub earliest_more : (t : ℕ) (xs : List BatchEntry) (b : BatchEntry) → earliest_in t (xs ++ b ∷ []) ≡ b.ends.last + 1
 earliest_more t [] b = refl
 earliest_more t (x ∷ xs) b = earliest_more (x.ends.last + 1) xs b
 
@@ -271,11 +180,7 @@ first_front : (xs ys : List Event) → 1 ≤ length xs → first_time_of (xs ++ 
 first_front [] ys some = absurd (omega arith)
 first_front (x ∷ xs) ys some = refl
 
-pub last_earliest : (before : List Event) → last_time_from 0 before ≤ earliest_next (span_of before)
-last_earliest [] = omega arith
-last_earliest (e ∷ events) = omega arith
-
-rises_first : (events : List Event) → 1 ≤ length events → Rises 0 events → Rises (first_time_of events) events
+rises_first : (events : List Event) → 1 ≤ length events → RisesFrom 0 events → RisesFrom (first_time_of events) events
 rises_first [] some r = absurd (omega arith)
 rises_first (e ∷ events) some r = (omega arith, r.1)
 
@@ -287,7 +192,7 @@ pub record IsBehind (p : Params) (x : Opened) (before : List Event) (names : Lis
   pub names_are : x.names ≡ names
   pub first : (events : List Event) → 1 ≤ length events → first_in (first_time_of events) x.index.batches ≡ first_time_of (before ++ events)
   pub lists : (t : ℕ) → last_list t x.index.records ≡ last_time_from t (take (leaves p (length before) * p.l) before)
-  pub rises : Rises 0 before
+  pub rises : RisesFrom 0 before
 
 pub bare_is : (p : Params) → IsBehind p (bare p) [] []
 bare_is p = record {
@@ -316,8 +221,8 @@ module _ (p : Params) (pos : 0 < p.l) (two : 2 ≤ p.k) (x : Opened) (before : L
   after : ℕ
   after = leaves p (length before + length b.events)
 
-  more_rises : Rises 0 (before ++ b.events)
-  more_rises = rises_join 0 before b.events is.rises (rises_later (last_time_from 0 before) (earliest_next (span_of before)) b.events (last_earliest before) (completed_rises legal.changes 1 (earliest_next (span_of before)) _ b.events legal.comes))
+  more_rises : RisesFrom 0 (before ++ b.events)
+  more_rises = rises_join 0 before b.events is.rises (rises_later (last_time_from 0 before) (earliest_next (span_of before)) b.events (last_earliest before) (batch_rises all_names before b legal))
 
   up : leaves p (length before) ≤ leaves p (length before + length b.events)
   up = leaves_more p.l (length before) (length b.events) pos
@@ -337,7 +242,7 @@ module _ (p : Params) (pos : 0 < p.l) (two : 2 ≤ p.k) (x : Opened) (before : L
       let floor : last_list (first_in (first_time_of b.events) x.index.batches) x.index.records ≡ last_time_from start (take n events) =
       is.lists (first_in (first_time_of b.events) x.index.batches) ∙ (λ i. last_time_from (is.first b.events legal.some i) (front i)) in
       let whole : take n events ++ drop n events ≡ events = take-append-drop n events in
-      let parts = rises_parts start (take n events) (drop n events) (subst (Rises start) (sym whole) (rises_first events some more_rises)) in
+      let parts = rises_parts start (take n events) (drop n events) (subst (RisesFrom start) (sym whole) (rises_first events some more_rises)) in
       let last : last_time_from 0 b.events ≡ last_time_from (last_time_from start (take n events)) (drop n events) =
       last_some 0 (last_time_from start before) b.events legal.some ∙ sym (last_two start before b.events) ∙ ap (last_time_from start) (sym whole) ∙ last_two start (take n events) (drop n events) in
       (λ i. may_be_listed (list_bytes_max (is.params i).l) (floor i) (last_time_from 0 b.events) (map list_row (segment_of p before b).lists))
@@ -396,12 +301,6 @@ module _ (p : Params) (pos : 0 < p.l) (two : 2 ≤ p.k) (x : Opened) (before : L
         rises = more_rises;
       }
 
-abbrev events_among : List Batch → List Event
-events_among batches = flat_map (λ (b : Batch). b.events) batches
-
-abbrev names_among : List Batch → List (List ℕ)
-names_among batches = flat_map (λ (b : Batch). b.names) batches
-
 -- each batch is read behind those before it
 pub read_all : (p : Params) → 0 < p.l → 2 ≤ p.k → (batches : List Batch) (k : ℕ) (x : Opened) (before : List Event) (names all_names : List (List ℕ)) (image : List ℕ) (g : ℕ) (rest : List ℕ)
     → IsBehind p x before names → AreLegalAfter all_names before batches → are_new names (names_among batches) ≡ true → length names + length (names_among batches) ≤ NAMES_MAX
@@ -436,11 +335,7 @@ each_has_bytes p before [] = omega arith
 each_has_bytes p before (b ∷ more) = omega (arith, each_has_bytes p (before ++ b.events) more, length-append (segment_bytes (segment_of p before b)) (segments_from p (before ++ b.events) more))
 
 pub large_parameters : (l k : ℕ) → are_parameters l k ≡ true → (2 ≤ l) × (2 ≤ k)
-large_parameters l k e =
-    let a = both (nat_le 2 l) _ e in
-    let b = both (nat_le l 65536) _ a.1 in
-    let c = both (nat_le 2 k) _ b.1 in
-    (leb-true 2 l a.0, leb-true 2 k c.0)
+large_parameters l k e = let range = in_range l k e in (range.list_two, range.arity_two)
 
 pub images_are_opened : (z : History) (image : List ℕ) → IsImageOf z image → opening image ≡ Ok (opened_of z)
 images_are_opened z image h =

@@ -13,6 +13,7 @@ use Rattle.dg_history.specs.declared.params.Params.{Params}
 use Rattle.dg_history.specs.Keys.{same_key}
 use Rattle.dg_history.specs.History.{History, Batch, events_of, first_time_of, last_time_from}
 use Rattle.dg_history.specs.LegalHistory.{IsLegal}
+use Rattle.dg_history.proofs.LegalHistories.{events_among}
 use Rattle.dg_index.specs.FileOfHistory.{Stored, Segment, directory, stored_in, segment_bytes, segment_of, stored_list, stored}
 use Rattle.dg_index.specs.Hierarchy.{numbers, leaves, children}
 use Rattle.dg_index.specs.IndexRecords.{closed_list, record_among, column_in, deltas_of, inner_due, deltas_due_at, deltas_due, lists_due}
@@ -25,7 +26,7 @@ use Rattle.dg_index.specs.OpenedIndex.{Opened, bare, opened_of, opened_onto, wit
 use Rattle.dg_index.proofs.OpenedIndexDirectories.{map_last}
 use Rattle.dg_index.proofs.HierarchyCounts.{numbers_length}
 use Rattle.dg_index.proofs.IndexKeyRecords.{exists_held, found}
-use Rattle.dg_index.proofs.IndexRecordColumns.{Each, each_append, each_flat, each_number, each_map, Match, Tell, tell, segment_matches, list_right, events_among, same_key_exact}
+use Rattle.dg_index.proofs.IndexRecordColumns.{Each, at_key, each_append, each_flat, each_number, each_map, Match, Tell, tell, segment_matches, list_right}
 use Rattle.dg_index.proofs.EverAddedBounds.{kept_more}
 use Rattle.dg_index.proofs.OpenedIndexHistories.{large_parameters}
 use Rattle.dg_index.proofs.HierarchyStability.{leaves_more}
@@ -166,21 +167,6 @@ module _ (z : History) (pos : 0 < z.params.l) (wide : 0 < z.params.k) where
       (all_told (front ++ b ∷ []) more (with_segment x s) (is ∙ sym (append_assoc front (b ∷ []) more)) (told_next x front b more is so))
 
 -- ---- what is held at a key
-
-abbrev entry_or : Entry → Option Entry → Entry
-entry_or e None = e
-entry_or e (Some x) = x
-
--- what holds of each record holds of the one at a key
-at_key : (P : Key × Entry → Type 0) (k : Key) (e : Entry) (records : List (Key × Entry)) → Each P records → lookup (same_key k) records ≡ Some e → P (k, e)
-at_key P k e [] all is = absurd cc
-at_key P k e (r ∷ records) all is = by (at_key P k e records all.1) (same_key k r.0) refl is
-  where
-    by : (lookup (same_key k) records ≡ Some e → P (k, e)) → (b : Bool) → same_key k r.0 ≡ b → cond b (Some r.1) (lookup (same_key k) records) ≡ Some e → P (k, e)
-    by more true there is =
-        let here : r.1 ≡ e = ap (entry_or e) is in
-        subst (λ (k : Key). P (k, e)) (sym (same_key_exact k r.0 there)) (subst (λ (e : Entry). P (r.0, e)) here all.0)
-    by more false there is = more is
 
 module _ (z : History) (legal : IsLegal z) where
   opened_told : IsToldSoFar z (opened_of z) z.batches

@@ -2,7 +2,7 @@
 use Rattle.std.proofs.Common.{◌≡◌, ℕ, zero, suc, ◌+◌, ◌-◌, ◌<◌, ◌≤◌, Bool, true, false, cond, List, [], ◌∷◌, ◌++◌, length, get_or, take, drop, Some, None, Option, Result, Ok, Err, refl, ap, subst, ◌∙◌, arith}
 use Rattle.std.specs.Prelude.{◌==◌, ◌&&◌, ◌||◌, not, nat_le, option_and_then, codes}
 use Rattle.std.specs.Str.{bytes_eq}
-use Rattle.std.proofs.lemmas.Bool.{eq-eqb, ne_eqb, le-ltb, eqb-true, and_from, le-leb, leb-true}
+use Rattle.std.proofs.lemmas.Bool.{eq-eqb, ne_eqb, le-ltb, eqb-true, and_from, le-leb, leb-true, and_parts}
 use Rattle.dg_history.specs.declared.limits.TheConstants.{FILE_BYTES_MAX}
 use Rattle.dg_history.specs.declared.params.Params.{Params}
 use Rattle.dg_index.specs.ImageOfHistory.{is_blank}
@@ -12,7 +12,6 @@ use Rattle.dg_index.specs.FileOfHistory.{Segment, segment_bytes}
 use Rattle.dg_index.specs.OpenedSoFar.{OpensOn}
 use Rattle.dg_index.proofs.OpenedIndexDirectories.{stands_next, read_next, read_end}
 use Rattle.dg_index.proofs.ImageTextRanges.{Same, same_fewer, four_same, eight_same, byte_same, range_same, behind, byte_read}
-use Rattle.dg_index.proofs.ImageTextNames.{both}
 
 -- a turn behind an open gate
 turn : (k : ℕ) (image : List ℕ) (x : Opened) (d : Option Directory) → get_or image (x.index.used - 1) 0 ≡ 1 → directory_next x image ≡ d → read_on (suc k) image x ≡ go_on_with image x (read_on k image) d
@@ -34,7 +33,7 @@ opens_first image p there params = record {
 pub opens_closed : (image : List ℕ) (x : Opened) → OpensOn image x → (get_or image (x.index.used - 1) 0 == 1) ≡ false → opening image ≡ Ok x
 opens_closed image x o closed = o.is ∙ ap opened_or (read_end o.turns x image closed)
 
-some_turn : (n : ℕ) → 1 ≤ n → (k : ℕ) × (n ≡ suc k)
+pub some_turn : (n : ℕ) → 1 ≤ n → (k : ℕ) × (n ≡ suc k)
 some_turn zero le = absurd (omega (arith, le))
 some_turn (suc k) le = (k, refl)
 
@@ -65,8 +64,8 @@ next_same n x before after d same lt le is =
     let at : ℕ = x.index.used in
     let judge : List ℕ → Directory → Option Directory = λ image d. if_it_may (may_stand x (eight_at image (at + 8)) d) d in
     let w = then_some (is_within before at) (directory_in x.index (take (eight_at before at) (drop (at + 16) before))) (judge before) d is in
-    let w2 = both (nat_le (at + 16) (length before)) _ w.0 in
-    let w3 = both (nat_le (gate_behind before at + 1) (length before)) _ w2.1 in
+    let w2 = and_parts (nat_le (at + 16) (length before)) _ w.0 in
+    let w3 = and_parts (nat_le (gate_behind before at + 1) (length before)) _ w2.1 in
     let fits : gate_behind before at + 1 ≤ FILE_BYTES_MAX = leb-true _ _ w3.1 in
     let e0 = eight_same n at after before (omega (arith, le)) same in
     let e8 = eight_same n (at + 8) after before (omega (arith, le)) same in
@@ -82,7 +81,7 @@ record ReadsOn (after : List ℕ) (turns : ℕ) (y x : Opened) : Type 0 where
   far : y.index.used ≤ x.index.used
   is : read_on turns after y ≡ read_on left after x
 
-abbrev opened_in : Opened → Result Opened ℕ → Opened
+abbrev pub opened_in : Opened → Result Opened ℕ → Opened
 opened_in x (Ok y) = y
 opened_in x (Err offset) = x
 
@@ -139,7 +138,7 @@ was image x e = by (is_blank image) refl (params_in image) refl e
     by false there None are e = absurd cc
     by false there (Some p) are e = record { params = p; there = there; are = are; read = or_ok (read_on (length image) image (bare p)) x e }
 
-params_same : (n : ℕ) (image other : List ℕ) → 17 ≤ n → Same n image other → params_in image ≡ params_in other
+pub params_same : (n : ℕ) (image other : List ℕ) → 17 ≤ n → Same n image other → params_in image ≡ params_in other
 params_same n image other le same =
     let front : take 8 image ≡ take 8 other = same_fewer 8 n image other (omega arith) same in
     let l = four_same n 8 image other (omega arith) same in

@@ -5,13 +5,14 @@ use Rattle.std.proofs.lemmas.List.Concat.{flat_map-append}
 use Rattle.dg_graph.specs.declared.event.Event.{Event}
 use Rattle.dg_history.specs.declared.params.Params.{Params}
 use Rattle.dg_history.specs.History.{first_time_of, History, Batch, events_of, last_time_from}
+use Rattle.dg_history.proofs.LegalHistories.{events_among}
 use Rattle.dg_index.specs.Hierarchy.{leaves}
 use Rattle.dg_index.specs.IndexRecords.{piece_of, piece_at, recent_of}
 use Rattle.dg_index.specs.FileOfHistory.{segment_of}
 use Rattle.dg_index.specs.declared.entry.BatchEntry.{BatchEntry}
 use Rattle.dg_index.specs.OpenedIndex.{Opened, bare, with_segment, opened_onto, opened_of}
 use Rattle.dg_index.specs.RecentEvents.{recent_pieces, RecentPiece, pieces_ahead}
-use Rattle.dg_index.proofs.IndexRecordColumns.{piece_there, events_among}
+use Rattle.dg_index.proofs.IndexRecordColumns.{piece_there}
 use Rattle.dg_index.proofs.RecentEvents.{together, recent_pieces_are}
 
 abbrev pub noted : Batch → BatchEntry

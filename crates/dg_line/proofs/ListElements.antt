@@ -1,12 +1,7 @@
 -- An element of a list that has a property, and an element that is a value.
-use Rattle.std.proofs.Common.{◌≡◌, ℕ, zero, suc, ◌<◌, ◌⊎◌, inl, inr, Bool, true, false, ◌&&◌, List, [], ◌∷◌, ◌++◌, map, length, get_or, refl, sym, subst, arith}
+use Rattle.std.proofs.Common.{◌≡◌, ℕ, zero, suc, ◌<◌, ◌⊎◌, inl, inr, Bool, true, List, [], ◌∷◌, ◌++◌, map, length, get_or, refl, sym, subst, arith}
 use Rattle.std.specs.List.{Any, Contains, list_all}
-use Rattle.std.proofs.lemmas.Bool.{false≢true}
-
-pub both_true : (a b : Bool) → (a && b) ≡ true → (a ≡ true) × (b ≡ true)
-both_true true true e = (refl, refl)
-both_true true false e = absurd (false≢true e)
-both_true false b e = absurd (false≢true e)
+use Rattle.std.proofs.lemmas.Bool.{and_parts}
 
 pub any_first : {X : Type 0} (P : X → Type 0) (x : X) (xs : List X) → P x → Any P (x ∷ xs)
 any_first P x xs h = (0, x, omega arith, refl, h)
@@ -81,5 +76,5 @@ contains_cases {X} x y xs h = at h.0 h.1 h.2
 -- each element passes the test that all pass
 pub passes_at : {X : Type 0} (p : X → Bool) (xs : List X) (i : ℕ) (d : X) → list_all p xs ≡ true → i < length xs → p (get_or xs i d) ≡ true
 passes_at p [] i d e below = absurd (omega arith)
-passes_at p (x ∷ xs) zero d e below = (both_true (p x) (list_all p xs) e).0
-passes_at p (x ∷ xs) (suc i) d e below = passes_at p xs i d (both_true (p x) (list_all p xs) e).1 (omega arith)
+passes_at p (x ∷ xs) zero d e below = (and_parts (p x) (list_all p xs) e).0
+passes_at p (x ∷ xs) (suc i) d e below = passes_at p xs i d (and_parts (p x) (list_all p xs) e).1 (omega arith)

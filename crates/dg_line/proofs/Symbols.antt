@@ -1,7 +1,7 @@
 -- Lines of rows of symbols, as words with a space between each two.
 use Rattle.std.proofs.Common.{◌≡◌, ℕ, suc, ◌+◌, ◌*◌, ◌<◌, ◌≤◌, ◌^◌, ◌⊎◌, inl, inr, max, Bool, true, false, cond, not, ◌&&◌, nat_le, List, [], ◌∷◌, ◌++◌, length, get_or, take, drop, decimal, refl, sym, ap, ◌∙◌, subst, arith, ltb, add-one, drop-cons, length-append}
 use Rattle.std.specs.List.{AllByRecursion, AllZip, Contains, list_all, onto_first, position_or_len, before_first, after_first}
-use Rattle.std.proofs.lemmas.Bool.{ltb-true, ltb-false, leb-true, eqb-true, false≢true}
+use Rattle.std.proofs.lemmas.Bool.{ltb-true, ltb-false, leb-true, eqb-true, false≢true, and_parts, not-true}
 use Rattle.std.proofs.lemmas.Fmt.{length-decimal-le, digits_decimal}
 use Rattle.std.proofs.lemmas.Grind.{common_steps}
 use Rattle.std.proofs.lemmas.List.{take-append-drop, length-take-le, take_more}
@@ -15,14 +15,10 @@ use Rattle.dg_graph.specs.Words.{words}
 use Rattle.dg_line.specs.Space.{is_space}
 use Rattle.dg_line.specs.Prefixes.{IsLongestPrefix}
 use Rattle.dg_line.specs.Symbols.{Terminal, One_of, Number, IsWordOf, IsLineOf, IsLineOfOne, is_short_word, is_well_formed}
-use Rattle.dg_line.proofs.ListElements.{both_true, any_none, any_cases, any_left, any_either, contains_none, contains_cases}
+use Rattle.dg_line.proofs.ListElements.{any_none, any_cases, any_left, any_either, contains_none, contains_cases}
 use Rattle.dg_line.proofs.WordNumbers.{own}
 use Rattle.dg_line.proofs.SymbolNumbers.{told, is_number}
 use Rattle.dg_line.proofs.Prefixes.{Parted, Plain, stops, goes_on, same_prefix, no_prefix, either}
-
-not_true : (b : Bool) → not b ≡ true → b ≡ false
-not_true true e = absurd (false≢true e)
-not_true false e = refl
 
 -- ---- words without spaces
 
@@ -40,8 +36,8 @@ plain_digits (c ∷ cs) h = (not_space c (is_space c) refl h.0, plain_digits cs 
 spaceless : (word : List ℕ) → list_all (λ b. not (is_space b)) word ≡ true → AllByRecursion (λ b. is_space b ≡ false) word
 spaceless [] e = tt
 spaceless (b ∷ bs) e =
-    let h = both_true (not (is_space b)) (list_all (λ c. not (is_space c)) bs) e in
-    (not_true (is_space b) h.0, spaceless bs h.1)
+    let h = and_parts (not (is_space b)) (list_all (λ c. not (is_space c)) bs) e in
+    (not-true (is_space b) h.0, spaceless bs h.1)
 
 -- a word of a well-formed symbol has no space, and is short
 pub record IsFine (word : List ℕ) : Type 0 where
@@ -51,8 +47,8 @@ pub record IsFine (word : List ℕ) : Type 0 where
 fine_text : (texts : List (List ℕ)) (word : List ℕ) → list_all is_short_word texts ≡ true → Contains texts word → IsFine word
 fine_text [] word e h = absurd (contains_none word h)
 fine_text (text ∷ texts) word e h =
-    let here = both_true (is_short_word text) (list_all is_short_word texts) e in
-    let test = both_true (nat_le (length text) 20) (list_all (λ b. not (is_space b)) text) here.0 in
+    let here = and_parts (is_short_word text) (list_all is_short_word texts) e in
+    let test = and_parts (nat_le (length text) 20) (list_all (λ b. not (is_space b)) text) here.0 in
     elim (contains_cases text word texts h) [
       | inl is ↦ subst IsFine is (record {
         plain = All-from_recursion (λ b. is_space b ≡ false) text (spaceless text test.1);
@@ -79,12 +75,12 @@ pub record IsFineRange (least greatest : ℕ) : Type 0 where
 
 pub fine_range : (least greatest : ℕ) → is_well_formed (Number least greatest) ≡ true → IsFineRange least greatest
 fine_range least greatest e =
-    let first = both_true (nat_le least 1) (nat_le 1 greatest && ltb greatest (2 ^ 64)) e in
-    let second = both_true (nat_le 1 greatest) (ltb greatest (2 ^ 64)) first.1 in
+    let first = and_parts (nat_le least 1) (nat_le 1 greatest && ltb greatest (2 ^ 64)) e in
+    let second = and_parts (nat_le 1 greatest) (ltb greatest (2 ^ 64)) first.1 in
     record { low = leb-true least 1 first.0; some = leb-true 1 greatest second.0; small = ltb-true greatest (2 ^ 64) second.1 }
 
 pub fine_word : (t : Terminal) (word : List ℕ) → is_well_formed t ≡ true → IsWordOf t word → IsFine word
-fine_word (One_of texts) word e h = fine_text texts word (both_true (ltb 0 (length texts)) (list_all is_short_word texts) e).1 h
+fine_word (One_of texts) word e h = fine_text texts word (and_parts (ltb 0 (length texts)) (list_all is_short_word texts) e).1 h
 fine_word (Number least greatest) word e h = let range = fine_range least greatest e in fine_number least greatest word range.small h
 
 -- there is a word of the symbol
@@ -184,7 +180,7 @@ abbrev pub AreWellFormed : List Terminal → Type 0
 AreWellFormed row = list_all is_well_formed row ≡ true
 
 pub well_formed_first : (t : Terminal) (more : List Terminal) → AreWellFormed (t ∷ more) → (is_well_formed t ≡ true) × AreWellFormed more
-well_formed_first t more e = both_true (is_well_formed t) (list_all is_well_formed more) e
+well_formed_first t more e = and_parts (is_well_formed t) (list_all is_well_formed more) e
 
 -- there is a line of these symbols
 sample : (t : Terminal) (more : List Terminal) → AreWellFormed (t ∷ more) → (line : List ℕ) × IsLineOf (t ∷ more) line
@@ -258,8 +254,8 @@ pub lines_short : (rows : List (List Terminal)) (line : List ℕ) (most : ℕ) �
     → list_all (λ row. nat_le (length row) most) rows ≡ true → IsLineOfOne rows line → length line < 21 * most
 lines_short [] line most e few h = absurd (any_none (λ (row : List Terminal). IsLineOf row line) h)
 lines_short (row ∷ rows) line most e few h =
-    let formed = both_true (list_all is_well_formed row) (list_all (list_all is_well_formed) rows) e in
-    let sizes = both_true (nat_le (length row) most) (list_all (λ (r : List Terminal). nat_le (length r) most) rows) few in
+    let formed = and_parts (list_all is_well_formed row) (list_all (list_all is_well_formed) rows) e in
+    let sizes = and_parts (nat_le (length row) most) (list_all (λ (r : List Terminal). nat_le (length r) most) rows) few in
     elim (any_cases (λ (r : List Terminal). IsLineOf r line) row rows h) [
       | inl here ↦ omega (arith, line_short row line formed.0 here, leb-true (length row) most sizes.0)
       | inr later ↦ lines_short rows line most formed.1 sizes.1 later

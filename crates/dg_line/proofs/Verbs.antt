@@ -3,16 +3,16 @@
 --     one_row, two_row, three_row, no_words      what a reader of some words takes
 --     text_or, either_rows      what a reader takes that has a row of its own for one text of its word
 --     table_rows      what a table of verbs takes
-use Rattle.std.proofs.Common.{◌≡◌, ℕ, ◌⊎◌, inl, inr, IsTrue, Bool, true, false, cond, not, ◌&&◌, ◌||◌, is_some, Option, Some, None, List, [], ◌∷◌, ◌++◌, map, codes, replicate, option_and_then, refl, sym, subst}
+use Rattle.std.proofs.Common.{◌≡◌, ℕ, ◌⊎◌, inl, inr, IsTrue, Bool, true, false, cond, not, ◌&&◌, is_some, Option, Some, None, List, [], ◌∷◌, ◌++◌, map, codes, replicate, option_and_then, refl, sym, subst}
 use Rattle.std.specs.List.{AllZip, AllByRecursion, Any, Contains, list_any}
 use Rattle.std.specs.Option.{option_map}
-use Rattle.std.proofs.lemmas.Bool.{false≢true}
+use Rattle.std.proofs.lemmas.Bool.{false≢true, and_parts, or_left, or_right}
 use Rattle.std.proofs.lemmas.List.{append-nil}
 use Rattle.std.proofs.lemmas.Slice.Eq.{bytes_eq-Decides}
 use Rattle.dg_graph.specs.Verbs.{Verb, is_word, look_up, read_by, none_more, one, two_words, three}
 use Rattle.dg_graph.specs.Words.{number}
 use Rattle.dg_line.specs.Symbols.{Terminal, One_of, Number, IsWordOf}
-use Rattle.dg_line.proofs.ListElements.{both_true, any_first, any_none, any_cases, any_left, any_right, any_either, any_mapped, any_unmapped, any_weaker, contains_first, contains_later, contains_none, contains_cases}
+use Rattle.dg_line.proofs.ListElements.{any_first, any_none, any_cases, any_left, any_right, any_either, any_mapped, any_unmapped, any_weaker, contains_first, contains_later, contains_none, contains_cases}
 
 abbrev pub Is : {T : Type 0} → Option T → Type 0
 Is o = IsTrue (is_some o)
@@ -268,22 +268,14 @@ behind_gives word w ws rows h =
 behind_some : (word : List ℕ) (rows : List (List Terminal)) → Any (AreWordsOf []) (behind word rows) → ⊥
 behind_some word rows h = (any_unmapped (AreWordsOf []) (λ r. One_of (word ∷ []) ∷ r) rows h).4
 
-or_first : (a b : Bool) → a ≡ true → (a || b) ≡ true
-or_first true b e = refl
-or_first false b e = absurd (false≢true e)
-
-or_second : (a b : Bool) → b ≡ true → (a || b) ≡ true
-or_second true b e = refl
-or_second false b e = e
-
 -- the verb of a row of the table is in it
 named : {A : Type 0} (verbs : List (Verb A)) (all : AllByRecursion (λ (v : Verb A). Rows v.read) verbs) (w : List ℕ) (ws : List (List ℕ))
     → Any (AreWordsOf (w ∷ ws)) (table_rows verbs all) → list_any (λ (u : Verb A). is_word u.word w) verbs ≡ true
 named [] all w ws h = absurd (any_none (AreWordsOf (w ∷ ws)) h)
 named {A} (v ∷ verbs) all w ws h = elim (any_either (AreWordsOf (w ∷ ws)) (behind v.word all.0.rows) (table_rows verbs all.1) h) [
-  | inl here ↦ or_first (is_word v.word w) (list_any (λ (u : Verb A). is_word u.word w) verbs)
+  | inl here ↦ or_left (is_word v.word w) (list_any (λ (u : Verb A). is_word u.word w) verbs)
       ((bytes_eq-Decides v.word w).1 (behind_gives v.word w ws all.0.rows here).0)
-  | inr later ↦ or_second (is_word v.word w) (list_any (λ (u : Verb A). is_word u.word w) verbs) (named verbs all.1 w ws later)
+  | inr later ↦ or_right (is_word v.word w) (list_any (λ (u : Verb A). is_word u.word w) verbs) (named verbs all.1 w ws later)
 ]
 
 table_takes : {A : Type 0} (verbs : List (Verb A)) (all : AllByRecursion (λ (v : Verb A). Rows v.read) verbs) (w : List ℕ) (ws : List (List ℕ))
@@ -320,7 +312,7 @@ table_gives {A} (v ∷ verbs) all w ws e h =
     ]
   where
     tests : (not (list_any (λ (u : Verb A). is_word u.word v.word) verbs) ≡ true) × (are_distinct verbs ≡ true)
-    tests = both_true (not (list_any (λ (u : Verb A). is_word u.word v.word) verbs)) (are_distinct verbs) e
+    tests = and_parts (not (list_any (λ (u : Verb A). is_word u.word v.word) verbs)) (are_distinct verbs) e
 
     first : (b : Bool) → b ≡ true → Is (v.read ws) → Is (cond b (v.read ws) (look_up w verbs ws))
     first true same g = g

@@ -1,36 +1,18 @@
 -- Tests, look-ups in a set, and the values of keys.
-use Rattle.std.proofs.Common.{◌≡◌, ℕ, Bool, true, false, cond, not, ◌||◌, ◌&&◌, List, [], ◌∷◌, Option, Some, None, find, is_some, nat_eq, eqb, refl, sym, ap, ◌∙◌, ◌⊎◌, inl, inr}
+use Rattle.std.proofs.Common.{◌≡◌, ℕ, Bool, true, false, cond, ◌||◌, ◌&&◌, List, [], ◌∷◌, Option, Some, None, find, is_some, nat_eq, eqb, refl, sym, ap, ◌∙◌, ◌⊎◌, inl, inr}
 use Rattle.std.specs.Option.{option_eq}
 use Rattle.std.specs.List.{list_any}
-use Rattle.std.proofs.lemmas.Bool.{true≢false, false≢true, eqb-true, eq-eqb, or_left, or_right}
+use Rattle.std.proofs.lemmas.Bool.{true≢false, false≢true, and_parts, eqb-true, eq-eqb, or_cases}
 use Rattle.dg_graph.specs.declared.element.Element.{Element}
 use Rattle.dg_graph.specs.declared.element.Element.TheVariants as element
-use Rattle.dg_graph.specs.Completion.{is_node_value, is_edge_value, value_in, is_value_change}
+use Rattle.dg_graph.specs.Completion.{is_node_value, is_edge_value, value_in}
 use Rattle.dg_graph.specs.Elements.{has, same}
-use Rattle.dg_graph.proofs.Sets.{element_exact, same_itself}
+use Rattle.dg_graph.proofs.Sets.{element_exact}
 
 -- ---- tests
 
-pub both : (a b : Bool) → (a && b) ≡ true → (a ≡ true) × (b ≡ true)
-both true b e = (refl, e)
-both false b e = absurd (false≢true e)
-
-pub either : (a b : Bool) → (a || b) ≡ true → (a ≡ true) ⊎ (b ≡ true)
-either true b e = inl refl
-either false b e = inr e
-
-pub not_true : (b : Bool) → not b ≡ true → b ≡ false
-not_true true e = absurd (false≢true e)
-not_true false e = refl
-
 pub two_itself : (m n : ℕ) → (eqb m m && eqb n n) ≡ true
 two_itself m n = λ i. eq-eqb m m refl i && eq-eqb n n refl i
-
-pub same_value : (a b : Option ℕ) → option_eq nat_eq a b ≡ true → a ≡ b
-same_value None None e = refl
-same_value None (Some n) e = absurd (false≢true e)
-same_value (Some m) None e = absurd (false≢true e)
-same_value (Some m) (Some n) e = ap (λ v. Some v) (eqb-true m n e)
 
 pub other_value : (v : ℕ) (o : Option ℕ) → option_eq nat_eq (Some v) o ≡ false → o ≡ Some v → ⊥
 other_value v None e is = cc
@@ -40,20 +22,9 @@ other_value v (Some n) e is =
 
 -- ---- look-ups in a list
 
-pub found_in : (t : Element → Bool) (xs : List Element) (x : Element) → find t xs ≡ Some x → (has xs x ≡ true) × (t x ≡ true)
-found_in t [] x e = cc
-found_in t (y ∷ ys) x e = by (t y) refl e (found_in t ys x)
-  where
-    by : (b : Bool) → t y ≡ b → cond b (Some y) (find t ys) ≡ Some x → (find t ys ≡ Some x → (has ys x ≡ true) × (t x ≡ true))
-        → (has (y ∷ ys) x ≡ true) × (t x ≡ true)
-    by true is e rest =
-        let at : y ≡ x = cc in
-        (or_left (same x y) (has ys x) (ap (same x) at ∙ same_itself x), ap t (sym at) ∙ is)
-    by false is e rest = (or_right (same x y) (has ys x) (rest e).0, (rest e).1)
-
 pub found_none : (t : Element → Bool) (xs : List Element) → find t xs ≡ None → (x : Element) → has xs x ≡ true → t x ≡ false
 found_none t [] e x h = absurd (false≢true h)
-found_none t (y ∷ ys) e x h = by (t y) refl e (either (same x y) (has ys x) h) (λ none there. found_none t ys none x there)
+found_none t (y ∷ ys) e x h = by (t y) refl e (or_cases (same x y) (has ys x) h) (λ none there. found_none t ys none x there)
   where
     by : (b : Bool) → t y ≡ b → cond b (Some y) (find t ys) ≡ None → (same x y ≡ true) ⊎ (has ys x ≡ true)
         → (find t ys ≡ None → has ys x ≡ true → t x ≡ false) → t x ≡ false
@@ -79,7 +50,7 @@ pub node_attr_found : (id key : ℕ) (x : Element) → is_node_value id key x �
 node_attr_found id key (element.Node n) e v is = absurd (false≢true e)
 node_attr_found id key (element.Edge n s d b) e v is = absurd (false≢true e)
 node_attr_found id key (element.NodeAttr n k w) e v is =
-    let parts = both (eqb n id) (eqb k key) e in
+    let parts = and_parts (eqb n id) (eqb k key) e in
     let value : w ≡ v = cc in
     λ i. element.NodeAttr (eqb-true n id parts.0 i) (eqb-true k key parts.1 i) (value i)
 node_attr_found id key (element.EdgeAttr n k w) e v is = absurd (false≢true e)
@@ -89,7 +60,7 @@ edge_attr_found id key (element.Node n) e v is = absurd (false≢true e)
 edge_attr_found id key (element.Edge n s d b) e v is = absurd (false≢true e)
 edge_attr_found id key (element.NodeAttr n k w) e v is = absurd (false≢true e)
 edge_attr_found id key (element.EdgeAttr n k w) e v is =
-    let parts = both (eqb n id) (eqb k key) e in
+    let parts = and_parts (eqb n id) (eqb k key) e in
     let value : w ≡ v = cc in
     λ i. element.EdgeAttr (eqb-true n id parts.0 i) (eqb-true k key parts.1 i) (value i)
 
@@ -105,9 +76,6 @@ edge_valued id key (element.Edge n s d b) e = absurd (false≢true e)
 edge_valued id key (element.NodeAttr n k w) e = absurd (false≢true e)
 edge_valued id key (element.EdgeAttr n k w) e = refl
 
-pub old_is : (there old new : Option ℕ) → is_value_change there old new ≡ true → old ≡ there
-old_is there old new e = same_value old there (both (option_eq nat_eq old there) (is_some old || is_some new) e).0
-
 -- what is in the set is found
 pub find_some : (t : Element → Bool) (xs : List Element) (x : Element) → has xs x ≡ true → t x ≡ true → is_some (find t xs) ≡ true
 find_some t xs x there passes = by (find t xs) refl
@@ -119,7 +87,7 @@ find_some t xs x there passes = by (find t xs) refl
 -- an element that passes makes a test of all of them true
 pub none_passes : (t : Element → Bool) (xs : List Element) → list_any t xs ≡ false → (x : Element) → has xs x ≡ true → t x ≡ true → ⊥
 none_passes t [] e x there passes = false≢true there
-none_passes t (y ∷ ys) e x there passes = by (t y) refl e (either (same x y) (has ys x) there) (λ f k. none_passes t ys f x k passes)
+none_passes t (y ∷ ys) e x there passes = by (t y) refl e (or_cases (same x y) (has ys x) there) (λ f k. none_passes t ys f x k passes)
   where
     by : (b : Bool) → t y ≡ b → (b || list_any t ys) ≡ false → (same x y ≡ true) ⊎ (has ys x ≡ true) → (list_any t ys ≡ false → has ys x ≡ true → ⊥) → ⊥
     by true is f which rest = true≢false f

@@ -2,7 +2,7 @@
 use Rattle.std.proofs.Common.{◌≡◌, ℕ, Bool, true, false, cond, not, ◌&&◌, List, Option, Some, None, find, is_some, eqb, refl, sym, ap, subst, ◌∙◌, ◌⊎◌, inl, inr}
 use Rattle.std.specs.Option.{option_and_then}
 use Rattle.std.specs.List.{list_any}
-use Rattle.std.proofs.lemmas.Bool.{true≢false, false≢true, eqb-true, eq-eqb, or_left, or_right}
+use Rattle.std.proofs.lemmas.Bool.{true≢false, false≢true, and_parts, eqb-true, eq-eqb, not-true, or_cases, or_left, or_right}
 use Rattle.dg_graph.specs.declared.element.Element.{Element}
 use Rattle.dg_graph.specs.declared.element.Element.TheVariants as element
 use Rattle.dg_graph.specs.declared.event.Body.{Body}
@@ -12,7 +12,8 @@ use Rattle.dg_graph.specs.Effect.{moved, removed_by, added_by}
 use Rattle.dg_graph.specs.Elements.{has, same, put, take_out, with_one, without}
 use Rattle.dg_graph.specs.Graph.{IsGraph, has_needs}
 use Rattle.dg_graph.proofs.Sets.{element_exact, same_itself, has-put, has-take_out, IsSet-put, IsSet-take_out}
-use Rattle.dg_list.proofs.Completion.{both, either, not_true, two_itself, found_in, found_none, find_some, none_passes, differs_from, none_from, node_attr_found, edge_attr_found, node_valued, edge_valued, old_is}
+use Rattle.dg_graph.proofs.Completions.{found_in, old_is}
+use Rattle.dg_list.proofs.Completion.{two_itself, found_none, find_some, none_passes, differs_from, none_from, node_attr_found, edge_attr_found, node_valued, edge_valued}
 
 -- ---- an element more, an element less
 
@@ -20,7 +21,7 @@ put_keeps : (x : Element) (set : List Element) (q : Element) → has set q ≡ t
 put_keeps x set q h = has-put x set q ∙ or_right (same q x) (has set q) h
 
 put_from : (x : Element) (set : List Element) (q : Element) → has (put x set) q ≡ true → (q ≡ x) ⊎ (has set q ≡ true)
-put_from x set q h = by (either (same q x) (has set q) (sym (has-put x set q) ∙ h))
+put_from x set q h = by (or_cases (same q x) (has set q) (sym (has-put x set q) ∙ h))
   where
     by : (same q x ≡ true) ⊎ (has set q ≡ true) → (q ≡ x) ⊎ (has set q ≡ true)
     by (inl e) = inl (element_exact q x e)
@@ -31,8 +32,8 @@ out_keeps x set q other h = has-take_out x set q ∙ (λ i. not (differs_from q 
 
 out_from : (x : Element) (set : List Element) (q : Element) → has (take_out x set) q ≡ true → (same q x ≡ false) × (has set q ≡ true)
 out_from x set q h =
-    let parts = both (not (same q x)) (has set q) (sym (has-take_out x set q) ∙ h) in
-    (not_true (same q x) parts.0, parts.1)
+    let parts = and_parts (not (same q x)) (has set q) (sym (has-take_out x set q) ∙ h) in
+    (not-true (same q x) parts.0, parts.1)
 
 -- ---- what an element needs
 
@@ -42,7 +43,7 @@ needs_keep : (old new : List Element) (y : Element)
     → has_needs old y ≡ true → has_needs new y ≡ true
 needs_keep old new (element.Node id) f g h = refl
 needs_keep old new (element.Edge id s d b) f g h =
-    let parts = both (has_node old s) (has_node old d) h in
+    let parts = and_parts (has_node old s) (has_node old d) h in
     let first = f s (or_left (eqb s s) (eqb d s) (eq-eqb s s refl)) parts.0 in
     let last = f d (or_right (eqb s d) (eqb d d) (eq-eqb d d refl)) parts.1 in
     λ i. first i && last i
@@ -241,23 +242,23 @@ module _ (set : List Element) (g : IsGraph set) where
   pub graph_forwards : (b : Body) → is_change_of set b ≡ true → IsGraph (with_one (without set (removed_by b)) (added_by b))
   graph_forwards (body.NodeAdded id) e = put_graph (element.Node id) set g refl (λ y there. refl)
   graph_forwards (body.NodeRemoved id) e =
-      let free = not_true (list_any (needs_node id) set) (both (has_node set id) (not (list_any (needs_node id) set)) e).1 in
+      let free = not-true (list_any (needs_node id) set) (and_parts (has_node set id) (not (list_any (needs_node id) set)) e).1 in
       out_graph (element.Node id) set g (node_spared id free)
   graph_forwards (body.EdgeAdded id s d b) e =
-      let parts = both (not (is_some (edge_of set id))) (has_node set s && has_node set d) e in
-      let none = none_from (edge_of set id) (not_true (is_some (edge_of set id)) parts.0) in
+      let parts = and_parts (not (is_some (edge_of set id))) (has_node set s && has_node set d) e in
+      let none = none_from (edge_of set id) (not-true (is_some (edge_of set id)) parts.0) in
       put_graph (element.Edge id s d b) set g parts.1 (λ y there. found_none (is_edge id) set none y there)
   graph_forwards (body.EdgeRemoved id s d b) e =
       let found = is_found (edge_of set id) (element.Edge id s d b) in
-      let free = not_true (list_any (needs_edge id) set) (both found (not (list_any (needs_edge id) set)) e).1 in
+      let free = not-true (list_any (needs_edge id) set) (and_parts found (not (list_any (needs_edge id) set)) e).1 in
       out_graph (element.Edge id s d b) set g (edge_spared id s d b free)
   graph_forwards (body.NodeAttr id key old new) e =
-      let parts = both (has_node set id) (is_value_change (node_value set id key) old new) e in
+      let parts = and_parts (has_node set id) (is_value_change (node_value set id key) old new) e in
       value_graph set g (is_node_value id key) (element.NodeAttr id key) (node_attr_found id key) (node_valued id key)
       (g.one_node_value id key) (λ v y. refl) (λ v n is. cc) (λ v n f. false≢true f) (λ v. parts.0) old new
       (old_is (node_value set id key) old new parts.1)
   graph_forwards (body.EdgeAttr id key old new) e =
-      let parts = both (is_some (edge_of set id)) (is_value_change (edge_value set id key) old new) e in
+      let parts = and_parts (is_some (edge_of set id)) (is_value_change (edge_value set id key) old new) e in
       value_graph set g (is_edge_value id key) (element.EdgeAttr id key) (edge_attr_found id key) (edge_valued id key)
       (g.one_edge_value id key) (λ v y. refl) (λ v n is. cc) (λ v n f. false≢true f) (λ v. parts.0) old new
       (old_is (edge_value set id key) old new parts.1)

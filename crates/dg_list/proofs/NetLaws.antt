@@ -2,7 +2,7 @@
 use Rattle.std.proofs.Common.{◌≡◌, ℕ, Bool, true, false, cond, not, ◌&&◌, List, [], ◌∷◌, Option, Some, None, IfSome, find, is_some, nat_eq, refl, sym, ap, subst, ◌∙◌}
 use Rattle.std.specs.Option.{option_map, option_and_then, option_eq}
 use Rattle.std.specs.List.{list_any}
-use Rattle.std.proofs.lemmas.Bool.{true≢false, false≢true, eq-eqb}
+use Rattle.std.proofs.lemmas.Bool.{true≢false, false≢true, and_parts, eq-eqb, not-true}
 use Rattle.dg_graph.specs.declared.element.Element.{Element}
 use Rattle.dg_graph.specs.declared.element.Element.TheVariants as element
 use Rattle.dg_graph.specs.declared.event.Body.{Body}
@@ -13,7 +13,8 @@ use Rattle.dg_graph.specs.Elements.{has}
 use Rattle.dg_graph.specs.Graph.{IsGraph}
 use Rattle.dg_graph.proofs.Sets.{element_exact}
 use Rattle.dg_list.specs.NetLaws.{ChangesAreExact, ChangesKeepGraphs}
-use Rattle.dg_list.proofs.Completion.{both, not_true, two_itself, other_value, found_in, found_none, absent, none_from, node_attr_found, edge_attr_found, node_valued, edge_valued, old_is}
+use Rattle.dg_graph.proofs.Completions.{found_in, old_is}
+use Rattle.dg_list.proofs.Completion.{two_itself, other_value, found_none, absent, none_from, node_attr_found, edge_attr_found, node_valued, edge_valued}
 use Rattle.dg_list.proofs.Graph.{graph_forwards}
 
 -- Values of a key, each in an element that the test finds, of which the set has one at the most.
@@ -76,33 +77,33 @@ edge_found set id x e = by (edge_of set id) refl e
 module _ (set : List Element) (g : IsGraph set) where
   removed_there : (b : Body) → is_change_of set b ≡ true → IfSome (removed_by b) (λ x. has set x ≡ true)
   removed_there (body.NodeAdded id) e = tt
-  removed_there (body.NodeRemoved id) e = (both (has_node set id) (not (list_any (needs_node id) set)) e).0
+  removed_there (body.NodeRemoved id) e = (and_parts (has_node set id) (not (list_any (needs_node id) set)) e).0
   removed_there (body.EdgeAdded id s d b) e = tt
   removed_there (body.EdgeRemoved id s d b) e =
       let x = element.Edge id s d b in
-      edge_found set id x (both (is_found (edge_of set id) x) (not (list_any (needs_edge id) set)) e).0
+      edge_found set id x (and_parts (is_found (edge_of set id) x) (not (list_any (needs_edge id) set)) e).0
   removed_there (body.NodeAttr id key old new) e =
-      let value = (both (has_node set id) (is_value_change (node_value set id key) old new) e).1 in
+      let value = (and_parts (has_node set id) (is_value_change (node_value set id key) old new) e).1 in
       value_removed set (is_node_value id key) (element.NodeAttr id key) (node_attr_found id key) (node_valued id key) (λ v. two_itself id key)
       (g.one_node_value id key) old new (old_is (node_value set id key) old new value)
   removed_there (body.EdgeAttr id key old new) e =
-      let value = (both (is_some (edge_of set id)) (is_value_change (edge_value set id key) old new) e).1 in
+      let value = (and_parts (is_some (edge_of set id)) (is_value_change (edge_value set id key) old new) e).1 in
       value_removed set (is_edge_value id key) (element.EdgeAttr id key) (edge_attr_found id key) (edge_valued id key) (λ v. two_itself id key)
       (g.one_edge_value id key) old new (old_is (edge_value set id key) old new value)
 
   added_absent : (b : Body) → is_change_of set b ≡ true → IfSome (added_by b) (λ x. has set x ≡ false)
-  added_absent (body.NodeAdded id) e = not_true (has_node set id) e
+  added_absent (body.NodeAdded id) e = not-true (has_node set id) e
   added_absent (body.NodeRemoved id) e = tt
   added_absent (body.EdgeAdded id s d b) e =
-      let none = not_true (is_some (edge_of set id)) (both (not (is_some (edge_of set id))) (has_node set s && has_node set d) e).0 in
+      let none = not-true (is_some (edge_of set id)) (and_parts (not (is_some (edge_of set id))) (has_node set s && has_node set d) e).0 in
       absent (is_edge id) set (element.Edge id s d b) (none_from (edge_of set id) none) (eq-eqb id id refl)
   added_absent (body.EdgeRemoved id s d b) e = tt
   added_absent (body.NodeAttr id key old new) e =
-      let value = (both (has_node set id) (is_value_change (node_value set id key) old new) e).1 in
+      let value = (and_parts (has_node set id) (is_value_change (node_value set id key) old new) e).1 in
       value_added set (is_node_value id key) (element.NodeAttr id key) (node_attr_found id key) (node_valued id key) (λ v. two_itself id key)
       (g.one_node_value id key) old new (old_is (node_value set id key) old new value)
   added_absent (body.EdgeAttr id key old new) e =
-      let value = (both (is_some (edge_of set id)) (is_value_change (edge_value set id key) old new) e).1 in
+      let value = (and_parts (is_some (edge_of set id)) (is_value_change (edge_value set id key) old new) e).1 in
       value_added set (is_edge_value id key) (element.EdgeAttr id key) (edge_attr_found id key) (edge_valued id key) (λ v. two_itself id key)
       (g.one_edge_value id key) old new (old_is (edge_value set id key) old new value)
 

@@ -14,7 +14,7 @@ use Rattle.dg_graph.specs.Replay.{replay_from}
 use Rattle.dg_graph.proofs.ExactEvents.{IsSet-with_one, IsSet-without, IsSet-forwards, IsSet-replay_from}
 use Rattle.dg_graph.proofs.Sets.{has-put, has-take_out, same_members}
 use Rattle.dg_delta.specs.Deltas.{applied_in_turn}
-use Rattle.dg_delta.proofs.Deltas.{edited, has-edited, IsSet-edited, can_be_cut, applies_each_in_turn}
+use Rattle.dg_delta.proofs.Deltas.{edited, has-edited, IsSet-edited, can_be_cut, applies_each_in_turn, in_turn-append}
 use Rattle.dg_event.proofs.EffectLaws.{undone}
 use Rattle.dg_graph.specs.ExactEvents.{effect_of, IsExact, AreChangesOf}
 use Rattle.dg_list.specs.Lists.{counts}
@@ -105,7 +105,7 @@ one_applied set removed added s =
     turned false false true = refl
     turned false false false = refl
 
-replays_in_turn : (events : List Event) (set : List Element) → IsSet set → applied_in_turn (map effect_of events) set ≡ replay_from set events
+pub replays_in_turn : (events : List Event) (set : List Element) → IsSet set → applied_in_turn (map effect_of events) set ≡ replay_from set events
 replays_in_turn [] set s = refl
 replays_in_turn (e ∷ events) set s =
     ap (applied_in_turn (map effect_of events)) (one_applied set (removed_by e.body) (added_by e.body) s)
@@ -116,16 +116,12 @@ pub replays : (d : Delta) (events : List Event) → Composes d (map effect_of ev
 replays d events composes set s =
     applies_each_in_turn d (map effect_of events) set composes s ∙ replays_in_turn events set s
 
-in_turn-append : (xs ys : List Delta) (set : List Element) → applied_in_turn (xs ++ ys) set ≡ applied_in_turn ys (applied_in_turn xs set)
-in_turn-append [] ys set = refl
-in_turn-append (d ∷ xs) ys set = in_turn-append xs ys (applied d set)
-
 one_back : (e : Event) (set : List Element) → IsSet set → IsExact set e → applied (back_of e) (forwards set e) ≡ set
 one_back e set s exact =
     one_applied (forwards set e) (added_by e.body) (removed_by e.body) (IsSet-forwards set e s)
     ∙ undone set (removed_by e.body) (added_by e.body) s exact.removed exact.added
 
-back_in_turn : (events : List Event) (set : List Element) → IsSet set → AreChangesOf set events → applied_in_turn (map back_of (reverse events)) (replay_from set events) ≡ set
+pub back_in_turn : (events : List Event) (set : List Element) → IsSet set → AreChangesOf set events → applied_in_turn (map back_of (reverse events)) (replay_from set events) ≡ set
 back_in_turn [] set s changes = refl
 back_in_turn (e ∷ events) set s changes =
     ap (λ l. applied_in_turn l (replay_from (forwards set e) events)) (cut_back (e ∷ events) (e ∷ []) events refl)

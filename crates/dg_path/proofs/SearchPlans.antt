@@ -3,7 +3,7 @@ use Rattle.std.proofs.Common.{◌≡◌, ℕ, zero, suc, ◌+◌, ◌≤◌, ◌
 use Rattle.std.specs.Prelude.{slice_get, not, ◌==◌, ◌&&◌, ◌||◌, nat_lt, nat_le, ◌⊎◌}
 use Rattle.std.specs.Option.{option_map}
 use Rattle.std.specs.List.{list_all, list_any}
-use Rattle.std.proofs.lemmas.Bool.{cases_eq, cases_lt, eqb-true, leb-true, ltb-true, eq-eqb, lt-ltb, false≢true}
+use Rattle.std.proofs.lemmas.Bool.{cases_eq, cases_lt, eqb-true, leb-true, ltb-true, eq-eqb, lt-ltb, false≢true, and_parts, or_cases, not-true}
 use Rattle.std.proofs.lemmas.Option.{none-some, same_Some, slice_get-map}
 use Rattle.std.proofs.lemmas.List.{get_or_past}
 use Rattle.dg_path.specs.declared.search.Link.{Link}
@@ -50,28 +50,16 @@ slice_get_take (y ∷ xs) (suc k) (suc n) x below is = slice_get_take xs k n x (
 
 -- ---- what they show
 
-both : (a b : Bool) → (a && b) ≡ true → (a ≡ true) × (b ≡ true)
-both true b e = (refl, e)
-both false b e = absurd (false≢true e)
-
-either : (a b : Bool) → (a || b) ≡ true → (a ≡ true) ⊎ (b ≡ true)
-either true b e = inl refl
-either false b e = inr e
-
-negated : (a : Bool) → not a ≡ true → a ≡ false
-negated true e = absurd (false≢true e)
-negated false e = refl
-
 at_most_shown : (c d : Cost) → at_most c d ≡ true → AtMost c d
 at_most_shown c d e =
     ⊎_elim (λ (h : nat_lt c.0 d.0 ≡ true). let l = ltb-true c.0 d.0 h in (omega arith, λ z. omega arith))
-    (λ (h : (c.0 == d.0 && nat_le c.1 d.1) ≡ true). let p = both (c.0 == d.0) (nat_le c.1 d.1) h in let a = eqb-true c.0 d.0 p.0 in let b = leb-true c.1 d.1 p.1 in (omega arith, λ z. b))
-    (either (nat_lt c.0 d.0) (c.0 == d.0 && nat_le c.1 d.1) e)
+    (λ (h : (c.0 == d.0 && nat_le c.1 d.1) ≡ true). let p = and_parts (c.0 == d.0) (nat_le c.1 d.1) h in let a = eqb-true c.0 d.0 p.0 in let b = leb-true c.1 d.1 p.1 in (omega arith, λ z. b))
+    (or_cases (nat_lt c.0 d.0) (c.0 == d.0 && nat_le c.1 d.1) e)
 
 all_at : {X : Type 0} (test : X → Bool) (xs : List X) → list_all test xs ≡ true → (i : ℕ) (x : X) → slice_get xs i ≡ Some x → test x ≡ true
 all_at test [] e i x is = absurd (none-some x is)
-all_at test (y ∷ xs) e zero x is = ap test (sym (same_Some _ _ is)) ∙ (both (test y) (list_all test xs) e).0
-all_at test (y ∷ xs) e (suc i) x is = all_at test xs (both (test y) (list_all test xs) e).1 i x is
+all_at test (y ∷ xs) e zero x is = ap test (sym (same_Some _ _ is)) ∙ (and_parts (test y) (list_all test xs) e).0
+all_at test (y ∷ xs) e (suc i) x is = all_at test xs (and_parts (test y) (list_all test xs) e).1 i x is
 
 some_at : {X : Type 0} (test : X → Bool) (xs : List X) → list_any test xs ≡ true → (i : ℕ) × (x : X) × (slice_get xs i ≡ Some x) × (test x ≡ true)
 some_at test [] e = absurd (false≢true e)
@@ -84,12 +72,12 @@ some_at {X} test (y ∷ xs) e = by (test y) refl e (some_at test xs)
 below_at : (n : ℕ) (test : ℕ → Bool) → all_below n test ≡ true → (v : ℕ) → v < n → test v ≡ true
 below_at zero test e v within = absurd (omega arith)
 below_at (suc n) test e v within =
-    let p = both (test n) (all_below n test) e in
+    let p = and_parts (test n) (all_below n test) e in
     ⊎_elim (λ (h : v ≡ n). ap test h ∙ p.0) (λ (h : v ≡ n → ⊥). below_at n test p.1 v (omega arith)) (cases_eq v n)
 
 meets_shown : (costs : List Label) (l : Link) → meets costs l ≡ true → Meets costs l
 meets_shown costs l e =
-    let p = both ((cost_at costs l.head).0 == (cost_at costs l.tail).0 + l.weight) ((cost_at costs l.head).1 == (cost_at costs l.tail).1 + 1) e in
+    let p = and_parts ((cost_at costs l.head).0 == (cost_at costs l.tail).0 + l.weight) ((cost_at costs l.head).1 == (cost_at costs l.tail).1 + 1) e in
     same_cost _ _ (eqb-true _ _ p.0) (eqb-true _ _ p.1)
 
 shown_meets : (costs : List Label) (l : Link) → Meets costs l → meets costs l ≡ true
@@ -98,19 +86,19 @@ shown_meets costs l e =
 
 module _ (links : List Link) (costs : List Label) (shown : is_table links costs ≡ true) where
   settled_shown : list_all (λ l. at_most (cost_at costs l.head) (with_edge (cost_at costs l.tail) l.weight)) links ≡ true
-  settled_shown = (both _ _ shown).0
+  settled_shown = (and_parts _ _ shown).0
 
   rest_shown : (all_below (length costs) (λ v. v == 0 || (not (nat_lt (label_at costs v).weight UNREACHED.weight) || list_any (into costs v) links)) && ((cost_at costs 0).0 == 0 && (cost_at costs 0).1 == 0)) ≡ true
-  rest_shown = (both (list_all (λ l. at_most (cost_at costs l.head) (with_edge (cost_at costs l.tail) l.weight)) links) _ shown).1
+  rest_shown = (and_parts (list_all (λ l. at_most (cost_at costs l.head) (with_edge (cost_at costs l.tail) l.weight)) links) _ shown).1
 
   root_shown : cost_at costs 0 ≡ no_cost
   root_shown =
-      let p = both ((cost_at costs 0).0 == 0) ((cost_at costs 0).1 == 0) (both (all_below (length costs) (λ v. v == 0 || (not (nat_lt (label_at costs v).weight UNREACHED.weight) || list_any (into costs v) links))) _ rest_shown).1 in
+      let p = and_parts ((cost_at costs 0).0 == 0) ((cost_at costs 0).1 == 0) (and_parts (all_below (length costs) (λ v. v == 0 || (not (nat_lt (label_at costs v).weight UNREACHED.weight) || list_any (into costs v) links))) _ rest_shown).1 in
       same_cost _ _ (eqb-true _ _ p.0) (eqb-true _ _ p.1)
 
   entered_shown : (v : ℕ) → v < length costs → (v == 0 || (not (nat_lt (label_at costs v).weight UNREACHED.weight) || list_any (into costs v) links)) ≡ true
   entered_shown = below_at (length costs) (λ v. v == 0 || (not (nat_lt (label_at costs v).weight UNREACHED.weight) || list_any (into costs v) links))
-      (both (all_below (length costs) (λ v. v == 0 || (not (nat_lt (label_at costs v).weight UNREACHED.weight) || list_any (into costs v) links))) _ rest_shown).0
+      (and_parts (all_below (length costs) (λ v. v == 0 || (not (nat_lt (label_at costs v).weight UNREACHED.weight) || list_any (into costs v) links))) _ rest_shown).0
 
   pub settled : AreCostsSettled (arcs links) costs
   settled i e there =
@@ -135,18 +123,18 @@ module _ (links : List Link) (costs : List Label) (shown : is_table links costs 
 
   -- the cost is that of the root, or attained by a link
   entered : (v : ℕ) → (label_at costs v).weight < UNREACHED.weight → (v ≡ 0) ⊎ ((i : ℕ) × (l : Link) × (slice_get links i ≡ Some l) × (l.head ≡ v) × Meets costs l)
-  entered v near = by (either (v == 0) _ (entered_shown v (within v near)))
+  entered v near = by (or_cases (v == 0) _ (entered_shown v (within v near)))
     where
       some : (not (nat_lt (label_at costs v).weight UNREACHED.weight) ≡ true) ⊎ (list_any (into costs v) links ≡ true) → (i : ℕ) × (l : Link) × (slice_get links i ≡ Some l) × (l.head ≡ v) × Meets costs l
-      some (inl far) = absurd (false≢true (sym (negated _ far) ∙ lt-ltb _ _ near))
+      some (inl far) = absurd (false≢true (sym (not-true _ far) ∙ lt-ltb _ _ near))
       some (inr e) =
           let r = some_at (into costs v) links e in
-          let p = both (r.1.head == v) (meets costs r.1) r.3 in
+          let p = and_parts (r.1.head == v) (meets costs r.1) r.3 in
           (r.0, r.1, r.2, eqb-true _ _ p.0, meets_shown costs r.1 p.1)
 
       by : ((v == 0) ≡ true) ⊎ ((not (nat_lt (label_at costs v).weight UNREACHED.weight) || list_any (into costs v) links) ≡ true) → (v ≡ 0) ⊎ ((i : ℕ) × (l : Link) × (slice_get links i ≡ Some l) × (l.head ≡ v) × Meets costs l)
       by (inl e) = inl (eqb-true v 0 e)
-      by (inr e) = inr (some (either _ _ e))
+      by (inr e) = inr (some (or_cases _ _ e))
 
   walk_to : (n v : ℕ) → (label_at costs v).edges ≡ n → (label_at costs v).weight < UNREACHED.weight → IsWalked v
   walk_to zero v count near = ⊎_elim (at_root v)
@@ -174,7 +162,7 @@ module _ (links : List Link) (costs : List Label) (shown : is_table links costs 
   -- the first link into a node that attains its cost is best
   pub first_is_best : (v i : ℕ) (l : Link) → slice_get links i ≡ Some l → into costs v l ≡ true → is_first links costs v i ≡ true → (label_at costs v).weight < UNREACHED.weight → IsBest (arcs links) (0 ∷ []) i
   first_is_best v i l there in' first near =
-      let p = both (l.head == v) (meets costs l) in' in
+      let p = and_parts (l.head == v) (meets costs l) in' in
       best_of links costs (0 ∷ []) table v i near (record {
         link = l;
         there = there;

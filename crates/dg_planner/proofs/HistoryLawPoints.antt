@@ -2,7 +2,7 @@
 use Rattle.std.proofs.Common.{◌≡◌, ℕ, zero, suc, ◌+◌, ◌-◌, ◌*◌, ◌/◌, ◌<◌, ◌≤◌, Bool, true, false, cond, List as ListOf, [], ◌∷◌, length, take, drop, Option, Some, None, is_some, refl, sym, ap, ◌∙◌, arith, ⊎_elim, le-div_iff_mul-le, div-lt_iff_lt-mul, mul-le-mul_right, add-mul, length-drop, drop-drop}
 use Rattle.std.specs.Prelude.{◌==◌, ◌%◌, ◌&&◌, nat_le, nat_lt, option_and_then}
 use Rattle.std.specs.Map.{lookup}
-use Rattle.std.proofs.lemmas.Bool.{le-leb, le-ltb, lt-ltb, ltb-true, ltb-false, leb-true, eqb-true, eqb-false, eq-eqb, ne_eqb, cases_lt, false≢true}
+use Rattle.std.proofs.lemmas.Bool.{le-leb, le-ltb, lt-ltb, ltb-true, ltb-false, leb-true, eqb-true, eqb-false, eq-eqb, ne_eqb, cases_lt, false≢true, and_parts}
 use Rattle.std.proofs.lemmas.Nat.{div-add-mod'}
 use Rattle.std.proofs.Math.Nat.{mod-lt}
 use Rattle.std.proofs.lemmas.Option.{same_Some}
@@ -16,14 +16,13 @@ use Rattle.dg_history.specs.declared.params.Params.{Params}
 use Rattle.dg_history.specs.Keys.{same_key}
 use Rattle.dg_history.specs.History.{History, events_of, first_time_of, last_time_from, span_of, in_range}
 use Rattle.dg_history.specs.LegalHistory.{IsLegal}
+use Rattle.dg_history.proofs.LegalHistories.{events_rise}
 use Rattle.dg_index.specs.declared.entry.Ends.{Ends}
 use Rattle.dg_index.specs.declared.entry.Entry.{Entry}
 use Rattle.dg_index.specs.Hierarchy.{leaves}
 use Rattle.dg_index.specs.IndexRecords.{recent_of}
 use Rattle.dg_index.specs.OpenedIndex.{opened_of}
-use Rattle.dg_index.proofs.ImageTextNames.{both}
 use Rattle.dg_index.proofs.OpenedIndexRecords.{ends_in, told_at, record_held}
-use Rattle.dg_index.proofs.HistoryTimes.{events_rise}
 use Rattle.dg_index.proofs.OpenedIndexHistories.{large_parameters}
 use Rattle.dg_plan.specs.InstantPoint.{point, point_at}
 use Rattle.dg_shape.specs.Entries.{Holdings}
@@ -102,7 +101,7 @@ between : (events : ListOf Event) (t : ℕ) → in_range (span_of events) t ≡ 
 between [] t is = absurd (false≢true is)
 between (e ∷ events) t is =
     let last : last_time_from e.time events ≡ time_at (e ∷ events) (length (e ∷ events) - 1) = last_is e events ∙ ap (time_at (e ∷ events)) (let x : length events ≡ length (e ∷ events) - 1 = omega arith in x) in
-    let parts = both (nat_le e.time t) (nat_le t (last_time_from e.time events)) is in
+    let parts = and_parts (nat_le e.time t) (nat_le t (last_time_from e.time events)) is in
     let high = leb-true t (last_time_from e.time events) parts.1 in
     record {
       some = omega arith;

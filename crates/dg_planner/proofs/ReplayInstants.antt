@@ -4,8 +4,8 @@ use Rattle.std.specs.Prelude.{nat_le, nat_lt}
 use Rattle.std.proofs.lemmas.Bool.{leb-true, leb-false, lt-leb, le-leb, le-ltb, ltb-true, ltb-false, cases_lt}
 use Rattle.dg_graph.specs.declared.event.Event.{Event}
 use Rattle.dg_graph.specs.Replay.{events_until}
+use Rattle.dg_history.specs.EventTimes.{RisesFrom}
 use Rattle.dg_history.specs.History.{first_time_of, last_time_from}
-use Rattle.dg_index.proofs.OpenedIndexHistories.{Rises}
 use Rattle.dg_shape.specs.Points.{has_come}
 use Rattle.dg_planner.specs.HistoryLaws.{first_time_in}
 
@@ -14,14 +14,14 @@ abbrev pub time_at : List Event → ℕ → ℕ
 time_at events i = first_time_of (drop i events)
 
 -- none is up to an instant before the first
-none_until : (s t : ℕ) (events : List Event) → Rises s events → t < s → length (events_until events t) ≡ 0
+none_until : (s t : ℕ) (events : List Event) → RisesFrom s events → t < s → length (events_until events t) ≡ 0
 none_until s t [] rises late = refl
 none_until s t (e ∷ events) rises late =
     let later : t < e.time = omega (arith, rises.0, late) in
     ap (λ b. length (cond b (e ∷ events_until events t) (events_until events t))) (lt-leb e.time t later) ∙ none_until e.time t events rises.1 later
 
 -- as many events are up to the instant as there are numbers of events up to it
-pub counted : (s t : ℕ) (events : List Event) → Rises s events → (i : ℕ) → i < length events
+pub counted : (s t : ℕ) (events : List Event) → RisesFrom s events → (i : ℕ) → i < length events
     → (time_at events i ≤ t → i < length (events_until events t)) × (i < length (events_until events t) → time_at events i ≤ t)
 counted s t [] rises i lt = absurd (omega (arith, lt))
 counted s t (e ∷ events) rises i lt = by i lt (nat_le e.time t) refl (counted e.time t events rises.1)
@@ -51,7 +51,7 @@ until_few t (e ∷ events) = by (nat_le e.time t) (until_few t events)
     by false le = omega (arith, le)
 
 -- a later event has no earlier time
-pub times_rise : (s : ℕ) (events : List Event) → Rises s events → (i j : ℕ) → i ≤ j → j < length events → time_at events i ≤ time_at events j
+pub times_rise : (s : ℕ) (events : List Event) → RisesFrom s events → (i j : ℕ) → i ≤ j → j < length events → time_at events i ≤ time_at events j
 times_rise s events rises i j le lt =
     let t : ℕ = time_at events j in
     let here : j < length (events_until events t) = (counted s t events rises j lt).0 (let e : time_at events j ≤ time_at events j = omega arith in e) in
@@ -87,7 +87,7 @@ not_there [] (suc i) le = refl
 not_there (e ∷ events) zero le = absurd (omega (arith, le))
 not_there (e ∷ events) (suc i) le = not_there events i (omega (arith, le))
 
-module _ (s t : ℕ) (events : List Event) (rises : Rises s events) where
+module _ (s t : ℕ) (events : List Event) (rises : RisesFrom s events) where
   -- the event with this number is up to the instant exactly where it is one of as many as are up to it
   pub by_then : (i : ℕ) → i < length events → nat_le (time_at events i) t ≡ nat_lt i (length (events_until events t))
   by_then i lt = by (nat_lt i (length (events_until events t))) refl

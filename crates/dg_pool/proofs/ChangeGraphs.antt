@@ -2,6 +2,7 @@
 use Rattle.std.proofs.Common.{◌≡◌, Bool, true, false, cond, ◌||◌, ◌&&◌, List, [], ◌∷◌, ◌++◌, Option, Some, None, refl, sym, ap, ◌∙◌}
 use Rattle.std.specs.Option.{option_map}
 use Rattle.std.proofs.lemmas.List.Folds.{list_any-append}
+use Rattle.std.proofs.Math.Bool.{or-false}
 use Rattle.dg_graph.specs.declared.element.Element.{Element}
 use Rattle.dg_graph.specs.declared.element.Columns.{Columns}
 use Rattle.dg_graph.specs.Elements.{IsSet, has, same, asks, column_of, shown}
@@ -87,10 +88,6 @@ push_out true false = refl
 push_out false true = refl
 push_out false false = refl
 
-or_false : (a : Bool) → (a || false) ≡ a
-or_false true = refl
-or_false false = refl
-
 -- with one element more
 pub more_sided : (own : Bool) (xs all : List Element) (y : Element) → all ≡ xs ++ y ∷ [] → IsThen (one_sided own xs) (one_sided own (y ∷ [])) (one_sided own all)
 more_sided true xs all y more = record {
@@ -100,15 +97,15 @@ more_sided true xs all y more = record {
 more_sided false xs all y more = record {
   said = λ x. push_out (has xs x) (has (y ∷ []) x) ∙ ap (λ t. cond t Out As_it_was) (sym (ap (λ l. has l x) more ∙ list_any-append (same x) xs (y ∷ [])));
   named = λ x.
-      (λ i. or_false (has xs x) i || or_false (has (y ∷ []) x) i)
-      ∙ sym (or_false (has all x) ∙ ap (λ l. has l x) more ∙ list_any-append (same x) xs (y ∷ []));
+      (λ i. or-false (has xs x) i || or-false (has (y ∷ []) x) i)
+      ∙ sym (or-false (has all x) ∙ ap (λ l. has l x) more ∙ list_any-append (same x) xs (y ∷ []));
 }
 
 -- a delta takes out, and then puts in
 pub both_sides : (d : Delta) → IsThen (one_sided false d.minus) (one_sided true d.plus) d
 both_sides d = record {
   said = λ x. out_in (has d.minus x) (has d.plus x);
-  named = λ x. ap (λ t. t || has d.plus x) (or_false (has d.minus x));
+  named = λ x. ap (λ t. t || has d.plus x) (or-false (has d.minus x));
 }
   where
     out_in : (m p : Bool) → then_says (cond m Out As_it_was) (cond p In As_it_was) ≡ cond p In (cond m Out As_it_was)
@@ -137,4 +134,4 @@ no_side false x was = refl
 
 pub sided_names : (own : Bool) (x : Element) → has (x ∷ []) x ≡ true → names (one_sided own (x ∷ [])) x ≡ true
 sided_names true x e = e
-sided_names false x e = or_false (has (x ∷ []) x) ∙ e
+sided_names false x e = or-false (has (x ∷ []) x) ∙ e

@@ -12,6 +12,7 @@ use Rattle.dg_pool.specs.Changes.{numbers_of, AreDistinct, AreChangeable, AreMar
 use Rattle.dg_pool.proofs.GraphInvariant.{live_from_one, live_within}
 use Rattle.dg_pool.proofs.MaskBits.{word_bit-past}
 use Rattle.std.proofs.Common.{subst}
+use Rattle.std.proofs.Math.Bool.{or-false}
 
 -- ---- listed numbers
 
@@ -19,12 +20,8 @@ or_end : (a b c : Bool) → (a || (b || c)) ≡ ((a || b) || c)
 or_end true b c = refl
 or_end false b c = refl
 
-or_false : (b : Bool) → (b || false) ≡ b
-or_false true = refl
-or_false false = refl
-
 pub listed_more : (slots : List Slot) (t : Slot) (s : ℕ) → is_listed (numbers_of (slots ++ t ∷ [])) s ≡ (is_listed (numbers_of slots) s || eqb t.0 s)
-listed_more [] t s = or_false (eqb t.0 s)
+listed_more [] t s = or-false (eqb t.0 s)
 listed_more (x ∷ slots) t s = ap (λ b. eqb x.0 s || b) (listed_more slots t s) ∙ or_end (eqb x.0 s) (is_listed (numbers_of slots) s) (eqb t.0 s)
 
 pub listed_at : (slots : List Slot) (i : ℕ) (d : Slot) → i < length slots → is_listed (numbers_of slots) (get_or slots i d).0 ≡ true

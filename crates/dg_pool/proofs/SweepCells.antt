@@ -1,7 +1,7 @@
 -- What a sweep leaves of the cells that it passes.
 use Rattle.std.proofs.Common.{arith, ◌≡◌, ℕ, suc, zero, ◌+◌, ◌<◌, ◌≤◌, Bool, true, false, cond, not, ◌*◌, ◌&&◌, List, [], ◌∷◌, Option, Some, None, length, set, take, is_some, refl, sym, ap, ◌∙◌, subst, ◌⊎◌, inl, inr}
 use Rattle.std.specs.List.{count_by}
-use Rattle.std.proofs.lemmas.Bool.{cases_eq, cases_lt, true≢false, or_left, or_right, or_from}
+use Rattle.std.proofs.lemmas.Bool.{cases_eq, cases_lt, true≢false, or_left, or_right, or_from, and_parts}
 use Rattle.std.proofs.lemmas.List.{get_or_past, length-take, take_all}
 use Rattle.std.proofs.lemmas.List.Sums.{count_by_more_yes, count_by_more_no, count_by-le-length}
 use Rattle.dg_graph.specs.declared.element.Column.{Column}
@@ -51,10 +51,6 @@ base_wants b cols (state.Live base.Nothing all) r h a e = ap (λ t. t && is_in_a
 base_wants b cols (state.Live base.Now all) r h a e = absurd h
 base_wants b cols (state.Live (base.Slot o) all) r h a e = absurd h
 
-both : (a b : Bool) → (a && b) ≡ true → (a ≡ true) × (b ≡ true)
-both true b e = (refl, e)
-both false b e = cc
-
 -- a member by the base, or by the slot's own word
 by_word : (e o base_has : Bool) → is_in_after (pair_says (e, o)) base_has ≡ true → (is_in_after (pair_says (e, o)) false ≡ true) ⊎ (base_has ≡ true)
 by_word true true b h = inl refl
@@ -72,7 +68,7 @@ module _ (slots : List SlotState) (fit : AreSlots slots) (r : Row) where
   -- what a live slot has is needed
   pub member_needed : (s : ℕ) (b : Base) (cols : Columns) → slot_at slots s ≡ state.Live b cols → in_slot s b cols r ≡ true → is_needed slots r ≡ true
   member_needed s b cols e h =
-      let parts = both (asks cols (column_of r.element)) (is_in_after (slot_says s r) (in_base b r)) h in
+      let parts = and_parts (asks cols (column_of r.element)) (is_in_after (slot_says s r) (in_base b r)) h in
       at parts.0 (by_word (pair s r).0 (pair s r).1 (in_base b r) parts.1)
     where
       at : asks cols (column_of r.element) ≡ true → ((is_in_after (slot_says s r) false ≡ true) ⊎ (in_base b r ≡ true)) → is_needed slots r ≡ true

@@ -16,7 +16,7 @@ use Rattle.dg_history.specs.declared.node.NodeId.TheVariants as node
 use Rattle.dg_history.specs.History.{History, events_of}
 use Rattle.dg_index.specs.Hierarchy.{set_of}
 use Rattle.dg_index.specs.IndexRecords.{recent_of}
-use Rattle.dg_index.proofs.HierarchySteps.{IsSet-replay}
+use Rattle.dg_graph.proofs.ExactEvents.{IsSet-replay_from}
 use Rattle.dg_plan.specs.declared.edge.Edge.{Edge}
 use Rattle.dg_plan.specs.InstantPoint.{point}
 use Rattle.dg_plan.specs.Walks.{Graft}
@@ -59,7 +59,7 @@ module _ (names : ℕ) (z : History) (cols : Columns) (edges : ListOf Edge) (hel
 
       by : (b : Beginning) → BeginningStandsFor edges path.begun b → shown (applied path.delta (begun_with now held b)) cols ≡ shown (replay_at (events_of z) t) cols
       by begins.Nothing root = reached t path.begun path.delta led [] tt (shows node.Root path.begun (sym root))
-      by begins.Now whole = reached t path.begun path.delta led now (IsSet-replay [] (events_of z) tt) (shows node.Now path.begun (sym whole))
+      by begins.Now whole = reached t path.begun path.delta led now (IsSet-replay_from (events_of z) [] tt) (shows node.Now path.begun (sym whole))
       by (begins.Base handle) base =
           let set = are_held base.0 handle base.1 base.2 in
           reached t path.begun path.delta led (held handle) set.0 (set.1 ∙ shows base.0.to path.begun base.3)

@@ -38,7 +38,7 @@ use Rattle.dg_plan.specs.Walks.{AreSingles}
 use Rattle.dg_retrieval.specs.KeptGraph.{record_edges}
 use Rattle.dg_session.proofs.BatchCommandForms.{Lines_of, Origin, Seed, adding, head_over, reads_records}
 use Rattle.dg_session.proofs.BatchCommandStep.{IsAsked, many_changes, of_here, opening_there, over, refused_first}
-use Rattle.dg_batch.proofs.CompletedChanges.{all_come, as_many}
+use Rattle.dg_graph.proofs.Completions.{all_come, as_many}
 use Rattle.dg_session.proofs.DamageStep.{tells_no_damage}
 use Rattle.dg_session.proofs.PlanStep.{older_are, records_edges_are}
 use Rattle.dg_session.proofs.SessionRetrievals.{every_some, if_some}

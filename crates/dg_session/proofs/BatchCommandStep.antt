@@ -2,7 +2,7 @@
 use Rattle.std.proofs.Common.{◌≡◌, inl, inr, ℕ, ◌+◌, ◌-◌, ◌<◌, ◌≤◌, Bool, true, false, ◌&&◌, ◌||◌, not, List, [], ◌++◌, Option, Some, None, Result, Ok, Err, if◌then◌else◌, length, map, take, drop, get_or, refl, sym, ◌∙◌, ap, subst, nat_le, nat_lt, arith, length-append, drop-drop, mul-le-mul_right}
 use Rattle.std.specs.Prelude.{◌*◌, ◌⊎◌, IfSome, is_some}
 use Rattle.std.specs.List.{All}
-use Rattle.std.proofs.lemmas.Bool.{false≢true}
+use Rattle.std.proofs.lemmas.Bool.{false≢true, not-false}
 use Rattle.std.proofs.lemmas.List.{length-map, take-append-drop}
 use Rattle.std.proofs.Math.ListN.{get_or-map}
 use borrow.Author.Tests.{le-leb, lt-ltb, le-ltb, ltb-false}
@@ -25,6 +25,10 @@ use Rattle.dg_history.specs.declared.params.Params.{Params}
 use Rattle.dg_graph.specs.CompletedChanges.{completed, on_value}
 use Rattle.dg_graph.specs.Lines.{ScriptLine}
 use Rattle.dg_graph.specs.Replay.{replay, replay_from}
+use Rattle.dg_graph.proofs.Completions.{all_come}
+use Rattle.dg_graph.proofs.ExactEvents.{replay_append}
+use Rattle.dg_history.specs.EventTimes.{RisesFrom}
+use Rattle.dg_history.proofs.EventTimes.{rises_come}
 use Rattle.dg_history.specs.Batch.{changes_after, names_after}
 use Rattle.dg_history.specs.ChangeGrammar.{ChangeByText, change_by_text_in}
 use Rattle.dg_index.specs.FileOfHistory.{Segment, segment_of, size}
@@ -32,8 +36,9 @@ use Rattle.dg_index.specs.Hierarchy.{leaves}
 use Rattle.dg_index.specs.IndexGrowth.{index_with, needed_for}
 use Rattle.dg_index.specs.IndexRecords.{recent_of}
 use Rattle.dg_index.proofs.OpenedIndexGrowth.{measured, opened_more}
-use Rattle.dg_index.proofs.OpenedIndexHistories.{Rises, completed_rises, large_parameters}
-use Rattle.dg_index.proofs.HierarchyStability.{leaves_more, recent_more, replay_append}
+use Rattle.dg_index.proofs.OpenedIndexHistories.{large_parameters}
+use Rattle.dg_index.proofs.HierarchyStability.{leaves_more, recent_more}
+use Rattle.dg_index.proofs.OpenedLegalHistories.{behind}
 use Rattle.dg_history.specs.History.{History, Batch as HistoryBatch, earliest_next, events_of, last_time_from, names_of, span_of, with_batch}
 use Rattle.dg_index.specs.ImageOfHistory.{IsImageOf, StandsAs}
 use Rattle.dg_history.specs.LegalHistory.{IsLegal}
@@ -58,10 +63,9 @@ use Rattle.dg_batch.proofs.GeneratedChangeRanges.{generated_length}
 use Rattle.dg_ask.proofs.HeldIndexHistory.{count_is}
 use Rattle.dg_session.proofs.SessionGraphs.{all_reached_more, graphs_more}
 use Rattle.dg_batch.proofs.LegalHistory.{AskedFit, IsNext, batch_next, events_with, fitting_next, grown_next, legal_next, names_grown}
-use Rattle.dg_ask.proofs.OpenedIndexHistory.{behind}
 use Rattle.dg_batch.proofs.NamesAfter.{Grows, changes_length, grown_new}
 use Rattle.dg_session.proofs.ReplyNames.{head_names}
-use Rattle.dg_session.proofs.PartStates.{IsOf, both_told, by_first, is_of, not_false, one_told, opening_of, passes, refused_is, stands}
+use Rattle.dg_session.proofs.PartStates.{IsOf, both_told, by_first, is_of, one_told, opening_of, passes, refused_is, stands}
 use Rattle.dg_session.proofs.SessionSteps.{Comes, accepted_is, accepted_steps, denied, denied_at, failing_denies, is_accepted, lacking_denies, refused_denies}
 use Rattle.dg_batch.specs.HandlesStay.{HandlesStay}
 use Rattle.dg_session.specs.BatchCommand.{barred, command_with}
@@ -106,7 +110,7 @@ pub record IsFree (p : Parts) (count : ℕ) : Type 0 where
   pub few_names : length p.names + 2 * count ≤ NAMES_MAX
 
 free_by : (p : Parts) (count : ℕ) → 1 ≤ count → not (is_some p.index) ≡ false → (nat_lt 0 count && is_too_full p count) ≡ false → IsFree p count
-free_by p count some there room = by_index p.index refl (not_false (is_some p.index) there)
+free_by p count some there room = by_index p.index refl (not-false (is_some p.index) there)
   where
     neither : (a b : Bool) → (a || b) ≡ false → (a ≡ false) × (b ≡ false)
     neither true b e = cc
@@ -496,7 +500,7 @@ module _ (from : Origin) (got : List ScriptLine) (p : Parts) (count limit : ℕ)
       names : c.names ≡ names_of (with_batch z New)
       graph : replay_from c.now.graph events ≡ replay (events_of (with_batch z New))
       recent : recent_behind free.index.params (event_total free.index.batches) c.recent.items events ≡ recent_of z.params (events_of (with_batch z New))
-      rises : Rises (earliest_next (span_of (events_of z))) events
+      rises : RisesFrom (earliest_next (span_of (events_of z))) events
 
     pub is_added : needed_for free.index segment ≤ limit → (image : List ℕ) → told ≡ Some image → (m : MachineState) (z : History) → StandsFor p image m → IsOf p free.index image m z → IsAdded m z
     is_added fits image at m z s h =
@@ -517,7 +521,8 @@ module _ (from : Origin) (got : List ScriptLine) (p : Parts) (count limit : ℕ)
           names = sym (ap (λ (x : HistoryBatch). names_of (with_batch z x)) (sym same) ∙ names_grown z c.names events (grown_next (names_of z) c.names Due fit next.names_are));
           graph = graph ∙ ap replay (sym (events_with z New));
           recent = (λ i. recent_behind (params i) (sym many i) (held i) events) ∙ recent_with z.params (omega (arith, large.0)) (events_of z) events ∙ ap (recent_of z.params) (sym (events_with z New));
-          rises = completed_rises b.changes.items 1 (earliest_next (span_of (events_of z))) (replay (events_of z)) events next.comes;
+          rises = rises_come (earliest_next (span_of (events_of z))) (replay (events_of z)) (map (λ (c : Change). Some c) b.changes.items) events
+              (all_come 1 (earliest_next (span_of (events_of z))) (replay (events_of z)) (map (λ (c : Change). Some c) b.changes.items) events next.comes);
         }
 
     -- the session with the batch

@@ -1,7 +1,7 @@
 -- Which reply tells of a damage, which damage it is, and where there is none.
-use Rattle.std.proofs.Common.{◌≡◌, ℕ, Bool, true, false, List, [], ◌∷◌, Option, Some, None, Result, Ok, Err, length, refl, sym, ◌∙◌, subst}
+use Rattle.std.proofs.Common.{◌≡◌, ℕ, Bool, true, false, List, [], ◌∷◌, Option, Some, None, Result, Ok, Err, length, sym, ◌∙◌, subst}
 use Rattle.std.specs.Prelude.{◌||◌, IfSome, IsErr, OnOk, is_some}
-use Rattle.std.proofs.lemmas.Bool.{false≢true}
+use Rattle.std.proofs.lemmas.Bool.{false≢true, false_from_ne_true}
 use Rattle.dg_graph.specs.declared.element.Column.{Column}
 use Rattle.dg_graph.specs.declared.element.Columns.{Columns}
 use Rattle.dg_graph.specs.declared.event.Event.{Event}
@@ -54,17 +54,13 @@ none_refused (Some r) P e = absurd (false≢true (sym e))
 pub accepted_tells_none : (c : Command) (p : Parts) (image : Option (List ℕ)) (h : Head) → is_refusal h ≡ false → DamageIs c p image h
 accepted_tells_none c p image h e = none_refused (refusal_of h) (λ d. IsMetBy (reads_for c) p image d.0 d.1) e
 
-not_true : (b : Bool) → (b ≡ true → ⊥) → b ≡ false
-not_true true h = absurd (h refl)
-not_true false h = refl
-
 come_to_none : (c : Command) (got : List ScriptLine) (p : Parts) (before : Option (List ℕ)) (q : Parts) (after : Option (List ℕ)) (r : Result Reply Halt) → (needs c).reads ≡ false
     → ComesTo c got p before q after r → DamageIn c p before r
 come_to_none c got p before q after (Ok reply) no_reads comes =
     let a : Accepts c got p before q after reply = comes in accepted_tells_none c p before reply.head a.accepted
 come_to_none c got p before q after (Err (halt.Refusal r)) no_reads comes =
     let d : Denies c got p before q after r = comes in
-    tells_no_damage c p before r (not_true (is_of_read r) (λ e. let may = d.reads e in false≢true (sym no_reads ∙ may.0)))
+    tells_no_damage c p before r (false_from_ne_true (is_of_read r) (λ e. let may = d.reads e in false≢true (sym no_reads ∙ may.0)))
 come_to_none c got p before q after (Err (halt.Stop s)) no_reads comes = tt
 
 -- a command that reads no records is not refused for damage

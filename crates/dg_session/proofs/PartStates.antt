@@ -26,7 +26,7 @@ use Rattle.dg_machine.specs.Answer.{with_handle}
 use Rattle.dg_machine.specs.MachineState.{MachineState, dependent_on, elements, stands_at, events_in_index, graphs_of, history_in, names_in}
 use Rattle.dg_machine.specs.Needs.{Needs, can_be_held, earliest, is_base, needs, of, refused, when}
 use Rattle.dg_ask.proofs.HeldIndexHistory.{count_is, span_is}
-use Rattle.dg_ask.proofs.OpenedIndexHistory.{behind}
+use Rattle.dg_index.proofs.OpenedLegalHistories.{behind}
 use Rattle.dg_ask.specs.HeldIndex.{events_held, params_held, span_held}
 use Rattle.dg_session.specs.Parts.{Parts}
 use Rattle.dg_session.specs.Session.{StandsFor, WhereBothTold, is_reached, refused_by}
@@ -233,10 +233,6 @@ miss b r rest e = ap (λ t. earliest (when t r ++ rest)) e
 pub by_first : (b : Bool) (r : Refusal) (rest : List Refusal) → earliest (when b r ++ rest) ≡ (if b then Some r else earliest rest)
 by_first true r rest = refl
 by_first false r rest = refl
-
-pub not_false : (b : Bool) → not b ≡ false → b ≡ true
-not_false true e = refl
-not_false false e = sym e
 
 -- ---- images
 

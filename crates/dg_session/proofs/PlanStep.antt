@@ -38,7 +38,7 @@ use Rattle.dg_planner.proofs.HistoryLawGraphs.{edges_are as edges_of_records, gr
 use Rattle.dg_planner.proofs.HistoryLawPoints.{points_of_history}
 use Rattle.dg_shape.specs.Points.{point_of}
 use Rattle.dg_ask.proofs.HeldIndexHistory.{count_is, kept_span_is, span_is}
-use Rattle.dg_ask.proofs.OpenedIndexHistory.{behind}
+use Rattle.dg_index.proofs.OpenedLegalHistories.{behind}
 use Rattle.dg_session.proofs.ReplyNames.{head_names, plan_names}
 use Rattle.dg_session.proofs.PartStates.{IsOf, by_first, is_of, miss, one_image, opening_of, stands_on}
 use Rattle.dg_batch.specs.declared.halt.Halt.TheVariants as halt

@@ -20,7 +20,7 @@ use Rattle.dg_machine.specs.Answer.{is_refusal, record_line, tree_reply}
 use Rattle.dg_machine.specs.MachineState.{history_in}
 use Rattle.dg_machine.specs.Needs.{needs}
 use Rattle.dg_planner.proofs.HistoryLawGraphs.{keys_held}
-use Rattle.dg_ask.proofs.OpenedIndexHistory.{behind}
+use Rattle.dg_index.proofs.OpenedLegalHistories.{behind}
 use Rattle.dg_ask.proofs.HeldIndexHistory.{count_is}
 use Rattle.dg_session.proofs.ReplyNames.{record_names}
 use Rattle.dg_session.proofs.PartStates.{IsOf, hit, is_of, miss, one_image, opening_of, stands_on}

@@ -1,9 +1,9 @@
 -- A batch leaves what the live handles list as it is, since its events are later than every instant of the history.
-use Rattle.std.proofs.Common.{◌≡◌, ℕ, ◌+◌, ◌*◌, ◌^◌, ◌<◌, ◌≤◌, Bool, true, false, cond, List, [], ◌∷◌, ◌++◌, length, map, refl, sym, subst, ap, ◌∙◌, arith, length-append}
+use Rattle.std.proofs.Common.{◌≡◌, ℕ, ◌+◌, ◌*◌, ◌^◌, ◌<◌, ◌≤◌, Bool, true, cond, List, [], ◌∷◌, ◌++◌, length, map, refl, sym, subst, ap, ◌∙◌, arith, length-append}
 use native.Mathlib.Nat.{pow-zero}
 use Rattle.std.specs.Prelude.{◌&&◌, nat_le}
 use Rattle.std.specs.List.{All}
-use Rattle.std.proofs.lemmas.Bool.{leb-true, lt-leb, le-leb, false≢true}
+use Rattle.std.proofs.lemmas.Bool.{leb-true, lt-leb, le-leb, false≢true, and_parts}
 use Rattle.std.proofs.lemmas.List.Elements.{All-head, All-tail, All-nil, All-cons}
 use Rattle.dg_graph.specs.declared.element.Element.{Element}
 use Rattle.dg_graph.specs.declared.event.Event.{Event}
@@ -12,8 +12,9 @@ use Rattle.dg_graph.specs.Replay.{events_until, replay_at}
 use Rattle.dg_history.specs.declared.node.NodeId.{NodeId}
 use Rattle.dg_history.specs.declared.node.NodeId.TheVariants.{Root, Now, Recent, Leaf, List as EventList, Inner}
 use Rattle.dg_history.specs.declared.params.Params.{Params}
+use Rattle.dg_history.specs.EventTimes.{RisesFrom}
 use Rattle.dg_history.specs.History.{History, Batch, earliest_next, events_of, in_range, last_time_from, span_of, with_batch}
-use Rattle.dg_index.proofs.OpenedIndexHistories.{Rises, rises_last, rises_later}
+use Rattle.dg_history.proofs.EventTimes.{last_two, rises_last, rises_later}
 use Rattle.dg_index.proofs.RecentEvents.{replay_at_more}
 use Rattle.dg_index.proofs.HierarchyStability.{stable}
 use Rattle.dg_index.specs.Hierarchy.{leaves, set_of}
@@ -27,36 +28,28 @@ use Rattle.dg_session.specs.Session.{is_reached}
 
 -- ---- instants
 
-both : (a b : Bool) → (a && b) ≡ true → (a ≡ true) × (b ≡ true)
-both true b e = (refl, e)
-both false b e = absurd (false≢true e)
-
 -- the next batch begins behind every instant of the history
 before_next : (events : List Event) (t : ℕ) → in_range (span_of events) t ≡ true → t < earliest_next (span_of events)
 before_next [] t r = absurd (false≢true r)
 before_next (e ∷ events) t r =
-    let parts = both (nat_le e.time t) (nat_le t (last_time_from e.time events)) r in
+    let parts = and_parts (nat_le e.time t) (nat_le t (last_time_from e.time events)) r in
     omega (arith, leb-true t (last_time_from e.time events) parts.1)
 
 -- no event is up to an instant before the first of them
-none_until : (s t : ℕ) (events : List Event) → Rises s events → t < s → events_until events t ≡ []
+none_until : (s t : ℕ) (events : List Event) → RisesFrom s events → t < s → events_until events t ≡ []
 none_until s t [] rises late = refl
 none_until s t (e ∷ events) rises late =
     let later : t < e.time = omega (arith, rises.0, late) in
     ap (λ b. cond b (e ∷ events_until events t) (events_until events t)) (lt-leb e.time t later) ∙ none_until e.time t events rises.1 later
 
-last_with : (t : ℕ) (events more : List Event) → last_time_from t (events ++ more) ≡ last_time_from (last_time_from t events) more
-last_with t [] more = refl
-last_with t (e ∷ events) more = last_with e.time events more
-
 -- an instant of the history is one of the history with the batch
-range_more : (events more : List Event) (t : ℕ) → Rises (earliest_next (span_of events)) more → in_range (span_of events) t ≡ true → in_range (span_of (events ++ more)) t ≡ true
+range_more : (events more : List Event) (t : ℕ) → RisesFrom (earliest_next (span_of events)) more → in_range (span_of events) t ≡ true → in_range (span_of (events ++ more)) t ≡ true
 range_more [] more t rises r = absurd (false≢true r)
 range_more (e ∷ events) more t rises r =
-    let parts = both (nat_le e.time t) (nat_le t (last_time_from e.time events)) r in
+    let parts = and_parts (nat_le e.time t) (nat_le t (last_time_from e.time events)) r in
     let last : ℕ = last_time_from e.time events in
     let up : last ≤ last_time_from last more = rises_last last more (rises_later last (last + 1) more (omega arith) rises) in
-    let within : t ≤ last_time_from e.time (events ++ more) = omega (arith, leb-true t last parts.1, up, last_with e.time events more) in
+    let within : t ≤ last_time_from e.time (events ++ more) = omega (arith, leb-true t last parts.1, up, last_two e.time events more) in
     ap (λ (b : Bool). b && nat_le t (last_time_from e.time (events ++ more))) parts.0 ∙ le-leb t (last_time_from e.time (events ++ more)) within
 
 -- ---- nodes
@@ -69,17 +62,17 @@ module _ (p : Params) (pos : 0 < p.l) (events more : List Event) where
   set_more Recent r = absurd (false≢true r)
   set_more (EventList i) r = absurd (false≢true r)
   set_more (Leaf j) r =
-      let parts = both (nat_le 1 j) (nat_le j (leaves p (length events))) r in
+      let parts = and_parts (nat_le 1 j) (nat_le j (leaves p (length events))) r in
       let one : p.k ^ 0 ≡ 1 = pow-zero p.k in
       stable p events more pos 0 j (leb-true 1 j parts.0) (subst (λ n. j * n ≤ leaves p (length events)) (sym one) (omega (arith, leb-true j (leaves p (length events)) parts.1)))
   set_more (Inner h j) r =
-      let parts = both (nat_le 1 h) (nat_le 1 j && nat_le (j * p.k ^ h) (leaves p (length events))) r in
-      let rest = both (nat_le 1 j) (nat_le (j * p.k ^ h) (leaves p (length events))) parts.1 in
+      let parts = and_parts (nat_le 1 h) (nat_le 1 j && nat_le (j * p.k ^ h) (leaves p (length events))) r in
+      let rest = and_parts (nat_le 1 j) (nat_le (j * p.k ^ h) (leaves p (length events))) parts.1 in
       stable p events more pos h j (leb-true 1 j rest.0) (leb-true (j * p.k ^ h) (leaves p (length events)) rest.1)
 
 -- ---- handles
 
-module _ (z : History) (pos : 0 < z.params.l) (b : Batch) (rises : Rises (earliest_next (span_of (events_of z))) b.events) where
+module _ (z : History) (pos : 0 < z.params.l) (b : Batch) (rises : RisesFrom (earliest_next (span_of (events_of z))) b.events) where
   pub elements_more : (s : Stands) → is_reached z s ≡ true → elements (with_batch z b) s ≡ elements z s
   elements_more (Overlay t cols on) r =
       ap (λ (es : List Event). shown (replay_at es t) cols) (events_with z b)

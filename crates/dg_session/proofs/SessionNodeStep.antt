@@ -2,6 +2,7 @@
 use Rattle.std.proofs.Common.{◌≡◌, ℕ, ◌+◌, ◌≤◌, true, false, not, List, [], ◌∷◌, Option, Some, None, refl, sym, ◌∙◌, ap, subst, nat_lt, length, arith}
 use Rattle.std.specs.Prelude.{◌&&◌, ◌++◌, IfOk, IfSome, Result, Ok, Err, is_some}
 use Rattle.std.proofs.lemmas.List.Elements.{All-cons, All-nil}
+use Rattle.std.proofs.lemmas.Bool.{not-false}
 use borrow.Author.Tests.{ltb-false}
 use Rattle.dg_fold.specs.BytesRead.{Takes, TakesAtMost}
 use Rattle.dg_graph.specs.declared.element.Columns.{Columns}
@@ -37,7 +38,7 @@ use Rattle.dg_retrieval.specs.Retrieval.{IsNoDamage}
 use Rattle.dg_session.proofs.ReplyNames.{head_names}
 use Rattle.dg_session.proofs.PlanStep.{records_edges_in}
 use Rattle.dg_session.proofs.SessionRetrievals.{handles_taken, if_some, moved_with, reads_failed, retrieval_accepted, z_of}
-use Rattle.dg_session.proofs.PartStates.{events_are, events_there, hit, is_of, last_passes, miss, not_false, one_image, one_told, params_are, passes}
+use Rattle.dg_session.proofs.PartStates.{events_are, events_there, hit, is_of, last_passes, miss, one_image, one_told, params_are, passes}
 use Rattle.dg_ask.specs.HeldIndex.{has_node_held}
 use Rattle.dg_session.specs.Decided.{IsHeadOf}
 use Rattle.dg_session.specs.Parts.{Parts}
@@ -94,8 +95,8 @@ module _ (p : Parts) (node : NodeId) where
       let b = passes (not (has_node_held p.index node)) refusal.UnknownNode _ a.1 in
       let c = passes (nat_lt LIVE_HANDLES_MAX (length p.table + 1)) (refusal.PoolFull (length p.table) 1) _ b.1 in
       let d = last_passes (nat_lt (HANDLE_MAX + 1) (p.next + 1)) refusal.HandlesSpent c.1 in (
-        not_false (is_some p.index) a.0,
-        not_false (has_node_held p.index node) b.0,
+        not-false (is_some p.index) a.0,
+        not-false (has_node_held p.index node) b.0,
         omega (arith, ltb-false LIVE_HANDLES_MAX (length p.table + 1) c.0),
         omega (arith, ltb-false (HANDLE_MAX + 1) (p.next + 1) d),
       )

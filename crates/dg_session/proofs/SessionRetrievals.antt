@@ -2,7 +2,7 @@
 use Rattle.std.proofs.Common.{◌≡◌, inl, inr, ⊎_elim, ℕ, suc, ◌+◌, ◌≤◌, ◌<◌, Bool, true, false, not, List, [], ◌∷◌, ◌++◌, Option, Some, None, Err, length, map, refl, sym, ◌∙◌, ap, subst, arith, nat_lt, append_assoc}
 use Rattle.std.specs.Prelude.{IfErr, IfOk, IfSome, Result, Ok, is_some, ◌||◌, ◌&&◌}
 use Rattle.std.specs.List.{All, Contains, list_any}
-use Rattle.std.proofs.lemmas.Bool.{false≢true}
+use Rattle.std.proofs.lemmas.Bool.{false≢true, not-false, and_right}
 use Rattle.std.proofs.lemmas.List.{append-nil, length-map}
 use Rattle.std.proofs.lemmas.List.Elements.{All-cons, All-head, All-nil, All-tail}
 use borrow.Author.Tests.{le-ltb, lt-ltb, ltb-false}
@@ -48,7 +48,7 @@ use Rattle.dg_retrieval.specs.Retrieval.{AreHeld, ArePoints, IsNoDamage, IsOver,
 use Rattle.dg_session.proofs.HandleBases.{bases_are_held}
 use Rattle.dg_session.proofs.PlanStep.{edges_are, point_here, point_is}
 use Rattle.dg_ask.proofs.PointNodes.{IsSoundIndex, point_there}
-use Rattle.dg_session.proofs.PartStates.{events_there, handle_taken, hit, instants_are, miss, is_of, last_passes, not_false, one_told, passes, refused_is}
+use Rattle.dg_session.proofs.PartStates.{events_there, handle_taken, hit, instants_are, miss, is_of, last_passes, one_told, passes, refused_is}
 use Rattle.dg_session.proofs.SessionSteps.{AcceptedBehindReads, accepted_is, accepted_steps, failing_accepted, lacking_denies}
 use Rattle.dg_batch.specs.Halt.{retrieval_halt}
 use Rattle.dg_session.specs.contracts.session.Session.{the_view}
@@ -80,7 +80,7 @@ retrieval_free p times some none =
     let d = last_passes (nat_lt 0 n && nat_lt (HANDLE_MAX + 1) (p.next + n)) refusal.HandlesSpent c.1 in
     let room : nat_lt LIVE_HANDLES_MAX (length p.table + n) ≡ false = ap (λ x. x && nat_lt LIVE_HANDLES_MAX (length p.table + n)) (sym (lt-ltb 0 n some)) ∙ c.0 in
     let left : nat_lt (HANDLE_MAX + 1) (p.next + n) ≡ false = ap (λ x. x && nat_lt (HANDLE_MAX + 1) (p.next + n)) (sym (lt-ltb 0 n some)) ∙ d in (
-      not_false (is_some p.index) a.0,
+      not-false (is_some p.index) a.0,
       b.0,
       omega (arith, ltb-false LIVE_HANDLES_MAX (length p.table + n) room),
       omega (arith, ltb-false (HANDLE_MAX + 1) (p.next + n) left),
@@ -98,10 +98,6 @@ pool_refused p times live there out live_is most full =
     ∙ hit (nat_lt 0 n && nat_lt LIVE_HANDLES_MAX (length p.table + n)) (refusal.PoolFull (length p.table) n) _ (λ i. some i && many i)
     ∙ ap (λ k. Some (refusal.PoolFull k n)) (sym live_is)
 
-pub both_false : (a b : Bool) → b ≡ false → (a && b) ≡ false
-both_false true b h = h
-both_false false b h = refl
-
 -- there is room, and the first that holds is that no handle is left
 pub handles_refused : (p : Parts) (times : List ℕ) (next : ℕ) → is_some p.index ≡ true → list_any (is_out (span_held p.index)) times ≡ false → length p.table + length times ≤ LIVE_HANDLES_MAX
     → next ≡ p.next → next ≤ HANDLE_MAX + 1 → HANDLE_MAX + 1 < next + length times → refused_by p 0 (retrieval_needs times (length times)) ≡ Some refusal.HandlesSpent
@@ -111,7 +107,7 @@ handles_refused p times next there out room next_is most spent =
     let many : nat_lt (HANDLE_MAX + 1) (p.next + n) ≡ true = lt-ltb (HANDLE_MAX + 1) (p.next + n) (omega (arith, next_is, spent)) in
     miss (not (is_some p.index)) refusal.NoIndex _ (ap (λ b. not b) there)
     ∙ miss (list_any (is_out (span_held p.index)) times) (refusal.OutOfRange (span_held p.index)) _ out
-    ∙ miss (nat_lt 0 n && nat_lt LIVE_HANDLES_MAX (length p.table + n)) (refusal.PoolFull (length p.table) n) _ (both_false (nat_lt 0 n) _ (le-ltb LIVE_HANDLES_MAX (length p.table + n) room))
+    ∙ miss (nat_lt 0 n && nat_lt LIVE_HANDLES_MAX (length p.table + n)) (refusal.PoolFull (length p.table) n) _ (and_right (nat_lt 0 n) _ (le-ltb LIVE_HANDLES_MAX (length p.table + n) room))
     ∙ ap (λ b. earliest (when b refusal.HandlesSpent)) (λ i. some i && many i)
 
 -- none holds
@@ -121,8 +117,8 @@ nothing_refused p times there out room left =
     let n : ℕ = length times in
     miss (not (is_some p.index)) refusal.NoIndex _ (ap (λ b. not b) there)
     ∙ miss (list_any (is_out (span_held p.index)) times) (refusal.OutOfRange (span_held p.index)) _ out
-    ∙ miss (nat_lt 0 n && nat_lt LIVE_HANDLES_MAX (length p.table + n)) (refusal.PoolFull (length p.table) n) _ (both_false (nat_lt 0 n) _ (le-ltb LIVE_HANDLES_MAX (length p.table + n) room))
-    ∙ ap (λ b. earliest (when b refusal.HandlesSpent)) (both_false (nat_lt 0 n) _ (le-ltb (HANDLE_MAX + 1) (p.next + n) left))
+    ∙ miss (nat_lt 0 n && nat_lt LIVE_HANDLES_MAX (length p.table + n)) (refusal.PoolFull (length p.table) n) _ (and_right (nat_lt 0 n) _ (le-ltb LIVE_HANDLES_MAX (length p.table + n) room))
+    ∙ ap (λ b. earliest (when b refusal.HandlesSpent)) (and_right (nat_lt 0 n) _ (le-ltb (HANDLE_MAX + 1) (p.next + n) left))
 
 pub there_is : (i : Option Opening) → is_some i ≡ true → (o : Opening) × (i ≡ Some o)
 there_is None h = absurd (false≢true h)
@@ -155,7 +151,7 @@ pub points_there : (o : Opening) (recent : List Event) (cols : Columns) (times :
     → All (Contains (kept_nodes o (event_total o.batches) cols)) (points_over o recent times)
 points_there o recent cols times sound =
     each_in (is_out (span_held (Some o))) (Contains (kept_nodes o (event_total o.batches) cols)) (point_over o recent) times
-    (λ t h. point_there o recent t cols sound (not_false (in_range (span_held (Some o)) t) h))
+    (λ t h. point_there o recent t cols sound (not-false (in_range (span_held (Some o)) t) h))
 
 -- a retrieval that is not refused is of instants that are between those that the index tells
 pub instants_inside : (p : Parts) (o : Opening) (times : List ℕ) → p.index ≡ Some o → 1 ≤ length times → refused_by p 0 (retrieval_needs times (length times)) ≡ None
@@ -172,7 +168,7 @@ module _ (p : Parts) (o : Opening) (image : List ℕ) (m : MachineState) (there 
   points_are : (times : List ℕ) → list_any (is_out (span_held (Some o))) times ≡ false → points_over o p.recent times ≡ points_for m times
   points_are times =
       each_same (is_out (span_held (Some o))) (point_over o p.recent) (point_for m) times
-      (λ t h. point_is p o image m there s t (not_false (in_range (span_held (Some o)) t) h))
+      (λ t h. point_is p o image m there s t (not-false (in_range (span_held (Some o)) t) h))
 
   -- the image stands for its history, and what is in memory is of that history
   pub is_over : IsOver z_of image o (length p.names) p.graph p.recent
@@ -187,7 +183,7 @@ module _ (p : Parts) (o : Opening) (image : List ℕ) (m : MachineState) (there 
   pub at_points : (times : List ℕ) → list_any (is_out (span_held (Some o))) times ≡ false → ArePoints z_of (points_over o p.recent times) times
   at_points times =
       each_same (is_out (span_held (Some o))) (point_over o p.recent) (point z_of.params (events_of z_of)) times
-      (λ t h. point_here p o image m there s t (not_false (in_range (span_held (Some o)) t) h))
+      (λ t h. point_here p o image m there s t (not-false (in_range (span_held (Some o)) t) h))
 
   mapped : (times : List ℕ) (bases : List (Option ℕ)) (cols : Columns) → length bases ≡ length times → graphs_at z_of times cols ≡ map (elements z_of) (overlays_on cols times bases)
   mapped [] bases cols many = refl
@@ -258,7 +254,7 @@ instants_reached p image m (t ∷ times) [] cols s h = All-nil (λ (x : Stands).
 instants_reached p image m (t ∷ times) (b ∷ bases) cols s h =
     All-cons (λ (x : Stands). is_reached (history_in m.index) x ≡ true) (Overlay t cols b) (overlays_on cols times bases)
     (ap (λ (es : List Event). in_range (span_of es) t) (events_there m.index) ∙ ap (λ (ends : Option (ℕ × ℕ)). in_range ends t) (sym (instants_are p image m s))
-    ∙ not_false (in_range (span_held p.index) t) (or_left (is_out (span_held p.index) t) (list_any (is_out (span_held p.index)) times) h))
+    ∙ not-false (in_range (span_held p.index) t) (or_left (is_out (span_held p.index) t) (list_any (is_out (span_held p.index)) times) h))
     (instants_reached p image m times bases cols s (or_right (is_out (span_held p.index) t) (list_any (is_out (span_held p.index)) times) h))
 
 -- the overlays on the bases that a function gives for the points of the instants

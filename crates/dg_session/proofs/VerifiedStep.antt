@@ -19,7 +19,7 @@ use Rattle.dg_sound.specs.declared.soundness.Soundness.{Soundness}
 use Rattle.dg_sound.specs.declared.soundness.Soundness.TheVariants.{Sound}
 use Rattle.dg_sound.specs.Soundness.{record_total, soundness_of}
 use Rattle.dg_sound_files.specs.SoundFiles.{StandingFilesAreSound}
-use Rattle.dg_ask.proofs.OpenedIndexHistory.{behind}
+use Rattle.dg_index.proofs.OpenedLegalHistories.{behind}
 use Rattle.dg_session.proofs.ReplyNames.{head_names}
 use Rattle.dg_session.proofs.SessionRetrievals.{every_some}
 use Rattle.dg_session.proofs.PartStates.{IsOf, hit, is_of, miss, one_image, one_told, stands_on}

@@ -1,6 +1,6 @@
 -- The records of a catalogue: what holds of each, and what a record added leaves true.
 use Rattle.std.proofs.Common.{◌≡◌, ◌≢◌, ◌+◌, ◌≤◌, Bool, true, false, cond, ◌&&◌, List, [], ◌∷◌, ◌++◌, Option, None, Some, is_some, Result, Ok, refl, sym, ap, subst, ◌∙◌, arith}
-use Rattle.std.proofs.lemmas.Bool.{eqb-true, eq-eqb, false≢true}
+use Rattle.std.proofs.lemmas.Bool.{eqb-true, eq-eqb, false≢true, and_parts}
 use Rattle.std.proofs.lemmas.List.{map-append}
 use Rattle.std.proofs.lemmas.List.Elements.{All-push, All-contains}
 use Rattle.std.proofs.lemmas.List.Sums.{sum_by_push}
@@ -28,17 +28,13 @@ from_ok r x P is h = subst (λ q. OnOk q P) is h
 
 -- ---- keys
 
-both : (a b : Bool) → (a && b) ≡ true → (a ≡ true) × (b ≡ true)
-both true b e = (refl, e)
-both false b e = absurd (false≢true e)
-
 -- two keys that name one record are equal
 pub same_key_exact : (x y : Key) → same_key x y ≡ true → x ≡ y
 same_key_exact (a_key.List m) (a_key.List n) e = ap a_key.List (eqb-true m n e)
 same_key_exact (a_key.Piece m) (a_key.Piece n) e = ap a_key.Piece (eqb-true m n e)
 same_key_exact (a_key.Top m) (a_key.Top n) e = ap a_key.Top (eqb-true m n e)
 same_key_exact (a_key.Down m c) (a_key.Down n d) e =
-    let parts = both _ _ e in
+    let parts = and_parts _ _ e in
     λ i. a_key.Down (eqb-true m n parts.0 i) (eqb-true c d parts.1 i)
 same_key_exact (a_key.List m) (a_key.Piece n) e = absurd (false≢true e)
 same_key_exact (a_key.List m) (a_key.Top n) e = absurd (false≢true e)

@@ -1,5 +1,5 @@
 pub mod EntryRecords
 pub mod AdditionRecords
-mod HierarchyRecords
+pub mod HierarchyRecords
 mod ShapeNodes
 pub mod PointLists

@@ -1,6 +1,6 @@
 -- The nodes of an index: how many there are at a height, and their parents and children.
 use Rattle.std.proofs.Common.{◌≡◌, ℕ, zero, suc, ◌+◌, ◌-◌, ◌*◌, ◌/◌, ◌^◌, ◌<◌, ◌≤◌, ◌&&◌, Bool, true, false, get_or, refl, sym, ap, subst, ◌∙◌, arith, pow-suc, mul_comm, mul-le-mul_right, le-div_iff_mul-le}
-use Rattle.std.proofs.lemmas.Bool.{le-leb, leb-true, leb-false, false≢true}
+use Rattle.std.proofs.lemmas.Bool.{le-leb, leb-true, leb-false, and_parts}
 use Rattle.std.specs.Prelude.{nat_le}
 use Rattle.std.proofs.Common.{Option, Some, None, cond}
 use Rattle.std.proofs.Math.Nat.{div-one}
@@ -15,15 +15,11 @@ use Rattle.dg_index.proofs.HierarchyCounts.{none_above}
 use Rattle.dg_index.proofs.IndexRecordColumns.{power_some}
 use Rattle.dg_shape.proofs.HierarchyRecords.{below_power}
 
-split : (a b : Bool) → (a && b) ≡ true → (a ≡ true) × (b ≡ true)
-split true b e = (refl, e)
-split false b e = absurd (false≢true e)
-
 -- the least arity
 pub arity_two : (l k : ℕ) → are_parameters l k ≡ true → 2 ≤ k
 arity_two l k e =
-    let rest = (split _ _ (split _ _ e).1).1 in
-    leb-true 2 k (split _ _ rest).0
+    let rest = (and_parts _ _ (and_parts _ _ e).1).1 in
+    leb-true 2 k (and_parts _ _ rest).0
 
 -- where a height has no node, none above it has one
 none_more : (n k b d : ℕ) → n / k ^ b ≡ 0 → n / k ^ (b + d) ≡ 0
@@ -59,8 +55,8 @@ pub record IsInterior (n k h j : ℕ) : Type 0 where
 
 pub interior : (n k h j : ℕ) → 2 ≤ k → (nat_le 1 h && (nat_le 1 j && nat_le (j * k ^ h) n)) ≡ true → IsInterior n k h j
 interior n k h j two e =
-    let parts = split (nat_le 1 h) (nat_le 1 j && nat_le (j * k ^ h) n) e in
-    let rest = split (nat_le 1 j) (nat_le (j * k ^ h) n) parts.1 in
+    let parts = and_parts (nat_le 1 h) (nat_le 1 j && nat_le (j * k ^ h) n) e in
+    let rest = and_parts (nat_le 1 j) (nat_le (j * k ^ h) n) parts.1 in
     let height = leb-true 1 h parts.0 in
     let number = leb-true 1 j rest.0 in
     let all = leb-true (j * k ^ h) n rest.1 in
@@ -97,7 +93,7 @@ height_zero n k = sym (ap (λ m. n / m) (pow-zero k) ∙ div-one n)
 
 module _ (p : Params) (n : ℕ) where
   pub leaf_some : (a : NodeId) (j : ℕ) → a ≡ node.Leaf j → exists p n a ≡ true → 1 ≤ j
-  leaf_some a j is e = leb-true 1 j (split _ _ (ap (exists p n) (sym is) ∙ e)).0
+  leaf_some a j is e = leb-true 1 j (and_parts _ _ (ap (exists p n) (sym is) ∙ e)).0
 
   pub inner_there : (a : NodeId) (h j : ℕ) → a ≡ node.Inner h j → 2 ≤ p.k → exists p n a ≡ true → IsInterior (n / p.l) p.k h j
   inner_there a h j is two e = interior (n / p.l) p.k h j two (ap (exists p n) (sym is) ∙ e)

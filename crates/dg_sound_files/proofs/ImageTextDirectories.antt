@@ -2,7 +2,7 @@
 use Rattle.std.proofs.Common.{◌≡◌, ℕ, zero, suc, ◌+◌, ◌*◌, ◌≤◌, Bool, true, false, cond, List, [], ◌∷◌, ◌++◌, length, drop, map, Option, Some, None, refl, sym, ap, subst, ◌∙◌, append-nil, arith}
 use Rattle.std.specs.Prelude.{◌&&◌, ◌==◌, nat_lt, option_and_then, slice_index}
 use Rattle.std.specs.List.{flat_map}
-use Rattle.std.proofs.lemmas.Bool.{ltb-false, eqb-true}
+use Rattle.std.proofs.lemmas.Bool.{ltb-false, eqb-true, and_parts}
 use Rattle.std.proofs.lemmas.List.{drop_all, length-map}
 use Rattle.dg_graph.specs.Columns.{four, eight}
 use Rattle.dg_index.specs.FileOfHistory.{name_bytes, Stored, StoredList, Segment, list_bytes, lengths_bytes, directory}
@@ -10,7 +10,6 @@ use Rattle.dg_index.specs.ImageText.{four_at, eight_at, names_at}
 use Rattle.dg_index.specs.OpenedIndex.{Opening, Directory, rows_at, list_at, record_at, directory_with, directory_in, directory_of, list_row, record_row, list_count, delta_count, rows_in}
 use Rattle.dg_index.specs.declared.entry.Ends.{Ends}
 use Rattle.dg_index.specs.declared.entry.Row.{Row}
-use Rattle.dg_index.proofs.ImageTextNames.{both}
 use Rattle.dg_index.proofs.IndexRecordColumns.{Each, each_append}
 use Rattle.dg_columns.proofs.Fields.{IsBytes, Stands, stands_then}
 use Rattle.dg_sound_files.proofs.ImageTextNumbers.{four_stands, eight_stands}
@@ -130,8 +129,8 @@ directories_are_spelt o bytes d fits e =
       piece = record_at bytes (b.0.1 + 8 + 40 * list_count o (eight_at bytes 0) + 24 * delta_count o (eight_at bytes 0));
     } in
     let c = if_true (length bytes == b.0.1 + 32 + 40 * list_count o (eight_at bytes 0) + 24 * delta_count o (eight_at bytes 0) && (four_at bytes b.0.1 == list_count o (eight_at bytes 0) && four_at bytes (b.0.1 + 4 + 40 * list_count o (eight_at bytes 0)) == delta_count o (eight_at bytes 0))) told d b.2 in
-    let t = both (length bytes == b.0.1 + 32 + 40 * list_count o (eight_at bytes 0) + 24 * delta_count o (eight_at bytes 0)) _ c.0 in
-    let t2 = both (four_at bytes b.0.1 == list_count o (eight_at bytes 0)) _ t.1 in
+    let t = and_parts (length bytes == b.0.1 + 32 + 40 * list_count o (eight_at bytes 0) + 24 * delta_count o (eight_at bytes 0)) _ c.0 in
+    let t2 = and_parts (four_at bytes b.0.1 == list_count o (eight_at bytes 0)) _ t.1 in
     let long : length bytes ≡ b.0.1 + 32 + 40 * list_count o (eight_at bytes 0) + 24 * delta_count o (eight_at bytes 0) = eqb-true _ _ t.0 in
     let is_lists : four_at bytes b.0.1 ≡ list_count o (eight_at bytes 0) = eqb-true _ _ t2.0 in
     let is_deltas : four_at bytes (b.0.1 + 4 + 40 * list_count o (eight_at bytes 0)) ≡ delta_count o (eight_at bytes 0) = eqb-true _ _ t2.1 in

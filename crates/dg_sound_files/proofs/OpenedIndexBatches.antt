@@ -1,7 +1,7 @@
 -- What the tests of directories that stand one behind another say of batches and names.
 use Rattle.std.proofs.Common.{◌≡◌, ℕ, ◌+◌, ◌≤◌, true, List, [], ◌∷◌, ◌++◌, length, drop, refl, subst, ◌∙◌, arith, length-append}
 use Rattle.std.specs.Prelude.{◌==◌, ◌&&◌, nat_le}
-use Rattle.std.proofs.lemmas.Bool.{leb-true}
+use Rattle.std.proofs.lemmas.Bool.{leb-true, and_parts}
 use Rattle.std.proofs.lemmas.List.Sums.{sum_by_push}
 use Rattle.dg_graph.specs.declared.limits.TheConstants.{NAMES_MAX}
 use Rattle.dg_graph.specs.Names.{are_new}
@@ -9,8 +9,9 @@ use Rattle.dg_history.specs.declared.limits.TheConstants.{BATCH_LINES_MAX, EVENT
 use Rattle.dg_index.specs.ImageText.{eight_at}
 use Rattle.dg_index.specs.OpenedIndex.{Opened, Directory, earliest_in, event_total, may_be_named, may_follow, rows_in}
 use Rattle.dg_index.specs.declared.entry.BatchEntry.{BatchEntry}
-use Rattle.dg_index.proofs.ImageTextNames.{both, new_append}
+use Rattle.dg_index.proofs.ImageTextNames.{new_append}
 use Rattle.dg_index.proofs.IndexRecordColumns.{Each}
+use Rattle.dg_index.proofs.OpenedIndexHistories.{earliest_more}
 use Rattle.dg_index.proofs.OpenedSoFar.{one_more}
 use Rattle.dg_columns.proofs.Fields.{IsBytes, IsBytes-drop, IsBytes-take}
 use Rattle.dg_sound_files.proofs.ImageTextDirectories.{IsSpelt, directories_are_spelt}
@@ -37,13 +38,13 @@ record Passes (y : Opened) (d : Directory) : Type 0 where
 
 passes : (image : List ℕ) (y : Opened) (d : Directory) → StandsNext y image d → Passes y d
 passes image y d next =
-    let a = both (sum_of (rows_in d) == eight_at image (y.index.used + 8)) _ next.may in
-    let b = both (may_follow (event_total y.index.batches) (earliest_in 0 y.index.batches) d.batch) _ a.1 in
-    let c = both (may_be_named y.names d.names) _ b.1 in
-    let n = both (are_new y.names d.names) _ c.0 in
-    let f1 = both (nat_le 1 d.batch.events) _ b.0 in
-    let f2 = both (nat_le d.batch.events BATCH_LINES_MAX) _ f1.1 in
-    let f3 = both (nat_le (event_total y.index.batches + d.batch.events) EVENTS_MAX) _ f2.1 in
+    let a = and_parts (sum_of (rows_in d) == eight_at image (y.index.used + 8)) _ next.may in
+    let b = and_parts (may_follow (event_total y.index.batches) (earliest_in 0 y.index.batches) d.batch) _ a.1 in
+    let c = and_parts (may_be_named y.names d.names) _ b.1 in
+    let n = and_parts (are_new y.names d.names) _ c.0 in
+    let f1 = and_parts (nat_le 1 d.batch.events) _ b.0 in
+    let f2 = and_parts (nat_le d.batch.events BATCH_LINES_MAX) _ f1.1 in
+    let f3 = and_parts (nat_le (event_total y.index.batches + d.batch.events) EVENTS_MAX) _ f2.1 in
     record {
       follows = b.0;
       new = n.0;
@@ -76,10 +77,6 @@ chain_few image (d ∷ ds) y x le c =
 abbrev pub AllFollow : ℕ → ℕ → List BatchEntry → Type 0
 AllFollow count earliest [] = Unit {0}
 AllFollow count earliest (b ∷ more) = (may_follow count earliest b ≡ true) × AllFollow (count + b.events) (b.ends.last + 1) more
-
-earliest_more : (t : ℕ) (xs : List BatchEntry) (b : BatchEntry) → earliest_in t (xs ++ b ∷ []) ≡ b.ends.last + 1
-earliest_more t [] b = refl
-earliest_more t (x ∷ xs) b = earliest_more (x.ends.last + 1) xs b
 
 pub chain_follow : (image : List ℕ) (ds : List Directory) (y x : Opened) → Chain image y ds x → AllFollow (event_total y.index.batches) (earliest_in 0 y.index.batches) (batch_entries ds)
 chain_follow image [] y x c = tt

@@ -1,15 +1,15 @@
 -- The directories of an image that is opened, one behind another.
-use Rattle.std.proofs.Common.{◌≡◌, ℕ, zero, suc, ◌+◌, ◌-◌, ◌<◌, ◌≤◌, Bool, true, false, cond, List, [], ◌∷◌, ◌++◌, length, get_or, take, drop, map, Option, Some, None, Result, Ok, Err, refl, sym, ap, ◌∙◌, append_assoc, append-nil, arith}
+use Rattle.std.proofs.Common.{◌≡◌, ℕ, zero, suc, ◌+◌, ◌-◌, ◌<◌, ◌≤◌, Bool, true, false, cond, List, [], ◌∷◌, ◌++◌, length, get_or, take, drop, map, Option, Some, None, Ok, refl, sym, ap, ◌∙◌, append_assoc, append-nil, arith}
 use Rattle.std.specs.Prelude.{◌==◌, not, nat_le, option_and_then}
 use Rattle.std.specs.List.{flat_map}
-use Rattle.std.proofs.lemmas.Bool.{eqb-true, leb-true}
+use Rattle.std.proofs.lemmas.Bool.{eqb-true, leb-true, and_parts}
 use Rattle.dg_history.specs.declared.limits.TheConstants.{FILE_BYTES_MAX}
 use Rattle.dg_history.specs.declared.node.Key.{Key}
 use Rattle.dg_index.specs.ImageText.{eight_at, gate_behind, is_within}
 use Rattle.dg_index.specs.OpenedIndex.{Opened, Directory, read_on, go_on_with, directory_next, directory_in, may_stand, if_it_may, laid, keys_next, rows_in}
 use Rattle.dg_index.specs.declared.entry.BatchEntry.{BatchEntry}
 use Rattle.dg_index.specs.declared.entry.Entry.{Entry}
-use Rattle.dg_index.proofs.ImageTextNames.{both}
+use Rattle.dg_index.proofs.OpenedSoFar.{opened_in}
 use Rattle.dg_index.proofs.OpenedSoFar.{one_more}
 use Rattle.dg_sound_files.proofs.ImageTextNames.{then_is, some_is}
 
@@ -38,8 +38,8 @@ pub stands_next : (x : Opened) (image : List ℕ) (d : Directory) → directory_
 stands_next x image d e =
     let judge : Directory → Option Directory = λ d. if_it_may (may_stand x (eight_at image (x.index.used + 8)) d) d in
     let a = then_within (is_within image x.index.used) (option_and_then judge (directory_in x.index (text_next x image))) d e in
-    let w1 = both (nat_le (x.index.used + 16) (length image)) _ a.0 in
-    let w2 = both (nat_le (gate_behind image x.index.used + 1) (length image)) _ w1.1 in
+    let w1 = and_parts (nat_le (x.index.used + 16) (length image)) _ a.0 in
+    let w2 = and_parts (nat_le (gate_behind image x.index.used + 1) (length image)) _ w1.1 in
     let b = then_is judge (directory_in x.index (text_next x image)) d a.1 in
     let c = if_may (may_stand x (eight_at image (x.index.used + 8)) b.0) b.0 d b.2 in
     record {
@@ -56,10 +56,6 @@ stands_next x image d e =
 abbrev pub Chain : List ℕ → Opened → List Directory → Opened → Type 0
 Chain image y [] x = (y ≡ x) × ((get_or image (y.index.used - 1) 0 == 1) ≡ false)
 Chain image y (d ∷ more) x = (get_or image (y.index.used - 1) 0 ≡ 1) × StandsNext y image d × Chain image (one_more image y d) more x
-
-abbrev opened_in : Opened → Result Opened ℕ → Opened
-opened_in x (Ok y) = y
-opened_in x (Err offset) = x
 
 pub chain_of : (k : ℕ) (image : List ℕ) (y x : Opened) → length image < k + y.index.used → y.index.used ≤ length image → read_on k image y ≡ Ok x → (ds : List Directory) × Chain image y ds x
 chain_of zero image y x enough within e = absurd (omega (arith, enough, within))

@@ -1,7 +1,7 @@
 -- An image whose records are those of a history has the bytes of the history's file.
 use Rattle.std.proofs.Common.{◌≡◌, ℕ, suc, ◌+◌, ◌-◌, ◌*◌, ◌<◌, ◌≤◌, List, [], ◌∷◌, ◌++◌, length, drop, map, Option, Some, refl, sym, ap, subst, ◌∙◌, append_assoc, append-nil, arith, add-mul, div-mul-le_self}
 use Rattle.std.specs.Prelude.{◌==◌}
-use Rattle.std.proofs.lemmas.Bool.{eqb-true}
+use Rattle.std.proofs.lemmas.Bool.{eqb-true, and_parts}
 use Rattle.std.proofs.lemmas.List.{take-append-drop, drop-drop, drop_more, length-take-le, length-drop, length-append, length-map}
 use Rattle.std.proofs.lemmas.List.Concat.{flat_map-append}
 use Rattle.std.proofs.lemmas.List.Sums.{sum_by_push}
@@ -21,9 +21,9 @@ use Rattle.dg_index.specs.declared.entry.Ends.{Ends}
 use Rattle.dg_index.specs.declared.entry.Entry.{Entry}
 use Rattle.dg_index.specs.declared.entry.Row.{Row}
 use Rattle.dg_index.proofs.OpenedIndexDirectories.{map_last, measures}
-use Rattle.dg_index.proofs.ImageTextNames.{both}
 use Rattle.dg_index.proofs.HierarchyCounts.{numbers_length}
-use Rattle.dg_index.proofs.IndexRecordColumns.{Each, Match, IsKept, tell, segment_matches, list_right, events_among}
+use Rattle.dg_history.proofs.LegalHistories.{events_among}
+use Rattle.dg_index.proofs.IndexRecordColumns.{Each, Match, IsKept, tell, segment_matches, list_right}
 use Rattle.dg_index.proofs.OpenedSoFar.{one_more}
 use Rattle.dg_index.proofs.HierarchyStability.{leaves_more}
 use Rattle.dg_columns.proofs.Fields.{IsBytes, IsBytes-drop, IsBytes-take, Stands, stands_then}
@@ -135,7 +135,7 @@ module _ (z : History) (image : List ℕ) (fits : IsBytes image) (pos : 0 < z.pa
       let bare_y : Opened = record { index = record { params = y.index.params; batches = y.index.batches; records = []; used = 0 }; names = [] } in
       let match : Match z (keys_next y.index d.batch.events) (stored_in s) =
       subst (λ n. Match z (keys_next y.index n) (stored_in s)) (sym counts.events) (segment_matches z [] pos wide front b more is bare_y (record { params = so.params; count = so.count; number = so.number; kept = tt })) in
-      let may = both (sum_of (rows_in d) == eight_at image (y.index.used + 8)) _ next.may in
+      let may = and_parts (sum_of (rows_in d) == eight_at image (y.index.used + 8)) _ next.may in
       let measured : sum_of (rows_in d) ≡ eight_at image (y.index.used + 8) = eqb-true _ _ may.0 in
       let laid_here = laid_stands z image offset (keys_next y.index d.batch.events) (rows_in d) (stored_in s) (keys_long ∙ sym rows_long) (stored_long ∙ sym rows_long) spelt.three match kept (omega (arith, measured, next.ends)) in
       -- the rows

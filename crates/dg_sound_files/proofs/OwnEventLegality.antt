@@ -1,18 +1,19 @@
 -- The history of a sound image's own events is legal.
-use Rattle.std.proofs.Common.{◌≡◌, ℕ, ◌+◌, ◌≤◌, true, List, [], ◌∷◌, ◌++◌, length, refl, sym, ap, subst, ◌∙◌, arith}
+use Rattle.std.proofs.Common.{◌≡◌, ℕ, ◌+◌, ◌≤◌, true, List, [], ◌∷◌, ◌++◌, length, sym, ap, subst, ◌∙◌, arith}
 use Rattle.std.specs.Prelude.{All, IsTrue, nat_le}
-use Rattle.std.proofs.lemmas.Bool.{leb-true}
+use Rattle.std.proofs.lemmas.Bool.{leb-true, and_parts}
 use Rattle.std.proofs.lemmas.List.Elements.{All-cons, All-nil}
 use Rattle.dg_graph.specs.declared.event.Event.{Event}
 use Rattle.dg_graph.specs.Completion.{has_key}
 use Rattle.dg_graph.specs.Replay.{replay}
+use Rattle.dg_graph.proofs.ExactEvents.{replay_append}
 use Rattle.dg_history.specs.declared.limits.TheConstants.{BATCH_LINES_MAX, EVENTS_MAX}
 use Rattle.dg_history.specs.History.{Batch, earliest_next, first_time_of, last_time_from, span_of}
 use Rattle.dg_history.specs.LegalHistory.{AreLegalAfter, FitsEvent}
+use Rattle.dg_history.proofs.EventTimes.{earliest_behind, last_two}
+use Rattle.dg_history.proofs.LegalHistories.{events_among}
 use Rattle.dg_index.specs.OpenedIndex.{Directory}
-use Rattle.dg_index.proofs.ImageTextNames.{both}
-use Rattle.dg_index.proofs.IndexRecordColumns.{Each, events_among}
-use Rattle.dg_index.proofs.HierarchyStability.{replay_append}
+use Rattle.dg_index.proofs.IndexRecordColumns.{Each}
 use Rattle.dg_sound.specs.OwnEvents.{are_completions}
 use Rattle.dg_sound_files.proofs.OpenedIndexBatches.{AllFollow}
 use Rattle.dg_sound_files.proofs.CompletedChangeEvents.{StartsFrom, changes_come, keys_of_completions}
@@ -23,19 +24,6 @@ use Rattle.dg_sound_files.proofs.OpenedIndexSegments.{Agree, each_parts}
 all_of : (P : Event → Type 0) (events : List Event) → Each P events → All P events
 all_of P [] e = All-nil P
 all_of P (x ∷ events) e = All-cons P x events e.0 (all_of P events e.1)
-
-last_two : (t : ℕ) (xs ys : List Event) → last_time_from t (xs ++ ys) ≡ last_time_from (last_time_from t xs) ys
-last_two t [] ys = refl
-last_two t (x ∷ xs) ys = last_two x.time xs ys
-
-last_some : (s t : ℕ) (events : List Event) → 1 ≤ length events → last_time_from s events ≡ last_time_from t events
-last_some s t [] some = absurd (omega (arith, some))
-last_some s t (e ∷ events) some = refl
-
-earliest_behind : (before events : List Event) → 1 ≤ length events → earliest_next (span_of (before ++ events)) ≡ last_time_from 0 events + 1
-earliest_behind [] [] some = absurd (omega (arith, some))
-earliest_behind [] (e ∷ events) some = refl
-earliest_behind (x ∷ before) events some = ap (λ n. n + 1) (last_two x.time before events ∙ last_some (last_time_from x.time before) 0 events some)
 
 starts_from : (earliest : ℕ) (events : List Event) → earliest ≤ first_time_of events → StartsFrom earliest events
 starts_from earliest [] le = tt
@@ -49,14 +37,14 @@ module _ (names : List (List ℕ)) where
   legal_after (d ∷ ds) [] count before agree follow come fit = absurd agree
   legal_after (d ∷ ds) (b ∷ left) count before agree follow come fit =
       let counts = agree.0 in
-      let f1 = both (nat_le 1 d.batch.events) _ follow.0 in
-      let f2 = both (nat_le d.batch.events BATCH_LINES_MAX) _ f1.1 in
-      let f3 = both (nat_le (count + d.batch.events) EVENTS_MAX) _ f2.1 in
-      let f4 = both (nat_le (earliest_next (span_of before)) d.batch.ends.first) _ f3.1 in
+      let f1 = and_parts (nat_le 1 d.batch.events) _ follow.0 in
+      let f2 = and_parts (nat_le d.batch.events BATCH_LINES_MAX) _ f1.1 in
+      let f3 = and_parts (nat_le (count + d.batch.events) EVENTS_MAX) _ f2.1 in
+      let f4 = and_parts (nat_le (earliest_next (span_of before)) d.batch.ends.first) _ f3.1 in
       let some : 1 ≤ length b.events = omega (arith, leb-true _ _ f1.0, counts.events) in
       let few : length b.events ≤ BATCH_LINES_MAX = omega (arith, leb-true d.batch.events BATCH_LINES_MAX f2.0, counts.events) in
       let later : earliest_next (span_of before) ≤ first_time_of b.events = omega (arith, leb-true (earliest_next (span_of before)) d.batch.ends.first f4.0, counts.first) in
-      let c = both (are_completions names (replay before) (last_time_from 0 before) b.events) _ (sym (completions_append names (replay before) (last_time_from 0 before) b.events (events_among left)) ∙ come) in
+      let c = and_parts (are_completions names (replay before) (last_time_from 0 before) b.events) _ (sym (completions_append names (replay before) (last_time_from 0 before) b.events (events_among left)) ∙ come) in
       let made = changes_come names 1 (earliest_next (span_of before)) (last_time_from 0 before) (replay before) b.events (starts_from (earliest_next (span_of before)) b.events later) c.0 in
       let parts = each_parts (FitsEvent (length names)) b.events (events_among left) fit in
       let keys = keys_of_completions names (last_time_from 0 before) (replay before) b.events c.0 in

@@ -1,7 +1,7 @@
 -- The lists of an image of a history are read as its events, as far as they stand in lists.
 use Rattle.std.proofs.Common.{◌≡◌, ℕ, zero, suc, ◌+◌, ◌*◌, ◌<◌, ◌≤◌, true, List, [], Option, Ok, length, nat_le, take, drop, is_some, sym, ◌∙◌, ap, subst, arith, add-mul, length-drop, length-take-le, take-add, le-div_iff_mul-le, div-mul-le_self}
 use Rattle.std.specs.Map.{lookup}
-use Rattle.std.proofs.lemmas.Bool.{leb-true, lt-ltb}
+use Rattle.std.proofs.lemmas.Bool.{leb-true, lt-ltb, and_parts}
 use Rattle.std.proofs.lemmas.List.{take-append-drop}
 use Rattle.dg_columns.specs.ColumnLaws.{EventsAreReadBack, EventsAreMergedBack}
 use Rattle.dg_columns.specs.Ranges.{EventsFit}
@@ -22,12 +22,13 @@ use Rattle.dg_index.specs.Hierarchy.{leaves, numbers}
 use Rattle.dg_index.specs.ImageOfHistory.{IsImageOf}
 use Rattle.dg_index.specs.IndexRecords.{closed_list}
 use Rattle.dg_index.specs.OpenedIndex.{Opened, column_at, entry_at, opened_of}
-use Rattle.dg_index.proofs.ImageTextNames.{both}
 use Rattle.dg_index.proofs.OpenedIndexRecords.{record_held, told_at}
 use Rattle.dg_index.proofs.OpenedIndexHistories.{large_parameters}
 use Rattle.dg_sound.specs.OwnEvents.{and_own, are_completions, have_ends, list_total, listed_events, events_may_follow, with_list, with_lists}
-use Rattle.dg_sound_files.proofs.OwnEventCompletions.{all_complete, completions_behind, completions_front, events_fit, fit_drop, fit_take}
-use Rattle.dg_sound_files.proofs.OpenedIndexRecords.{IsHeld, columns_there, count_is, held_at, names_are, params_are}
+use Rattle.dg_columns.proofs.EventRanges.{fit_drop, fit_take}
+use Rattle.dg_sound_files.proofs.OwnEventCompletions.{all_complete, completions_behind, completions_front, events_fit}
+use Rattle.dg_index.proofs.HeldRecords.{IsHeld, held_at}
+use Rattle.dg_sound_files.proofs.OpenedIndexRecords.{columns_there, count_is, names_are, params_are}
 use Rattle.dg_sound_files.proofs.OwnEventRecords.{ends_of, record_read, record_right}
 
 -- ---- some events of the history
@@ -38,8 +39,8 @@ module _ (z : History) (image : List ℕ) (h : IsImageOf z image) where
 
   pub few_events : z.params.l ≤ 65536
   few_events =
-      let least = both (nat_le LEAF_MIN z.params.l) _ h.legal.parameters in
-      let most = both (nat_le z.params.l LEAF_MAX) _ least.1 in
+      let least = and_parts (nat_le LEAF_MIN z.params.l) _ h.legal.parameters in
+      let most = and_parts (nat_le z.params.l LEAF_MAX) _ least.1 in
       leb-true z.params.l LEAF_MAX most.0
 
   pub few_names : length (opened_of z).names ≤ NAMES_MAX

@@ -22,13 +22,14 @@ use Rattle.dg_index.specs.Hierarchy.{leaves}
 use Rattle.dg_index.specs.ImageOfHistory.{IsImageOf}
 use Rattle.dg_index.specs.IndexRecords.{piece_at, piece_of}
 use Rattle.dg_index.specs.OpenedIndex.{Opened, column_at, entry_at, opened_of}
-use Rattle.dg_index.proofs.IndexRecordColumns.{events_among, piece_there}
+use Rattle.dg_history.proofs.LegalHistories.{events_among}
+use Rattle.dg_index.proofs.IndexRecordColumns.{piece_there}
 use Rattle.dg_index.proofs.EverAddedBounds.{piece_short}
 use Rattle.dg_index.proofs.RecentEventPieces.{batches_of, noted}
 use Rattle.dg_index.proofs.HierarchyStability.{leaves_more}
 use Rattle.dg_sound.specs.OwnEvents.{and_own, are_ends, has_batch_ends, if_columns, is_column_of, is_recent, list_total, own_events, piece_length, piece_start, with_older, with_piece_events, with_pieces, with_recent}
 use Rattle.dg_sound_files.proofs.OwnEventLists.{all_listed, few_events, few_names, some_events, some_fit, some_follow}
-use Rattle.dg_sound_files.proofs.OpenedIndexRecords.{columns_there, count_is, params_are, piece_held}
+use Rattle.dg_sound_files.proofs.OpenedIndexRecords.{columns_there, count_is, own_piece_held, params_are}
 use Rattle.dg_sound_files.proofs.OwnEventRecords.{ends_of, record_read, record_right}
 
 -- some of the first of the events are some of the events
@@ -89,7 +90,7 @@ module _ (kept : ColumnsAreKept) (back : EventsAreReadBack) (merge : EventsAreMe
         ∙ ap (take (n - k)) (drop-drop k count (events_of z) ∙ ap (λ c. drop c (events_of z)) (let e : count + k ≡ max count cut = omega arith in e))
 
     held : is_some (lookup (same_key (key.Piece (length front))) (opened_of z).index.records) ≡ true
-    held = piece_held z (length front) (omega (arith, ap length is, length-append front (b ∷ more)))
+    held = own_piece_held z (length front) (omega (arith, ap length is, length-append front (b ∷ more)))
 
     leaves_are : leaves (opened_of z).index.params upto ≡ leaves z.params upto
     leaves_are = ap (λ (p : Params). leaves p upto) (params_are z)

@@ -15,7 +15,7 @@ use Rattle.dg_history.specs.declared.node.Key.{Key}
 use Rattle.dg_history.specs.History.{first_time_of, last_time_from}
 use Rattle.dg_index.specs.OpenedIndex.{Opened, column_at, entry_at}
 use Rattle.dg_sound.specs.OwnEvents.{and_own, are_ends, events_of_record, if_right, events_may_follow, merged_or, placed_in_column, spelled_or, with_record}
-use Rattle.dg_sound_files.proofs.OwnEventCompletions.{no_fall}
+use Rattle.dg_columns.proofs.EventRanges.{no_fall}
 
 abbrev by_columns : ℕ → Result (List Placed) Column → Result (List Placed) Column → Result (List Placed) Column → Result (List Event) Column
 by_columns count a b c = and_own a (λ a. and_own b (λ b. and_own c (λ c. merged_or (merged a b c count))))

@@ -2,7 +2,7 @@
 use Rattle.std.proofs.Common.{◌≡◌, ◌≢◌, ℕ, zero, suc, ◌+◌, ◌*◌, ◌≤◌, ◌<◌, Bool, true, false, cond, List, [], ◌∷◌, ◌++◌, length, take, drop, max, Result, Ok, Err, refl, sym, ap, subst, ◌∙◌, append_assoc, append-nil, arith, length-append, length-drop, add-mul, div-mul-le_self, div-lt_iff_lt-mul}
 use lib.Seq.{take-append-le, drop-append-le}
 use Rattle.std.specs.Prelude.{◌==◌, ◌&&◌, nat_le}
-use Rattle.std.proofs.lemmas.Bool.{eqb-true, eqb-false}
+use Rattle.std.proofs.lemmas.Bool.{eqb-true, eqb-false, and_parts}
 use Rattle.std.proofs.lemmas.List.{take_at, drop_at}
 use Rattle.std.proofs.lemmas.List.Sums.{sum_by-cons}
 use Rattle.std.proofs.lemmas.Slice.Eq.{bytes_eq-Decides}
@@ -22,7 +22,6 @@ use Rattle.dg_index.specs.Hierarchy.{leaves, numbers}
 use Rattle.dg_index.specs.IndexRecords.{closed_list}
 use Rattle.dg_index.specs.OpenedIndex.{Opened, column_at, entry_at, event_total}
 use Rattle.dg_index.specs.declared.entry.BatchEntry.{BatchEntry}
-use Rattle.dg_index.proofs.ImageTextNames.{both}
 use Rattle.dg_index.proofs.IndexRecordColumns.{Each, each_append}
 use Rattle.dg_index.proofs.HierarchyStability.{leaves_more}
 use Rattle.dg_columns.specs.ColumnLaws.{AreBytes, EventsHaveOneSpelling}
@@ -97,7 +96,7 @@ added : (names : List (List ℕ)) (k : Key) (right : List Event → Bool) (befor
 added names k right before (Err col) result e = absurd cc
 added names k right before (Ok events) result e =
     let a = if_right_is (right events && events_may_follow names before events) k (before ++ events) result e in
-    let b = both (right events) _ a.0 in
+    let b = and_parts (right events) _ a.0 in
     record { events = events; read = refl; passes = b.0; follows = b.1; is = a.1 }
 
 module _ (spelled : EventsHaveOneSpelling) (fit : EventsThatAreReadFit) (image : List ℕ) (x : Opened) (all : AreBytes image) (pos : 0 < x.index.params.l) where
@@ -205,7 +204,7 @@ module _ (spelled : EventsHaveOneSpelling) (fit : EventsThatAreReadFit) (image :
       let a = if_columns_is (is_column_of image x (key.Piece number) (take (piece_length x.index count b) (drop (piece_start x.index count b) before)) column.Structure && has_batch_ends count b before)
       (is_column_of image x (key.Piece number) (take (piece_length x.index count b) (drop (piece_start x.index count b) before)) column.NodeAttr)
       (is_column_of image x (key.Piece number) (take (piece_length x.index count b) (drop (piece_start x.index count b) before)) column.EdgeAttr) (key.Piece number) before result e in
-      let s = both (is_column_of image x (key.Piece number) (take (piece_length x.index count b) (drop (piece_start x.index count b) before)) column.Structure) _ a.0 in
+      let s = and_parts (is_column_of image x (key.Piece number) (take (piece_length x.index count b) (drop (piece_start x.index count b) before)) column.Structure) _ a.0 in
       let under : count + b.events < list_total x.index * x.index.params.l = (div-lt_iff_lt-mul pos).0 less in
       let same = a.3 in
       let upto : piece_start x.index count b + piece_length x.index count b ≤ length before = omega (arith, reach count b, len, under) in

@@ -11,7 +11,8 @@ use Rattle.dg_history.specs.LegalHistory.{AreLegalAfter, FitsEvent, IsLegal}
 use Rattle.dg_index.specs.ImageOfHistory.{IsImageOf}
 use Rattle.dg_index.specs.OpenedIndex.{Opened, Directory, bare, event_total}
 use Rattle.dg_index.specs.declared.entry.BatchEntry.{BatchEntry}
-use Rattle.dg_index.proofs.IndexRecordColumns.{Each, events_among}
+use Rattle.dg_history.proofs.LegalHistories.{events_among}
+use Rattle.dg_index.proofs.IndexRecordColumns.{Each}
 use Rattle.dg_index.proofs.OpenedIndexHistories.{large_parameters}
 use Rattle.dg_columns.specs.ColumnLaws.{AreBytes, EventsHaveOneSpelling}
 use Rattle.dg_columns.specs.ReadFits.{EventsThatAreReadFit}

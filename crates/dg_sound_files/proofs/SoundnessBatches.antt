@@ -2,14 +2,13 @@
 use Rattle.std.proofs.Common.{◌≡◌, ℕ, ◌+◌, ◌≤◌, true, List, [], ◌∷◌, ◌++◌, length, take, drop, refl, sym, ap, subst, ◌∙◌, arith, length-drop}
 use Rattle.std.specs.Prelude.{◌==◌}
 use Rattle.std.specs.List.{flat_map}
-use Rattle.std.proofs.lemmas.Bool.{eqb-true}
+use Rattle.std.proofs.lemmas.Bool.{eqb-true, and_parts}
 use Rattle.std.proofs.lemmas.List.{take-append-drop, take_at, drop_at, drop-drop, length-take-le}
 use Rattle.std.proofs.lemmas.List.Sums.{sum_by-cons}
 use Rattle.dg_graph.specs.declared.event.Event.{Event}
 use Rattle.dg_history.specs.History.{Batch, first_time_of}
 use Rattle.dg_index.specs.OpenedIndex.{Directory, event_total}
 use Rattle.dg_index.specs.declared.entry.BatchEntry.{BatchEntry}
-use Rattle.dg_index.proofs.ImageTextNames.{both}
 use Rattle.dg_index.proofs.IndexRecordColumns.{Each}
 use Rattle.dg_sound.specs.OwnEvents.{has_batch_ends}
 use Rattle.dg_sound.specs.Soundness.{own_batches}
@@ -51,7 +50,7 @@ own_agree count events (d ∷ ds) named long ends =
     let sum : event_total (batch_entries (d ∷ ds)) ≡ d.batch.events + event_total (batch_entries ds) = sum_by-cons (λ (b : BatchEntry). b.events) d.batch (batch_entries ds) in
     let front : take d.batch.names (d.names ++ new_names ds) ≡ d.names = take_at d.names (new_names ds) d.batch.names (sym named.0) in
     let rest : drop d.batch.names (d.names ++ new_names ds) ≡ new_names ds = drop_at d.names (new_names ds) d.batch.names (sym named.0) in
-    let t = both (d.batch.ends.first == first_time_of (take d.batch.events (drop count events))) _ ends.0 in
+    let t = and_parts (d.batch.ends.first == first_time_of (take d.batch.events (drop count events))) _ ends.0 in
     let more = own_agree (count + d.batch.events) events ds named.1 (omega (arith, long, sum)) ends.1 in
     let cut : drop d.batch.events (drop count events) ≡ drop (count + d.batch.events) events = drop-drop d.batch.events count events in (
       record {

@@ -1,6 +1,5 @@
 -- Where no delta's record is wrong, each that is due is the one that the events determine.
-use Rattle.std.proofs.Common.{◌≡◌, ℕ, zero, suc, ◌+◌, ◌-◌, ◌*◌, ◌/◌, ◌^◌, ◌≤◌, ◌<◌, Bool, true, false, cond, List, [], ◌∷◌, map, filter, Option, Some, None, refl, sym, ap, subst, ◌∙◌, arith, pow-suc, mul_comm, mul-le-mul_right, le-div_iff_mul-le, eq-or-lt_of_le, ⊎_elim, add-mul}
-use native.Mathlib.Nat.{pow-zero}
+use Rattle.std.proofs.Common.{◌≡◌, ℕ, zero, suc, ◌+◌, ◌-◌, ◌*◌, ◌/◌, ◌^◌, ◌≤◌, ◌<◌, Bool, true, false, cond, List, [], ◌∷◌, map, filter, Option, Some, None, refl, sym, ap, subst, ◌∙◌, arith, mul-le-mul_right, le-div_iff_mul-le, eq-or-lt_of_le, ⊎_elim, add-mul}
 use Rattle.std.specs.Prelude.{◌==◌, nat_le}
 use Rattle.std.specs.List.{flat_map}
 use Rattle.std.proofs.lemmas.Bool.{le-leb}
@@ -15,6 +14,7 @@ use Rattle.dg_index.specs.Hierarchy.{leaves, numbers, children}
 use Rattle.dg_index.specs.IndexRecords.{column_of_record, deltas_of, deltas_due, deltas_due_at, heights, inner_due, record_among}
 use Rattle.dg_index.specs.OpenedIndex.{Opened, column_at, entry_at}
 use Rattle.dg_index.proofs.HierarchyCounts.{due_to}
+use Rattle.dg_index.proofs.IndexKeyRecords.{height_low}
 use Rattle.dg_index.proofs.IndexRecordColumns.{Each, each_append, each_flat, each_map, each_number, power_some}
 use Rattle.dg_sound.specs.Soundness.{delta_keys, first_wrong, is_delta_column, or_later, wrong_column}
 use Rattle.dg_sound_files.proofs.OpenedIndexSegments.{each_parts}
@@ -73,14 +73,6 @@ all_right image x events (k ∷ keys) e =
     (none_wrong image x events k a.0, all_right image x events keys a.1)
 
 -- ---- the deltas that are due are among those that are tested
-
--- a height at which there is a node is at most the number of leaves
-height_low : (k h : ℕ) → 2 ≤ k → h + 1 ≤ k ^ h
-height_low k zero le = omega (arith, pow-zero k)
-height_low k (suc h) le =
-    let below = height_low k h le in
-    let twice : k ^ h * 2 ≤ k ^ h * k = subst (λ n. n ≤ k ^ h * k) (mul_comm 2 (k ^ h)) (subst (λ n. 2 * k ^ h ≤ n) (mul_comm k (k ^ h)) (mul-le-mul_right (k ^ h) le)) in
-    omega (arith, below, twice, pow-suc k h)
 
 module _ (P : Key → Type 0) (p : Params) (n : ℕ) (two : 2 ≤ p.k) (all : Each P (delta_keys p n)) where
   at_height : (Q : ℕ → Type 0) → Each Q (heights p.k (leaves p n)) → (h : ℕ) → 1 ≤ h → p.k ^ h ≤ leaves p n → Q h

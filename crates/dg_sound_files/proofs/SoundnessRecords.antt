@@ -3,7 +3,7 @@ use Rattle.std.proofs.Common.{◌≡◌, ℕ, ◌+◌, ◌-◌, ◌*◌, ◌≤�
 use Rattle.std.specs.Prelude.{◌==◌, ◌&&◌, ◌/◌, ◌^◌}
 use Rattle.std.specs.List.{flat_map}
 use Rattle.std.specs.Map.{lookup}
-use Rattle.std.proofs.lemmas.Bool.{eqb-true, eq-eqb}
+use Rattle.std.proofs.lemmas.Bool.{eqb-true, eq-eqb, and_parts}
 use Rattle.std.proofs.lemmas.List.{drop-drop, drop-take, map-append}
 use Rattle.std.proofs.lemmas.List.Concat.{flat_map-append}
 use Rattle.std.proofs.lemmas.List.Sums.{sum_by_push, sum_by-cons}
@@ -25,9 +25,9 @@ use Rattle.dg_index.specs.declared.entry.BatchEntry.{BatchEntry}
 use Rattle.dg_index.specs.declared.entry.Ends.{Ends}
 use Rattle.dg_index.specs.declared.entry.Entry.{Entry}
 use Rattle.dg_index.specs.declared.entry.Row.{Row}
-use Rattle.dg_index.proofs.ImageTextNames.{both}
 use Rattle.dg_index.proofs.IndexKeyUniqueness.{fresh_next}
-use Rattle.dg_index.proofs.IndexRecordColumns.{Each, each_append, each_flat, each_map, each_number, events_among, IsKept, piece_there}
+use Rattle.dg_history.proofs.LegalHistories.{events_among}
+use Rattle.dg_index.proofs.IndexRecordColumns.{Each, each_append, each_flat, each_map, each_number, IsKept, piece_there}
 use Rattle.dg_index.proofs.EverAddedBounds.{kept_more}
 use Rattle.dg_index.proofs.OpenedSoFar.{one_more}
 use Rattle.dg_index.proofs.HierarchyStability.{leaves_more}
@@ -80,7 +80,7 @@ module _ (image : List ℕ) (x : Opened) (events : List Event) (pos : 0 < x.inde
       ends_are : (o : Option Ends) (list : List Event) → have_ends o list ≡ true → o ≡ Some (record { first = first_time_of list; last = last_time_from 0 list })
       ends_are None list e = absurd cc
       ends_are (Some ends) list e =
-          let t = both (ends.first == first_time_of list) _ e in
+          let t = and_parts (ends.first == first_time_of list) _ e in
           λ i. Some (record { first = eqb-true ends.first (first_time_of list) t.0 i; last = eqb-true ends.last (last_time_from 0 list) t.1 i })
 
   good_top : (h : ℕ) → IsRightDelta image x events (key.Top h) → IsGood (key.Top h)

@@ -1,12 +1,11 @@
 -- What is read of a record has numbers of names that can be spelled, as many events as are due, and times that do not fall.
 use Rattle.std.proofs.Common.{◌≡◌, ℕ, zero, suc, ◌+◌, ◌<◌, ◌≤◌, ◌^◌, Bool, true, false, List, [], ◌∷◌, ◌++◌, Option, Some, None, if◌then◌else◌, length, map, find, refl, ap, subst, arith}
-use Rattle.std.specs.Prelude.{IfSome, ◌==◌, ◌&&◌, is_some, nat_le, option_and_then}
+use Rattle.std.specs.Prelude.{IfSome, ◌==◌, is_some, nat_le, option_and_then}
 use Rattle.std.specs.List.{All}
 use Rattle.std.specs.Option.{option_map}
 use Rattle.std.proofs.lemmas.List.Elements.{All-nil, All-cons, All-head, All-tail, All-append}
 use Rattle.std.specs.Map.{lookup}
-use borrow.Author.Tests.{leb-true}
-use Rattle.dg_build.specs.SpelledRecords.{RisesFrom}
+use Rattle.std.proofs.lemmas.Bool.{and_parts, leb-true}
 use Rattle.dg_columns.specs.NamesInRange.{NamesFit}
 use Rattle.dg_columns.specs.Ranges.{BodyFits, EventsFit}
 use Rattle.dg_retrieval.specs.NamesThere.{BodyHasNamesThere, EventNamesAreThere}
@@ -17,6 +16,7 @@ use Rattle.dg_graph.specs.declared.placed.Placed.{Placed}
 use Rattle.dg_graph.specs.declared.element.Column.{Column}
 use Rattle.dg_history.specs.declared.node.Key.{Key}
 use Rattle.dg_history.specs.Keys.{same_key}
+use Rattle.dg_history.specs.EventTimes.{RisesFrom}
 use Rattle.dg_index.specs.declared.entry.Entry.{Entry}
 use Rattle.dg_index.specs.OpenedIndex.{Opening, column_at, entry_at, entry_or_none}
 use Rattle.dg_graph.specs.ColumnMerge.{at_positions, if_never_fall, merged, never_fall}
@@ -83,12 +83,8 @@ if_not_falling es events h = by_test (never_fall 0 es) refl h
 never_falls : (earliest : ℕ) (events : List Event) → never_fall earliest events ≡ true → RisesFrom earliest events
 never_falls earliest [] h = tt
 never_falls earliest (e ∷ events) h =
-    let parts = both (nat_le earliest e.time) (never_fall e.time events) h in
+    let parts = and_parts (nat_le earliest e.time) (never_fall e.time events) h in
     (leb-true earliest e.time parts.0, never_falls e.time events parts.1)
-  where
-    both : (a b : Bool) → (a && b) ≡ true → (a ≡ true) × (b ≡ true)
-    both true b h = (refl, h)
-    both false b h = cc
 
 module _ (names : ℕ) where
   -- so many events, all of which fit

@@ -1,64 +1,20 @@
--- Where the events of an index stand: each record is held.
-use Rattle.std.proofs.Common.{◌≡◌, ℕ, zero, suc, ◌+◌, ◌-◌, ◌*◌, ◌<◌, ◌≤◌, ◌^◌, Bool, true, false, ◌||◌, List, [], ◌∷◌, ◌++◌, Some, None, if◌then◌else◌, length, map, drop, slice_get, refl, sym, ◌∙◌, ap, subst, arith}
-use Rattle.std.specs.Prelude.{is_some, ◌==◌}
+-- Where the events of an index stand: the sources of its recent events, one after another.
+use Rattle.std.proofs.Common.{◌≡◌, ℕ, zero, suc, ◌+◌, ◌-◌, ◌*◌, ◌<◌, ◌≤◌, ◌^◌, Bool, true, false, List, [], ◌∷◌, ◌++◌, Some, None, if◌then◌else◌, length, map, drop, slice_get, refl, sym, ◌∙◌, ap, subst, arith}
+use Rattle.std.specs.Prelude.{◌==◌}
 use Rattle.std.specs.List.{All}
-use Rattle.std.specs.Map.{lookup}
 use Rattle.std.proofs.lemmas.List.{drop_all, map-append}
 use Rattle.std.proofs.lemmas.List.Sums.{sum_by-cons}
 use Rattle.std.proofs.lemmas.List.Elements.{All-append, All-cons, All-nil}
 use Rattle.std.proofs.lemmas.Option.{slice_get_within}
-use borrow.Author.Tests.{eq-eqb}
-use Rattle.dg_history.specs.declared.node.Key.{Key}
-use Rattle.dg_history.specs.declared.node.Key.TheVariants as key
-use Rattle.dg_history.specs.declared.params.Params.{Params}
-use Rattle.dg_history.specs.Keys.{same_key}
 use Rattle.dg_index.specs.declared.entry.BatchEntry.{BatchEntry}
 use Rattle.dg_index.specs.Hierarchy.{leaves}
-use Rattle.dg_index.specs.IndexKeys.{AreKept, among, keys_among}
-use Rattle.dg_index.specs.IndexRecords.{lists_due, deltas_due}
+use Rattle.dg_index.specs.IndexKeys.{AreKept}
 use Rattle.dg_index.specs.OpenedIndex.{Opening, event_total}
 use Rattle.dg_index.specs.RecentEvents.{RecentPiece, pieces_ahead}
 use Rattle.dg_start.specs.RecentEvents.{piece_source}
-use Rattle.dg_index.proofs.IndexKeyRecords.{among_append, found}
+use Rattle.dg_index.proofs.HeldRecords.{piece_held}
 use Rattle.dg_start.specs.declared.event_source.EventSource.{EventSource}
 use Rattle.dg_start.specs.EventSources.{CanBeRead, source_of}
-
--- ---- what is held
-
-key_held : (o : Opening) (k : Key) → AreKept o → among k (keys_among o.params 0 0 o.batches) ≡ true → is_some (lookup (same_key k) o.records) ≡ true
-key_held o k kept there = found o.records k (ap (among k) kept ∙ there)
-
-or_first : (a b : Bool) → a ≡ true → (a || b) ≡ true
-or_first true b e = refl
-or_first false b e = cc
-
-or_later : (a b : Bool) → b ≡ true → (a || b) ≡ true
-or_later true b e = refl
-or_later false b e = e
-
-piece_among : (p : Params) (batches : List BatchEntry) (number count i : ℕ) → i < length batches → among (key.Piece (number + i)) (keys_among p number count batches) ≡ true
-piece_among p [] number count i lt = absurd (omega (arith, lt))
-piece_among p (b ∷ batches) number count i lt = by i refl (λ j le. piece_among p batches (number + 1) (count + b.events) j le)
-  where
-    by : (j : ℕ) → i ≡ j → ((j : ℕ) → j < length batches → among (key.Piece (number + 1 + j)) (keys_among p (number + 1) (count + b.events) batches) ≡ true)
-        → among (key.Piece (number + i)) (keys_among p number count (b ∷ batches)) ≡ true
-    by zero e later =
-        let k : Key = key.Piece (number + i) in
-        let same : same_key k (key.Piece number) ≡ true = eq-eqb (number + i) number (omega (arith, e)) in
-        among_append k (lists_due p count (count + b.events) ++ (deltas_due p.k (leaves p count) (leaves p (count + b.events)) ++ key.Piece number ∷ [])) (keys_among p (number + 1) (count + b.events) batches)
-        ∙ or_first _ _ (among_append k (lists_due p count (count + b.events)) (deltas_due p.k (leaves p count) (leaves p (count + b.events)) ++ key.Piece number ∷ [])
-        ∙ or_later _ _ (among_append k (deltas_due p.k (leaves p count) (leaves p (count + b.events))) (key.Piece number ∷ []) ∙ or_later _ _ (or_first _ _ same)))
-    by (suc j) e later =
-        let k : Key = key.Piece (number + i) in
-        among_append k (lists_due p count (count + b.events) ++ (deltas_due p.k (leaves p count) (leaves p (count + b.events)) ++ key.Piece number ∷ [])) (keys_among p (number + 1) (count + b.events) batches)
-        ∙ or_later _ _ (ap (λ (n : ℕ). among (key.Piece n) (keys_among p (number + 1) (count + b.events) batches)) (let z : number + i ≡ number + 1 + j = omega (arith, e) in z)
-        ∙ later j (omega (arith, lt, e)))
-
-pub piece_held : (o : Opening) (i : ℕ) → AreKept o → i < length o.batches → is_some (lookup (same_key (key.Piece i)) o.records) ≡ true
-piece_held o i kept lt =
-    key_held o (key.Piece i) kept (ap (λ (n : ℕ). among (key.Piece n) (keys_among o.params 0 0 o.batches)) (let z : i ≡ 0 + i = omega arith in z) ∙ piece_among o.params o.batches 0 0 i lt)
-
--- ---- sources one after another
 
 pub source_more : (old new : List EventSource) (s : EventSource) → new ≡ old ++ s ∷ [] → map source_of new ≡ map source_of old ++ source_of s ∷ []
 source_more old new s is = ap (map source_of) is ∙ map-append source_of old (s ∷ [])
@@ -83,7 +39,7 @@ pub record PiecesSoFar (o : Opening) (number before : ℕ) (found : List EventSo
 pub no_pieces : (o : Opening) (found : List EventSource) → found ≡ [] → PiecesSoFar o 0 0 found
 no_pieces o found none = record { pieces = []; found_are = ap (map source_of) none; ahead = refl; counted = omega arith }
 
-from_here : (batches : List BatchEntry) (n : ℕ) (b : BatchEntry) → slice_get batches n ≡ Some b → drop n batches ≡ b ∷ drop (n + 1) batches
+pub from_here : (batches : List BatchEntry) (n : ℕ) (b : BatchEntry) → slice_get batches n ≡ Some b → drop n batches ≡ b ∷ drop (n + 1) batches
 from_here [] n b there = cc
 from_here (x ∷ batches) zero b there = let e : x ≡ b = cc in ap (λ (t : BatchEntry). t ∷ batches) e
 from_here (x ∷ batches) (suc n) b there =

@@ -4,15 +4,11 @@ use Rattle.std.proofs.lemmas.Bool.{false≢true}
 use Rattle.std.proofs.lemmas.List.{drop_all, length-take-le, take-append-drop}
 use Rattle.dg_graph.specs.declared.element.Element.{Element}
 use Rattle.dg_graph.specs.declared.event.Event.{Event}
-use Rattle.dg_graph.specs.Effect.{forwards}
 use Rattle.dg_graph.specs.Replay.{replay_from}
+use Rattle.dg_graph.proofs.ExactEvents.{replay_append}
 use Rattle.dg_start.specs.RecentEvents.{Source, first_wrong_event}
 use Rattle.dg_start.specs.EventSources.{ArePartedBy, FirstWrong, bounded, or_later_number}
 use Rattle.dg_start.proofs.RecentEventSources.{IsNextSource}
-
-pub replay_more : (set : List Element) (a b : List Event) → replay_from set (a ++ b) ≡ replay_from (replay_from set a) b
-replay_more set [] b = refl
-replay_more set (e ∷ a) b = replay_more (forwards set e) a b
 
 pub none_is : {A : Type 0} (o : Option A) → is_some o ≡ false → o ≡ None
 none_is None h = refl
@@ -89,7 +85,7 @@ module _ (names : List (List ℕ)) (first : ℕ) (set : List Element) (all : Lis
           led =
               (λ j. replay_from (led none j) (sym from_here j))
               ∙ ap (λ (es : List Event). replay_from (replay_from graph es) (drop s.count (drop at events))) own_is
-              ∙ sym (replay_more graph (take s.count (drop at events)) (drop s.count (drop at events)))
+              ∙ sym (replay_append graph (take s.count (drop at events)) (drop s.count (drop at events)))
               ∙ ap (replay_from graph) (take-append-drop s.count (drop at events))
               ∙ so_far.led;
           parted = subst (ArePartedBy (drop (i + 1) all)) from_here parted_here.2;

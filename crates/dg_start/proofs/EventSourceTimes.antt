@@ -3,8 +3,8 @@ use Rattle.std.proofs.Common.{◌≡◌, ℕ, List, [], ◌∷◌, ◌++◌, len
 use Rattle.std.specs.Prelude.{sum_by}
 use Rattle.std.proofs.lemmas.List.{drop-append-le, length-take-le, take-append-drop, take-append-le, take_all, drop_all, map-append}
 use Rattle.std.proofs.lemmas.List.Sums.{sum_by-cons}
-use Rattle.dg_build.specs.SpelledRecords.{RisesFrom}
 use Rattle.dg_graph.specs.declared.event.Event.{Event}
+use Rattle.dg_history.specs.EventTimes.{RisesFrom}
 use Rattle.dg_index.specs.declared.entry.Ends.{Ends}
 use Rattle.dg_start.specs.RecentEvents.{Source}
 use Rattle.dg_start.specs.EventSources.{ArePartedBy, bounded}

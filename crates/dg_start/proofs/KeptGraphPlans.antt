@@ -46,7 +46,7 @@ use Rattle.dg_retrieval.specs.KeptGraph.{record_edges, record_ground}
 use Rattle.dg_retrieval.specs.NodeSets.{IsLedByPlan, set_after}
 use Rattle.dg_retrieval.proofs.KeptGraphRecords.{NamesWhatExists, named_edges}
 use Rattle.dg_retrieval.proofs.BranchTrees.{all_at}
-use Rattle.dg_start.proofs.OpenedIndexHistory.{behind}
+use Rattle.dg_index.proofs.OpenedLegalHistories.{behind}
 
 -- ---- each edge of the records alone reads a record
 

@@ -4,9 +4,7 @@ pub mod SessionStartOutcomes
 pub mod EventSourceSources
 pub mod RecentEventFaults
 pub mod SessionStartSets
-pub mod NetLawEvents
 pub mod SessionStartUniqueness
-pub mod OpenedIndexHistory
 pub mod SessionStartOpenings
 pub mod KeptGraphPlans
 pub mod ColumnMergeRecords

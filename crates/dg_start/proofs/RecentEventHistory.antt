@@ -1,16 +1,16 @@
 -- The recent events of an image of a history: they are read, and are right.
-use Rattle.std.proofs.Common.{◌≡◌, ℕ, zero, suc, ◌+◌, ◌-◌, ◌*◌, ◌<◌, ◌≤◌, Bool, true, false, ◌&&◌, ◌==◌, List, [], ◌∷◌, ◌++◌, Option, Some, None, Result, Ok, if◌then◌else◌, length, map, take, drop, max, refl, sym, ◌∙◌, ap, subst, nat_le, arith, append_assoc, append-nil, length-append, length-drop}
+use Rattle.std.proofs.Common.{◌≡◌, ℕ, zero, suc, ◌+◌, ◌-◌, ◌*◌, ◌<◌, ◌≤◌, Bool, true, false, ◌&&◌, ◌==◌, List, [], ◌∷◌, ◌++◌, Some, None, Result, Ok, if◌then◌else◌, length, map, take, drop, max, refl, sym, ◌∙◌, ap, subst, nat_le, arith, append_assoc, append-nil, length-append, length-drop}
 use Rattle.std.specs.Prelude.{IsTrue, is_some}
 use Rattle.std.specs.List.{All}
 use Rattle.std.specs.Map.{lookup}
 use Rattle.std.proofs.lemmas.Grind.{flat_map-append}
 use Rattle.std.proofs.lemmas.List.{length-map, take-append-drop}
 use Rattle.std.proofs.lemmas.List.{map-append}
-use Rattle.std.proofs.lemmas.List.Elements.{All-append, All-drop, All-head, All-nil, All-tail}
-use Rattle.std.proofs.lemmas.List.Sums.{sum_by_push}
+use Rattle.std.proofs.lemmas.List.Elements.{All-drop, All-head, All-tail}
 use borrow.Author.Tests.{le-leb}
 use Rattle.dg_columns.specs.ColumnLaws.{EventsAreReadBack, EventsAreMergedBack}
 use Rattle.dg_columns.specs.Ranges.{EventsFit}
+use Rattle.dg_columns.proofs.EventRanges.{fit_drop, fit_earlier, fit_parts, no_fall}
 use Rattle.dg_fold.specs.HistoryPaths.{IsIndexed}
 use Rattle.dg_fold.proofs.LegalHistories.{legal_is_indexed}
 use Rattle.dg_graph.specs.declared.element.Column.{Column}
@@ -20,40 +20,36 @@ use Rattle.dg_graph.specs.declared.event.Event.{Event}
 use Rattle.dg_graph.specs.declared.limits.TheConstants.{NAMES_MAX}
 use Rattle.dg_graph.specs.declared.placed.Placed.{Placed}
 use Rattle.dg_graph.specs.ColumnGrammar.{events_in as read_as_events}
-use Rattle.dg_graph.specs.ColumnMerge.{never_fall, merged}
+use Rattle.dg_graph.specs.ColumnMerge.{merged}
 use Rattle.dg_graph.specs.Columns.{events_column, placed_in}
 use Rattle.dg_graph.specs.Completion.{has_key, is_change_of}
 use Rattle.dg_graph.specs.Effect.{forwards}
+use Rattle.dg_graph.specs.MadeByChanges.{AreMadeByChanges}
 use Rattle.dg_graph.specs.Replay.{replay}
+use Rattle.dg_graph.proofs.Completions.{made_behind}
 use Rattle.dg_history.specs.declared.node.Key.{Key}
 use Rattle.dg_history.specs.declared.node.Key.TheVariants as key
 use Rattle.dg_history.specs.declared.params.Params.{Params}
 use Rattle.dg_history.specs.History.{first_time_of, History, Batch, events_of, names_of, last_time_from}
 use Rattle.dg_history.specs.Keys.{same_key}
-use Rattle.dg_history.specs.LegalHistory.{AreLegalAfter}
+use Rattle.dg_history.proofs.LegalHistories.{all_keys, events_among, events_made}
 use Rattle.dg_index.specs.declared.entry.BatchEntry.{BatchEntry}
 use Rattle.dg_index.specs.declared.entry.Ends.{Ends}
-use Rattle.dg_index.specs.declared.entry.Entry.{Entry}
-use Rattle.dg_index.specs.FileOfHistory.{Segment, directory, segment_bytes, segment_of, stored_list}
-use Rattle.dg_index.specs.Hierarchy.{leaves, numbers}
+use Rattle.dg_index.specs.Hierarchy.{leaves}
 use Rattle.dg_index.specs.ImageOfHistory.{IsImageOf}
-use Rattle.dg_index.specs.IndexKeys.{AreKept}
-use Rattle.dg_index.specs.IndexRecords.{column_in, deltas_due, piece_at, piece_of, recent_of}
-use Rattle.dg_index.specs.OpenedIndex.{Opened, Opening, bare, column_at, directory_of, entry_at, entry_or_none, event_total, last_list, list_row, opened_of, opened_onto, record_row, with_segment}
+use Rattle.dg_index.specs.IndexRecords.{piece_at, piece_of, recent_of}
+use Rattle.dg_index.specs.OpenedIndex.{Opening, column_at, entry_at, last_list, opened_of}
 use Rattle.dg_index.specs.RecentEvents.{RecentPiece, pieces_ahead}
-use Rattle.dg_index.proofs.HierarchyCounts.{numbers_length}
-use Rattle.dg_index.proofs.IndexRecordColumns.{Each, columns_are_kept, each_append, piece_there}
-use Rattle.dg_index.proofs.EverAddedBounds.{kept_more, piece_short}
+use Rattle.dg_index.proofs.IndexRecordColumns.{Each, each_append, piece_there}
+use Rattle.dg_index.proofs.EverAddedBounds.{piece_short}
+use Rattle.dg_index.proofs.HeldRecords.{AreKnown, columns_there, known, piece_held}
 use Rattle.dg_index.proofs.OpenedIndexHistories.{IsBehind, large_parameters}
+use Rattle.dg_index.proofs.OpenedLegalHistories.{behind}
 use Rattle.dg_index.proofs.RecentEvents.{together}
 use Rattle.dg_index.proofs.RecentEventPieces.{batches_of, noted, recent_read}
-use Rattle.dg_list.specs.NetLaws.{AreMadeByChanges}
 use Rattle.dg_start.specs.declared.fault.StartFault.{StartFault}
 use Rattle.dg_start.specs.RecentEvents.{Source, and_start, events_in_source, events_in_sources, first_wrong_event, is_right, merged_or_fault, piece_source, placed_in_record, recent_in_image, spelled_or_fault}
 use Rattle.dg_start.proofs.EventSourceTimes.{tagged, untag, untagged}
-use Rattle.dg_start.proofs.EventSourceSources.{piece_held}
-use Rattle.dg_start.proofs.NetLawEvents.{batches_made, events_among, made_behind}
-use Rattle.dg_start.proofs.OpenedIndexHistory.{behind}
 use Rattle.dg_start.proofs.RecentEventTimes.{AreWithin}
 
 -- ---- what is known of the events of a legal history
@@ -62,38 +58,11 @@ use Rattle.dg_start.proofs.RecentEventTimes.{AreWithin}
 abbrev HaveKeys : List (List ℕ) → List Event → Type 0
 HaveKeys names events = All (λ (e : Event). IsTrue (has_key names e.body)) events
 
-batches_keys : (names : List (List ℕ)) (before : List Event) (batches : List Batch) → AreLegalAfter names before batches → HaveKeys names (events_among batches)
-batches_keys names before [] l = All-nil (λ (e : Event). IsTrue (has_key names e.body))
-batches_keys names before (b ∷ batches) l =
-    All-append (λ (e : Event). IsTrue (has_key names e.body)) b.events (events_among batches) l.0.keys (batches_keys names (before ++ b.events) batches l.1)
-
 -- ---- some of the events that fit
-
-fit_earlier : (n s t : ℕ) (events : List Event) → s ≤ t → EventsFit n t events → EventsFit n s events
-fit_earlier n s t [] le h = tt
-fit_earlier n s t (e ∷ events) le h = (record { not_before = omega (arith, le, h.0.not_before); not_after = h.0.not_after; fits = h.0.fits }, h.1)
-
-fit_front : (n t : ℕ) (xs ys : List Event) → EventsFit n t (xs ++ ys) → EventsFit n t xs
-fit_front n t [] ys h = tt
-fit_front n t (x ∷ xs) ys h = (h.0, fit_front n x.time xs ys h.1)
 
 fit_back : (n t : ℕ) (xs ys : List Event) → EventsFit n t (xs ++ ys) → EventsFit n (last_time_from t xs) ys
 fit_back n t [] ys h = h
 fit_back n t (x ∷ xs) ys h = fit_back n x.time xs ys h.1
-
-fit_take : (n t k : ℕ) (events : List Event) → EventsFit n t events → EventsFit n t (take k events)
-fit_take n t zero events h = tt
-fit_take n t (suc k) [] h = tt
-fit_take n t (suc k) (e ∷ events) h = (h.0, fit_take n e.time k events h.1)
-
-fit_drop : (n t k : ℕ) (events : List Event) → EventsFit n t events → EventsFit n 0 (drop k events)
-fit_drop n t zero events h = fit_earlier n 0 t events (omega arith) h
-fit_drop n t (suc k) [] h = tt
-fit_drop n t (suc k) (e ∷ events) h = fit_drop n e.time k events h.1
-
-no_fall : (n earliest : ℕ) (events : List Event) → EventsFit n earliest events → never_fall earliest events ≡ true
-no_fall n earliest [] h = refl
-no_fall n earliest (e ∷ events) h = ap (λ b. b && never_fall e.time events) (le-leb earliest e.time h.0.not_before) ∙ no_fall n e.time events h.1
 
 fit_last : (n t : ℕ) (events : List Event) → EventsFit n t events → t ≤ last_time_from t events
 fit_last n t [] h = omega arith
@@ -142,56 +111,6 @@ within_joined : (xs ys : List (Ends × Event)) → AreWithin xs → AreWithin ys
 within_joined [] ys h more = more
 within_joined (x ∷ xs) ys h more = (h.0, h.1, within_joined xs ys h.2 more)
 
--- ---- the records of the index
-
--- What is known of what is opened so far, behind these events.
-record AreKnown (p : Params) (x : Opened) (before : List Event) : Type 0 where
-  params : x.index.params ≡ p
-  count : event_total x.index.batches ≡ length before
-  kept : AreKept x.index
-
-known_more : (p : Params) (x : Opened) (before : List Event) (b : Batch) → AreKnown p x before → AreKnown p (with_segment x (segment_of p before b)) (before ++ b.events)
-known_more p x before b a =
-    let s : Segment = segment_of p before b in
-    let all : List Event = before ++ b.events in
-    let m : ℕ = leaves p (length before) in
-    let after : ℕ = leaves p (length before + length b.events) in
-    let offset : ℕ = x.index.used + 16 + length (directory s) in
-    let lists : length (map list_row s.lists) ≡ leaves x.index.params (event_total x.index.batches + length b.events) - leaves x.index.params (event_total x.index.batches) =
-    length-map s.lists list_row ∙ length-map (numbers m (after - m)) (stored_list p all) ∙ numbers_length m (after - m)
-    ∙ (λ i. leaves (sym a.params i) (sym a.count i + length b.events) - leaves (sym a.params i) (sym a.count i)) in
-    let deltas : length (map record_row s.deltas)
-    ≡ length (deltas_due x.index.params.k (leaves x.index.params (event_total x.index.batches)) (leaves x.index.params (event_total x.index.batches + length b.events))) =
-    length-map s.deltas record_row ∙ length-map (deltas_due p.k m after) _
-    ∙ (λ i. length (deltas_due (sym a.params i).k (leaves (sym a.params i) (sym a.count i)) (leaves (sym a.params i) (sym a.count i + length b.events)))) in
-    record {
-      params = a.params;
-      count = sum_by_push (λ (b : BatchEntry). b.events) x.index.batches (directory_of s).batch ∙ ap (λ c. c + length b.events) a.count ∙ sym (length-append before b.events);
-      kept = kept_more x (directory_of s) offset (x.index.used + length (segment_bytes s) + 1) a.kept lists deltas;
-    }
-
-known_all : (p : Params) (batches : List Batch) (x : Opened) (before : List Event) → AreKnown p x before → AreKnown p (opened_onto p x before batches) (before ++ events_among batches)
-known_all p [] x before a = subst (λ (l : List Event). AreKnown p x l) (sym (append-nil before)) a
-known_all p (b ∷ batches) x before a =
-    subst (λ (l : List Event). AreKnown p (opened_onto p x before (b ∷ batches)) l) (append_assoc before b.events (events_among batches))
-    (known_all p batches (with_segment x (segment_of p before b)) (before ++ b.events) (known_more p x before b a))
-
-known : (z : History) → AreKnown z.params (opened_of z) (events_of z)
-known z = known_all z.params z.batches (bare z.params) [] (record { params = refl; count = refl; kept = refl })
-
--- what is kept at a key that is held
-record IsHeld (o : Opening) (k : Key) : Type 0 where
-  entry : Entry
-  found : lookup (same_key k) o.records ≡ Some entry
-  is : entry_at o k ≡ entry
-
-held_at : (o : Opening) (k : Key) → is_some (lookup (same_key k) o.records) ≡ true → IsHeld o k
-held_at o k h = by (lookup (same_key k) o.records) refl h
-  where
-    by : (e : Option Entry) → lookup (same_key k) o.records ≡ e → is_some e ≡ true → IsHeld o k
-    by None is h = cc
-    by (Some e) is h = record { entry = e; found = is; is = ap entry_or_none is }
-
 -- ---- one source
 
 abbrev by_columns : Key → ℕ → Result (List Placed) StartFault → Result (List Placed) StartFault → Result (List Placed) StartFault → Result (List Event) StartFault
@@ -226,11 +145,6 @@ module _ (back : EventsAreReadBack) (merge : EventsAreMergedBack) (z : History) 
   fit : EventsFit (length (names_of z)) 0 (events_of z)
   fit = indexed.fits
 
-  columns_there : (k : Key) → is_some (lookup (same_key k) (opened_of z).index.records) ≡ true → (col : Column) → column_at image (entry_at (opened_of z).index k) col ≡ column_in z k col
-  columns_there k held col =
-      let e : IsHeld (opened_of z).index k = held_at (opened_of z).index k held in
-      ap (λ (x : Entry). column_at image x col) e.is ∙ columns_are_kept z image h k e.entry e.found col
-
   -- ---- recent pieces
 
   record GoodPiece (a : RecentPiece) : Type 0 where
@@ -254,7 +168,7 @@ module _ (back : EventsAreReadBack) (merge : EventsAreMergedBack) (z : History) 
       ap (λ (l : List Batch). piece_at z.params [] l (length front)) is ∙ piece_there z.params [] front b more in
       let whole : events_of z ≡ before ++ (b.events ++ events_among more) = ap events_among is ∙ flat_map-append (λ (b : Batch). b.events) front (b ∷ more) in
       let own : EventsFit n (last_time_from 0 before) b.events =
-      fit_front n (last_time_from 0 before) b.events (events_among more) (fit_back n 0 before (b.events ++ events_among more) (subst (EventsFit n 0) whole fit)) in
+      (fit_parts n (last_time_from 0 before) b.events (events_among more) (fit_back n 0 before (b.events ++ events_among more) (subst (EventsFit n 0) whole fit))).0 in
       record {
         held = omega (arith, ap length is, length-append front (b ∷ more));
         count = sym (length-drop k b.events) ∙ ap length (sym piece);
@@ -299,7 +213,7 @@ module _ (back : EventsAreReadBack) (merge : EventsAreMergedBack) (z : History) 
       let batches : length o.batches ≡ length z.batches = ap length (batches_of z) ∙ length-map z.batches noted in
       let there : is_some (lookup (same_key (key.Piece a.number)) o.records) ≡ true = piece_held o a.number records.kept (omega (arith, batches, good.0.held)) in
       ap (λ r. and_start r (λ events. and_start (events_in_sources image n o (map (piece_source o) pieces)) (λ later. Ok (map (λ (e : Event). (ends, e)) events ++ later))))
-      (source_is back merge image n h.legal.few_names o (piece_source o a) own (columns_there (key.Piece a.number) there) good.0.count good.0.short good.0.fits)
+      (source_is back merge image n h.legal.few_names o (piece_source o a) own (columns_there z image h (key.Piece a.number) there) good.0.count good.0.short good.0.fits)
       ∙ ap (λ r. and_start r (λ later. Ok (tagged ends own ++ later))) (pieces_read pieces good.1)
 
   pieces_events : (pieces : List RecentPiece) → untag (piece_pairs pieces) ≡ together (map (λ (a : RecentPiece). piece_at z.params [] z.batches a.number) pieces)
@@ -317,7 +231,7 @@ module _ (back : EventsAreReadBack) (merge : EventsAreMergedBack) (z : History) 
       let low : ℕ = last_list 0 (opened_of z).index.records in
       let own : List Event = piece_at z.params [] z.batches a.number in
       let later : List Event = together (map (λ (a : RecentPiece). piece_at z.params [] z.batches a.number) pieces) in
-      let mine : EventsFit n low own = fit_front n low own later f in
+      let mine : EventsFit n low own = (fit_parts n low own later f).0 in
       within_joined (tagged (piece_source (opened_of z).index a).ends own) (piece_pairs pieces) (within_both a.batch.ends n low own mine good.0.within)
       (pieces_within pieces good.1 (fit_earlier n low (last_time_from low own) later (fit_last n low own mine) (fit_back n low own later f)))
 
@@ -356,11 +270,10 @@ module _ (back : EventsAreReadBack) (merge : EventsAreMergedBack) (z : History) 
   pub none_is_wrong : (n : ℕ) → first_wrong_event (names_of z) n (replay (take (leaves z.params (length (events_of z)) * z.params.l) (events_of z))) recent_pairs ≡ None
   none_is_wrong n =
       let m : ℕ = leaves z.params (length (events_of z)) * z.params.l in
-      let made : AreMadeByChanges [] (events_of z) = batches_made (names_of z) [] z.batches tt h.legal.batches in
       let behind_them : AreMadeByChanges (replay (take m (events_of z))) (drop m (events_of z)) =
-      made_behind [] (take m (events_of z)) (drop m (events_of z)) (subst (AreMadeByChanges []) (sym (take-append-drop m (events_of z))) made) in
+      made_behind [] (take m (events_of z)) (drop m (events_of z)) (subst (AreMadeByChanges []) (sym (take-append-drop m (events_of z))) (events_made z h.legal)) in
       let keys : HaveKeys (names_of z) (drop m (events_of z)) =
-      All-drop (λ (e : Event). IsTrue (has_key (names_of z) e.body)) m (events_of z) (batches_keys (names_of z) [] z.batches h.legal.batches) in
+      All-drop (λ (e : Event). IsTrue (has_key (names_of z) e.body)) m (events_of z) (all_keys (names_of z) [] z.batches h.legal.batches) in
       none_wrong (names_of z) n (replay (take m (events_of z))) recent_pairs
       (subst (AreMadeByChanges (replay (take m (events_of z)))) (sym recent) behind_them)
       (subst (HaveKeys (names_of z)) (sym recent) keys)

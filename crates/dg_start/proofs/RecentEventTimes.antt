@@ -3,8 +3,8 @@ use Rattle.std.proofs.Common.{◌≡◌, ℕ, ◌+◌, ◌-◌, ◌*◌, ◌/◌
 use Rattle.std.specs.Prelude.{nat_le, ◌==◌, sum_by}
 use Rattle.std.proofs.lemmas.List.{map-append}
 use Rattle.std.proofs.lemmas.List.Sums.{sum_by-cons}
+use Rattle.std.proofs.lemmas.Bool.{and_parts}
 use borrow.Author.Tests.{eq-eqb, eqb-true, leb-true}
-use Rattle.dg_build.specs.SpelledRecords.{RisesFrom}
 use Rattle.dg_graph.specs.declared.element.Element.{Element}
 use Rattle.dg_graph.specs.declared.event.Event.{Event}
 use Rattle.dg_graph.specs.Completion.{completes}
@@ -12,7 +12,9 @@ use Rattle.dg_graph.specs.Effect.{forwards}
 use Rattle.dg_history.specs.declared.limits.TheConstants.{BATCH_LINES_MAX, EVENTS_MAX}
 use Rattle.dg_history.specs.declared.node.Key.{Key}
 use Rattle.dg_history.specs.declared.params.Params.{Params}
+use Rattle.dg_history.specs.EventTimes.{RisesFrom}
 use Rattle.dg_history.specs.History.{last_time_from}
+use Rattle.dg_history.proofs.EventTimes.{rises_later}
 use Rattle.dg_index.specs.declared.entry.BatchEntry.{BatchEntry}
 use Rattle.dg_index.specs.declared.entry.Ends.{Ends}
 use Rattle.dg_index.specs.declared.entry.Entry.{Entry}
@@ -27,10 +29,6 @@ use Rattle.dg_start.proofs.EventSourceTimes.{AreOf, counts, tagged, untag, untag
 
 -- ---- events that are right
 
-both_true : (a b : Bool) → (a && b) ≡ true → (a ≡ true) × (b ≡ true)
-both_true true b h = (refl, h)
-both_true false b h = cc
-
 -- each event lies between its instants
 abbrev pub AreWithin : List (Ends × Event) → Type 0
 AreWithin [] = Unit {0}
@@ -38,8 +36,8 @@ AreWithin (p ∷ pairs) = (p.0.first ≤ p.1.time) × (p.1.time ≤ p.0.last) ×
 
 is_within : (names : List (List ℕ)) (set : List Element) (p : Ends × Event) → is_right names set p ≡ true → (p.0.first ≤ p.1.time) × (p.1.time ≤ p.0.last)
 is_within names set p h =
-    let a = both_true (completes names set p.1.body) (nat_le p.0.first p.1.time && nat_le p.1.time p.0.last) h in
-    let t = both_true (nat_le p.0.first p.1.time) (nat_le p.1.time p.0.last) a.1 in
+    let a = and_parts (completes names set p.1.body) (nat_le p.0.first p.1.time && nat_le p.1.time p.0.last) h in
+    let t = and_parts (nat_le p.0.first p.1.time) (nat_le p.1.time p.0.last) a.1 in
     (leb-true p.0.first p.1.time t.0, leb-true p.1.time p.0.last t.1)
 
 pub are_within : (names : List (List ℕ)) (n : ℕ) (set : List Element) (pairs : List (Ends × Event)) → first_wrong_event names n set pairs ≡ None → AreWithin pairs
@@ -122,11 +120,11 @@ Follow e (b ∷ batches) = (e ≤ b.ends.first) × (b.ends.first ≤ b.ends.last
 
 times_of : (count earliest : ℕ) (b : BatchEntry) → may_follow count earliest b ≡ true → (earliest ≤ b.ends.first) × (b.ends.first ≤ b.ends.last)
 times_of count earliest b h =
-    let a = both_true (nat_le 1 b.events) _ h in
-    let c = both_true (nat_le b.events BATCH_LINES_MAX) _ a.1 in
-    let d = both_true (nat_le (count + b.events) EVENTS_MAX) _ c.1 in
-    let e = both_true (nat_le earliest b.ends.first) _ d.1 in
-    let f = both_true (nat_le b.ends.first b.ends.last) _ e.1 in
+    let a = and_parts (nat_le 1 b.events) _ h in
+    let c = and_parts (nat_le b.events BATCH_LINES_MAX) _ a.1 in
+    let d = and_parts (nat_le (count + b.events) EVENTS_MAX) _ c.1 in
+    let e = and_parts (nat_le earliest b.ends.first) _ d.1 in
+    let f = and_parts (nat_le b.ends.first b.ends.last) _ e.1 in
     (leb-true earliest b.ends.first e.0, leb-true b.ends.first b.ends.last f.0)
 
 follow : (count earliest : ℕ) (batches : List BatchEntry) → AreInTurn count earliest batches → Follow earliest batches
@@ -240,10 +238,6 @@ ahead_of o t h = by o.batches refl h
         (ahead_in_turn o o.params (floor_of o t) b.ends.first 0 0 [] (b ∷ batches) starts from (record { in_turn = tt; below = tt }))
 
 -- ---- the recent events rise
-
-rises_later : (s t : ℕ) (events : List Event) → s ≤ t → RisesFrom t events → RisesFrom s events
-rises_later s t [] le r = tt
-rises_later s t (e ∷ events) le r = (omega (arith, le, r.0), r.1)
 
 within_parts : (ends : Ends) (own : List Event) (rest : List (Ends × Event)) → AreWithin (tagged ends own ++ rest) → AreWithin (tagged ends own) × AreWithin rest
 within_parts ends [] rest h = (tt, h)

@@ -6,10 +6,14 @@ use Rattle.dg_graph.specs.declared.element.Column.{Column}
 use Rattle.dg_graph.specs.declared.element.Element.{Element}
 use Rattle.dg_graph.specs.declared.event.Event.{Event}
 use Rattle.dg_graph.specs.Graph.{IsGraph}
+use Rattle.dg_graph.specs.MadeByChanges.{AreMadeByChanges}
 use Rattle.dg_graph.specs.Replay.{replay, replay_from}
+use Rattle.dg_graph.proofs.Completions.{empty_graph, made_before}
+use Rattle.dg_graph.proofs.ExactEvents.{replay_append}
 use Rattle.dg_history.specs.declared.node.Key.{Key}
 use Rattle.dg_history.specs.declared.params.Params.{Params}
 use Rattle.dg_history.specs.History.{History, events_of, names_of}
+use Rattle.dg_history.proofs.LegalHistories.{events_made}
 use Rattle.dg_index.specs.declared.entry.Ends.{Ends}
 use Rattle.dg_index.specs.Hierarchy.{leaves, set_of}
 use Rattle.dg_index.specs.ImageOfHistory.{IsImageOf}
@@ -17,7 +21,7 @@ use Rattle.dg_index.specs.ImageText.{params_in}
 use Rattle.dg_index.specs.IndexRecords.{recent_of}
 use Rattle.dg_index.specs.OpenedIndex.{No_index, Opened, Opening, Unopened, opened_by, opened_of, opening}
 use Rattle.dg_index.proofs.OpenedIndexHistories.{images_are_opened}
-use Rattle.dg_list.specs.NetLaws.{AreMadeByChanges}
+use Rattle.dg_index.proofs.OpenedLegalHistories.{behind}
 use Rattle.dg_list.proofs.NetLaws.{changes_keep_graphs}
 use Rattle.dg_plan.specs.IndexGraph.{leaf}
 use Rattle.dg_retrieval.specs.NodeSets.{IsLedByPlan}
@@ -25,21 +29,8 @@ use Rattle.dg_start.specs.declared.fault.StartFault.{StartFault}
 use Rattle.dg_start.specs.RecentEvents.{events_read, first_wrong_event, recent_in_image}
 use Rattle.dg_start.specs.SessionStart.{Bad_event, Bad_piece, Bad_plan, Good, Not_graph, Started, Starts, StartsBy, StartsIndex, first_recent, last_leaf}
 use Rattle.dg_start.specs.StoredHistory.{StartsAsItStands}
-use Rattle.dg_start.proofs.NetLawEvents.{batches_made, made_before}
-use Rattle.dg_start.proofs.OpenedIndexHistory.{behind}
 use Rattle.dg_start.proofs.KeptGraphPlans.{plan_leads}
 use Rattle.dg_start.proofs.RecentEventHistory.{all_read, all_recent, none_is_wrong, recent_pairs}
-use Rattle.dg_start.proofs.EventSourceTests.{replay_more}
-
--- the empty set is a graph
-empty_graph : IsGraph []
-empty_graph = record {
-  rises = tt;
-  needs = λ x e. cc;
-  one_edge = λ id src dst s t d f e g. cc;
-  one_node_value = λ id key v o e g. cc;
-  one_edge_value = λ id key v o e g. cc;
-}
 
 -- the set of a leaf is the replay of the events before it
 leaf_set : (p : Params) (events : List Event) (m : ℕ) → set_of p events (leaf m) ≡ replay (take (m * p.l) events)
@@ -81,8 +72,7 @@ module _ (back : EventsAreReadBack) (merge : EventsAreMergedBack) (z : History) 
   is_graph : IsGraph (replay before)
   is_graph =
       let n : ℕ = leaves z.params (length (events_of z)) * z.params.l in
-      let made : AreMadeByChanges [] (events_of z) = batches_made (names_of z) [] z.batches tt h.legal.batches in
-      changes_keep_graphs [] before empty_graph (made_before [] before (drop n (events_of z)) (subst (AreMadeByChanges []) (sym (take-append-drop n (events_of z))) made))
+      changes_keep_graphs [] before empty_graph (made_before [] before (drop n (events_of z)) (subst (AreMadeByChanges []) (sym (take-append-drop n (events_of z))) (events_made z h.legal)))
 
   right : first_wrong_event (names_of z) (first_recent o) (replay before) pairs ≡ None
   right = none_is_wrong back merge z image h (first_recent o)
@@ -98,7 +88,7 @@ module _ (back : EventsAreReadBack) (merge : EventsAreMergedBack) (z : History) 
         recent = events_read pairs';
         is = refl;
         graph_is =
-            (λ i. replay_from (from i) (recent i)) ∙ sym (replay_more [] before (recent_of z.params (events_of z)))
+            (λ i. replay_from (from i) (recent i)) ∙ sym (replay_append [] before (recent_of z.params (events_of z)))
             ∙ ap replay (take-append-drop (leaves z.params (length (events_of z)) * z.params.l) (events_of z));
         recent_is = recent;
       }

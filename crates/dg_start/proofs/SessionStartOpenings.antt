@@ -28,7 +28,7 @@ use Rattle.dg_start.specs.SessionStart.{PlansLastLeaf, RefusesStart, Started, St
 use Rattle.dg_start.specs.StoredHistory.{AreCounted, IsSoundHistory, KeepsHistory, MayGoOn, StartsAsItStands, started_with}
 use Rattle.dg_start.proofs.EventSourceBytes.{HandsOn, call_then, fails_with, takes_after, takes_part, takes_raised}
 use Rattle.dg_start.proofs.SessionStartSets.{at_most}
-use Rattle.dg_start.proofs.OpenedIndexHistory.{behind}
+use Rattle.dg_index.proofs.OpenedLegalHistories.{behind}
 use Rattle.dg_start.proofs.EventSourceOutcomes.{if_told, of_told}
 
 -- ---- a blank image

@@ -1,13 +1,13 @@
 -- What the calls of a start answer, and how many bytes each reads.
 use Rattle.std.specs.Prelude.{◌≡◌, ℕ, ◌+◌, true, List, [], Option, Some, Result, Ok, Err, IfSome, length}
 use Rattle.std.specs.List.{All}
-use Rattle.dg_build.specs.SpelledRecords.{RisesFrom}
 use Rattle.dg_columns.specs.NamesInRange.{NamesFit}
 use Rattle.dg_file.specs.OpeningBytes.{blank_bytes}
 use Rattle.dg_fold.specs.BytesRead.{Takes, TakesAtMost}
 use Rattle.dg_graph.specs.declared.element.Element.{Element}
 use Rattle.dg_graph.specs.declared.event.Event.{Event}
 use Rattle.dg_graph.specs.Replay.{replay_from}
+use Rattle.dg_history.specs.EventTimes.{RisesFrom}
 use Rattle.dg_history.specs.History.{History}
 use Rattle.dg_index.specs.ImageOfHistory.{IsImageOf, StandsAs, is_blank}
 use Rattle.dg_index.specs.OpenedIndex.{Opening, opened_of}

@@ -2,12 +2,12 @@
 use Rattle.std.specs.Prelude.{◌≡◌, ℕ, ◌-◌, ◌*◌, ◌≤◌, true, List, [], Option, Some, None, Result, Ok, length}
 use Rattle.std.specs.List.{All}
 use Rattle.std.specs.Option.{option_map}
-use Rattle.dg_build.specs.SpelledRecords.{RisesFrom}
 use Rattle.dg_columns.specs.NamesInRange.{NamesFit}
 use Rattle.dg_file.specs.Index.{IndexState}
 use Rattle.dg_graph.specs.declared.element.Element.{Element}
 use Rattle.dg_graph.specs.declared.event.Event.{Event}
 use Rattle.dg_graph.specs.Replay.{replay}
+use Rattle.dg_history.specs.EventTimes.{RisesFrom}
 use Rattle.dg_history.specs.History.{History, events_of, last_time_from, names_of}
 use Rattle.dg_index.specs.Hierarchy.{leaves}
 use Rattle.dg_index.specs.ImageOfHistory.{StandsAs, is_blank}

@@ -13,6 +13,7 @@ use Rattle.dg_fold.specs.Ends.{FailsIn}
 use Rattle.dg_fold.specs.Parts.{Folds, beside}
 use Rattle.dg_fold.specs.Steps.{PartedStep, names_record, paired, part_deltas, step_by, steps_in}
 use Rattle.dg_fold.proofs.TreeStepPaths.{beside_associates}
+use Rattle.dg_fold.proofs.Steps.{paired_first}
 use Rattle.dg_graph.specs.Composition.{Delta, then_says}
 use Rattle.dg_graph.specs.declared.element.Column.{Column}
 use Rattle.dg_history.specs.declared.node.Key.{Key}
@@ -214,15 +215,6 @@ going_none names edges parts paths kept none = record {
   read = ([], refl);
   known = λ n m each. subst (AreKept names n m [] []) (sym none) (come_to_none names, come_to_none names);
 }
-
--- the first edge takes its part, and the others go on with the rest
-paired_first : (e : Edge) (edges : List Edge) (rest : List Part) → paired (e ∷ edges) rest ≡ (e, part_of e.via rest) ∷ paired edges (cond (names_record e.via) (drop 1 rest) rest)
-paired_first e edges rest = by (names_record e.via)
-  where
-    by : (b : Bool) → cond b ((e, slice_get rest 0) ∷ paired edges (drop 1 rest)) ((e, None) ∷ paired edges rest)
-        ≡ (e, cond b (slice_get rest 0) None) ∷ paired edges (cond b (drop 1 rest) rest)
-    by true = refl
-    by false = refl
 
 read_of : (names : ℕ) (part : Option Part) (takes : List Bool) (c : Option Crossing) → IsCrossing names part takes c → (list : List Delta) × (part_deltas names part ≡ Ok list)
 read_of names part takes None h = (h.0, h.1)

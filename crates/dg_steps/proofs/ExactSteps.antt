@@ -4,7 +4,7 @@ use Rattle.dg_graph.specs.declared.element.Element.{Element}
 use Rattle.dg_graph.specs.Composition.{Delta, IsDelta, applied, between, says}
 use Rattle.dg_graph.specs.Elements.{IsSet, has}
 use Rattle.dg_graph.specs.Sets.{met, without_all}
-use Rattle.dg_graph.proofs.Sets.{same_members, has-met, has-without_all, IsSet-met, IsSet-without_all}
+use Rattle.dg_graph.proofs.Sets.{same_members, has-met, has-without_all, IsSet-met, IsSet-without_all, and_swap}
 use Rattle.dg_delta.specs.Deltas.{is_in_after}
 use Rattle.dg_delta.proofs.Deltas.{decides_each_element, word}
 use Rattle.dg_steps.specs.TreeSteps.{exact_of}
@@ -23,12 +23,6 @@ out_and_in false true m2 p2 true f g e = refl
 out_and_in false true m2 p2 false f g e = refl
 out_and_in false false m2 p2 true f g e = refl
 out_and_in false false m2 p2 false f g e = refl
-
-and_swap : (a b : Bool) → (a && b) ≡ (b && a)
-and_swap true true = refl
-and_swap true false = refl
-and_swap false true = refl
-and_swap false false = refl
 
 -- what the first takes out and the second puts in are the elements of the one set that are not in the other
 module _ (on back : Delta) (a b : List Element) (f : IsDelta on) (g : IsDelta back) (leads_on : applied on a ≡ b) (leads_back : applied back b ≡ a) where

@@ -5,45 +5,15 @@ use Rattle.std.specs.List.{All, Contains}
 use Rattle.std.proofs.lemmas.List.{append-nil, append_assoc, drop_all, drop_more, length_push, reverse-append, take-append-drop, take_all, take_more}
 use Rattle.std.proofs.lemmas.List.Elements.{All-cons, All-contains, All-get_or, All-head, All-nil, All-push, All-tail, All-weaker}
 use Rattle.dg_fold.specs.declared.tree.Branch.{Branch}
-use Rattle.dg_fold.specs.PathIndependence.{IsWalk}
 use Rattle.dg_fold.specs.Trees.{Grow, IsAmong, LeadsToTarget, all_edges}
 use Rattle.dg_fold.specs.WritingSteps.{GoesBack, By_the_edge, Stays}
+use Rattle.dg_fold.proofs.WritingRoots.{Rooted, head_front, rooted_append, walk_rooted}
 use Rattle.dg_history.specs.declared.node.NodeId.{NodeId}
 use Rattle.dg_history.specs.declared.node.NodeId.TheVariants.{Root}
 use Rattle.dg_plan.specs.declared.edge.Edge.{Edge}
 use Rattle.dg_steps.specs.TreeStepWalks.{AreRooted, GoesBackOver, IsEntered, takes_it}
 
 -- ---- the edges of a tree lead on from Root
-
--- each edge leaves Root, or a node that one of those or an edge before it enters
-abbrev Rooted : List Edge → List Edge → Type 0
-Rooted before [] = Unit {0}
-Rooted before (e ∷ edges) = IsEntered e.from before × Rooted (before ++ e ∷ []) edges
-
-among_front : (e : Edge) (xs ys : List Edge) → IsAmong e xs → IsAmong e (xs ++ ys)
-among_front e [] ys h = absurd h
-among_front e (x ∷ xs) ys (inl is) = inl is
-among_front e (x ∷ xs) ys (inr h) = inr (among_front e xs ys h)
-
-among_last : (e : Edge) (xs : List Edge) → IsAmong e (xs ++ e ∷ [])
-among_last e [] = inl refl
-among_last e (x ∷ xs) = inr (among_last e xs)
-
-entered_front : (n : NodeId) (xs ys : List Edge) → IsEntered n xs → IsEntered n (xs ++ ys)
-entered_front n xs ys (inl root) = inl root
-entered_front n xs ys (inr h) = inr (h.0, among_front h.0 xs ys h.1, h.2)
-
--- a walk from Root, or from a node that is entered
-walk_rooted : (before walk : List Edge) (u v : NodeId) → IsEntered u before → IsWalk u walk v → Rooted before walk × IsEntered v (before ++ walk)
-walk_rooted before [] u v h w = (tt, subst (λ n. IsEntered n (before ++ [])) w (entered_front u before [] h))
-walk_rooted before (e ∷ walk) u v h w =
-    let rest = walk_rooted (before ++ e ∷ []) walk e.to v (inr (e, among_last e before, refl)) w.1 in
-    ((subst (λ n. IsEntered n before) (sym w.0) h, rest.0), subst (IsEntered v) (append_assoc before (e ∷ []) walk) rest.1)
-
-rooted_append : (before xs ys : List Edge) → Rooted before xs → Rooted (before ++ xs) ys → Rooted before (xs ++ ys)
-rooted_append before [] ys h k = subst (λ l. Rooted l ys) (append-nil before) k
-rooted_append before (x ∷ xs) ys h k =
-    (h.0, rooted_append (before ++ x ∷ []) xs ys h.1 (subst (λ l. Rooted l ys) (sym (append_assoc before (x ∷ []) xs)) k))
 
 -- the edges of branches that grow, and the targets of these
 grow_on : (before : List Edge) (branches : List Branch) → Grow before branches → All LeadsToTarget branches
@@ -56,7 +26,7 @@ grow_on before (b ∷ branches) g leads =
     let targets = map (λ (c : Branch). c.to) branches in (
       rooted_append before b.edges.items (all_edges branches) own.0 rest.0,
       All-cons (λ n. IsEntered n (before ++ all_edges (b ∷ branches))) b.to targets
-          (subst (IsEntered b.to) same (entered_front b.to (before ++ b.edges.items) (all_edges branches) own.1))
+          (subst (IsEntered b.to) same (head_front b.to (before ++ b.edges.items) (all_edges branches) own.1))
           (subst (λ l. All (λ n. IsEntered n l) targets) same rest.1),
     )
 

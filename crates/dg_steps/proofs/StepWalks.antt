@@ -9,7 +9,7 @@ use Rattle.dg_graph.specs.declared.element.Element.{Element}
 use Rattle.dg_graph.specs.Composition.{As_it_was, Composes, Delta, Says, applied, composition, then_says}
 use Rattle.dg_graph.specs.Elements.{IsSet, asks, column_of}
 use Rattle.dg_delta.specs.Deltas.{applied_in_turn}
-use Rattle.dg_delta.proofs.Deltas.{applies_each_in_turn, can_be_cut}
+use Rattle.dg_delta.proofs.Deltas.{applies_each_in_turn, can_be_cut, in_turn-append}
 use Rattle.dg_history.specs.declared.node.Key.{Key}
 use Rattle.dg_history.specs.declared.node.NodeId.{NodeId}
 use Rattle.dg_history.specs.declared.node.NodeId.TheVariants.{Root}
@@ -24,7 +24,6 @@ use Rattle.dg_fold.specs.PathIndependence.{Contents, DeltasLead, taken, via_delt
 use Rattle.dg_fold.specs.Steps.{PartHolds, PartedStep, StepHolds, names_record, part_deltas, step_by, steps_in}
 use Rattle.dg_fold.specs.Trees.{IsStepOf, PathIn}
 use Rattle.dg_fold.specs.Trees.PathIn.{Begins_at_root, Steps_on}
-use Rattle.dg_fold.proofs.DeltaReplays.{in_turn-append}
 use Rattle.dg_fold.proofs.PartColumns.{parts_are_read}
 use Rattle.dg_steps.specs.TreeSteps.{GoApart, turned, turned_part, turned_via, turned_way, walk_over, way_back}
 use Rattle.dg_steps.proofs.RecordEdges.{LeadsBothWays, turned_leads}

@@ -11,12 +11,12 @@ use Rattle.dg_history.specs.declared.node.Key.TheVariants as key
 use Rattle.dg_history.specs.declared.node.NodeId.{NodeId}
 use Rattle.dg_history.specs.declared.params.Params.{Params}
 use Rattle.dg_history.specs.History.{are_parameters}
+use Rattle.dg_history.proofs.ParameterRanges.{in_range}
 use Rattle.dg_index.specs.FileOfHistory.{Segment, segment_of, stored}
 use Rattle.dg_index.specs.Hierarchy.{leaves, numbers, set_of}
 use Rattle.dg_index.specs.IndexRecords.{deltas_due, lists_due, recent_of, record_among}
 use Rattle.dg_index.specs.OlderNodes.{node_at, older, older_at}
 use Rattle.dg_verify.proofs.DeltaKeys.{lists_many}
-use Rattle.dg_verify.proofs.OpenedIndexParameters.{in_range}
 
 no_leaves : (p : Params) → leaves p 0 ≡ 0
 no_leaves p = omega arith
@@ -81,7 +81,7 @@ no_older p after = ap (λ m. older p.k m after) (no_leaves p) ∙ none_older p.k
 
 pub none_in_time : (p : Params) (after : ℕ) → are_parameters p.l p.k ≡ true → older_in_time p.k (leaves p 0) after ≡ []
 none_in_time p after parameters =
-    empty (older_in_time p.k (leaves p 0) after) (older_in_time_long p.k (leaves p 0) after (in_range p.l p.k parameters).two ∙ ap (λ (l : List NodeId). length l) (no_older p after))
+    empty (older_in_time p.k (leaves p 0) after) (older_in_time_long p.k (leaves p 0) after (in_range p.l p.k parameters).arity_two ∙ ap (λ (l : List NodeId). length l) (no_older p after))
   where
     empty : (nodes : List NodeId) → length nodes ≡ 0 → nodes ≡ []
     empty [] none = refl

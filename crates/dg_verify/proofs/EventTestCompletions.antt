@@ -2,21 +2,17 @@
 use Rattle.std.proofs.Common.{◌≡◌, ℕ, suc, ◌+◌, ◌<◌, ◌≤◌, Bool, true, false, ◌&&◌, cond, List, [], ◌∷◌, ◌++◌, length, drop, get_or, refl, sym, ◌∙◌, ap, arith, add-one}
 use Rattle.std.specs.Prelude.{nat_le}
 use Rattle.std.proofs.Math.Seq.{drop-cons}
-use Rattle.std.proofs.lemmas.Bool.{false≢true}
+use Rattle.std.proofs.lemmas.Bool.{and_parts}
 use Rattle.std.proofs.lemmas.List.{drop_all}
 use Rattle.dg_graph.specs.declared.element.Element.{Element}
 use Rattle.dg_graph.specs.declared.event.Event.{Event}
 use Rattle.dg_graph.specs.Completion.{completes, has_key, is_change_of}
 use Rattle.dg_graph.specs.Effect.{forwards}
+use Rattle.dg_graph.specs.MadeByChanges.{AreMadeByChanges}
 use Rattle.dg_graph.specs.Replay.{replay_from}
 use Rattle.dg_history.specs.History.{last_time_from}
-use Rattle.dg_list.specs.NetLaws.{AreMadeByChanges}
 use Rattle.dg_sound.specs.OwnEvents.{are_completions}
 use Rattle.dg_verify.specs.EventTests.{followed}
-
-pub both : (a b : Bool) → (a && b) ≡ true → (a ≡ true) × (b ≡ true)
-both true b h = (refl, h)
-both false b h = absurd (false≢true h)
 
 -- ---- the next event
 
@@ -105,6 +101,6 @@ module _ (names : List (List ℕ)) where
 pub made_so : (names : List (List ℕ)) (set : List Element) (time : ℕ) (events : List Event) → are_completions names set time events ≡ true → AreMadeByChanges set events
 made_so names set time [] h = tt
 made_so names set time (e ∷ events) h =
-    let first = both (completes names set e.body) _ h in
-    let rest = both (nat_le time e.time) _ first.1 in
-    ((both (has_key names e.body) (is_change_of set e.body) first.0).1, made_so names (forwards set e) e.time events rest.1)
+    let first = and_parts (completes names set e.body) _ h in
+    let rest = and_parts (nat_le time e.time) _ first.1 in
+    ((and_parts (has_key names e.body) (is_change_of set e.body) first.0).1, made_so names (forwards set e) e.time events rest.1)

@@ -1,21 +1,11 @@
 -- Events that may follow one another are exact where they stand.
 use Rattle.std.proofs.Common.{◌≡◌, ℕ, List, [], None}
 use Rattle.dg_graph.specs.ExactEvents.{AreChangesOf}
-use Rattle.dg_graph.specs.Graph.{IsGraph}
+use Rattle.dg_graph.proofs.Completions.{empty_graph}
 use Rattle.dg_list.specs.NetLaws.{ChangesAreExact}
 use Rattle.dg_verify.specs.declared.own_events.OwnEvents.{OwnEvents}
 use Rattle.dg_verify.specs.EventTests.{IsRead, first_unfit}
 use Rattle.dg_verify.proofs.EventTestRecords.{are_made}
-
--- the empty set is a graph
-empty_graph : IsGraph []
-empty_graph = record {
-  rises = tt;
-  needs = λ x e. cc;
-  one_edge = λ id src dst s t d f e g. cc;
-  one_node_value = λ id key v o e g. cc;
-  one_edge_value = λ id key v o e g. cc;
-}
 
 pub are_exact : ChangesAreExact → (names : List (List ℕ)) (own : OwnEvents) → IsRead own → first_unfit names own ≡ None → AreChangesOf [] own.events.items
 are_exact exact names own read fit = exact [] own.events.items empty_graph (are_made names own read fit)

@@ -1,5 +1,5 @@
 -- How the pieces of an index are read or compared, one after another.
-use Rattle.std.proofs.Common.{◌≡◌, ℕ, zero, suc, ◌+◌, ◌≤◌, Bool, true, false, ◌&&◌, List, [], ◌∷◌, Option, Some, None, Result, Ok, Err, if◌then◌else◌, length, drop, take, slice_get, refl, sym, ◌∙◌, ap, subst, arith}
+use Rattle.std.proofs.Common.{◌≡◌, ℕ, ◌+◌, ◌≤◌, Bool, true, false, ◌&&◌, List, [], ◌∷◌, Option, Some, None, Result, Ok, Err, if◌then◌else◌, length, drop, take, slice_get, refl, sym, ◌∙◌, ap, subst, arith}
 use Rattle.std.proofs.lemmas.List.{drop_all}
 use Rattle.std.proofs.lemmas.List.Sums.{sum_by-cons}
 use Rattle.dg_graph.specs.declared.element.Column.{Column}
@@ -12,18 +12,13 @@ use Rattle.dg_index.specs.OpenedIndex.{Opened, Opening, event_total}
 use Rattle.dg_index.specs.declared.entry.BatchEntry.{BatchEntry}
 use Rattle.dg_sound.specs.OwnEvents.{and_own, has_batch_ends, if_columns, is_column_of, listed_events, own_events, piece_length, piece_start, with_older, with_piece_events, with_pieces}
 use Rattle.dg_start.specs.EventSources.{WhereTold}
+use Rattle.dg_start.proofs.EventSourceSources.{from_here}
 use Rattle.dg_verify.specs.declared.own_events.OwnEvents.{OwnEvents}
 use Rattle.dg_verify.specs.declared.stop.Stop.{Stop}
 use Rattle.dg_verify.specs.declared.stop.Stop.TheVariants as stop
 use Rattle.dg_verify.specs.EventTests.{IsStopBehind, tested}
 use Rattle.dg_verify.specs.Verification.{IsStop, IsWrong, keyed_column, opened_with, unlike}
 use Rattle.dg_verify.proofs.EventTestRecords.{stops_on, stops_so, tested_then, then_behind}
-
-from_here : (batches : List BatchEntry) (n : ℕ) (b : BatchEntry) → slice_get batches n ≡ Some b → drop n batches ≡ b ∷ drop (n + 1) batches
-from_here [] n b there = cc
-from_here (x ∷ batches) zero b there = let e : x ≡ b = cc in ap (λ (t : BatchEntry). t ∷ batches) e
-from_here (x ∷ batches) (suc n) b there =
-    from_here batches n b there ∙ ap (λ (m : ℕ). b ∷ drop m (x ∷ batches)) (let e : suc (n + 1) ≡ suc n + 1 = omega arith in e)
 
 -- All pieces are read as these events, tested, with the pieces from this one on, and so many events stand before its
 -- batch.

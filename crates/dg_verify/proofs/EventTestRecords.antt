@@ -9,9 +9,9 @@ use Rattle.dg_graph.specs.declared.element.Column.{Column}
 use Rattle.dg_graph.specs.declared.element.Column.TheVariants as column
 use Rattle.dg_graph.specs.declared.event.Event.{Event}
 use Rattle.dg_graph.specs.Replay.{replay}
+use Rattle.dg_graph.specs.MadeByChanges.{AreMadeByChanges}
 use Rattle.dg_history.specs.declared.node.Key.{Key}
 use Rattle.dg_history.specs.History.{last_time_from}
-use Rattle.dg_list.specs.NetLaws.{AreMadeByChanges}
 use Rattle.dg_sound.specs.OwnEvents.{and_own, if_right, events_may_follow, with_record}
 use Rattle.dg_verify.specs.declared.own_events.OwnEvents.{OwnEvents}
 use Rattle.dg_verify.specs.declared.own_events.ReadRecord.{ReadRecord}

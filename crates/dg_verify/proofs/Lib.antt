@@ -1,5 +1,4 @@
 pub mod Outcomes
-pub mod HistoryLastTime
 pub mod EventTestCompletions
 pub mod EventTestRecords
 pub mod EventTestExactness

@@ -1,27 +1,9 @@
--- The ranges of an index's parameters, and how many lists some events give.
-use Rattle.std.proofs.Common.{◌≡◌, ℕ, ◌+◌, ◌*◌, ◌/◌, ◌<◌, ◌≤◌, true, false, nat_le, max, arith, div-lt_iff_lt-mul, le-div_iff_mul-le, div-mul-le_self}
-use Rattle.std.proofs.lemmas.Bool.{eqb-false, leb-true}
-use Rattle.dg_history.specs.declared.params.TheConstants.{LEAF_MIN, LEAF_MAX, ARITY_MIN, ARITY_MAX}
-use Rattle.dg_history.specs.History.{are_parameters}
+-- How many lists some events give.
+use Rattle.std.proofs.Common.{◌≡◌, ℕ, ◌+◌, ◌*◌, ◌/◌, ◌<◌, ◌≤◌, false, max, arith, div-lt_iff_lt-mul, le-div_iff_mul-le, div-mul-le_self}
+use Rattle.std.proofs.lemmas.Bool.{eqb-false}
 use Rattle.dg_index.specs.OpenedIndex.{Opening, event_total}
 use Rattle.dg_index.specs.declared.entry.BatchEntry.{BatchEntry}
 use Rattle.dg_sound.specs.OwnEvents.{is_recent, list_total}
-use Rattle.dg_verify.proofs.EventTestCompletions.{both}
-
--- the list size and the arity are in their ranges
-pub record InRange (l k : ℕ) : Type 0 where
-  pub some : 0 < l
-  pub two : 2 ≤ k
-  pub wide : 0 < k
-
-pub in_range : (l k : ℕ) → are_parameters l k ≡ true → InRange l k
-in_range l k h =
-    let a = both (nat_le LEAF_MIN l) _ h in
-    let b = both (nat_le l LEAF_MAX) _ a.1 in
-    let c = both (nat_le ARITY_MIN k) (nat_le k ARITY_MAX) b.1 in
-    let least = leb-true LEAF_MIN l a.0 in
-    let two = leb-true ARITY_MIN k c.0 in
-    record { some = omega (arith, least); two = two; wide = omega (arith, two) }
 
 -- ---- the events of closed lists
 

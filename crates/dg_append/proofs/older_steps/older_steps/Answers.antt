@@ -2,7 +2,7 @@ use Rattle.std.proofs.Common.{◌≡◌, ◌∙◌, ◌==◌, ◌∷◌, [], ℕ
 use Rattle.std.specs.List.{All, Contains}
 use Rattle.std.specs.Prelude.{IfOk, IfSome, vec_len}
 use Rattle.std.specs.Global.{Vec}
-use Rattle.dg_append.proofs.FrontEvents.{in_range}
+use Rattle.dg_history.proofs.ParameterRanges.{in_range}
 use Rattle.dg_append.proofs.OlderChildSteps.{none_in}
 use Rattle.dg_append.proofs.OlderChildTimes.{older_among}
 use Rattle.dg_append.proofs.OlderGroupNodes.{older_bare, older_there}
@@ -30,22 +30,22 @@ times o count = older_in_time o.params.k (leaves_before o) (leaves_after o count
 nodes_there : (o : Opening) (count : ℕ) (there given nodes : List NodeId) → are_parameters o.params.l o.params.k ≡ true → there ≡ record_nodes o → given ≡ nodes → nodes ≡ older_children o count → All (Contains there) given
 nodes_there o count there given nodes parameters all same are =
     subst (λ (x : List NodeId × List NodeId). All (Contains x.0) x.1) (let e : (record_nodes o, older_children o count) ≡ (there, given) = λ i. (sym all i, sym (same ∙ are) i) in e)
-    (older_there o (in_range o.params.l o.params.k parameters).arity_some (leaves_after o count))
+    (older_there o (in_range o.params.l o.params.k parameters).arity_two (leaves_after o count))
 
 nodes_bare : (o : Opening) (count : ℕ) (given nodes : List NodeId) → are_parameters o.params.l o.params.k ≡ true → given ≡ nodes → nodes ≡ older_children o count → All HasNoEvents given
 nodes_bare o count given nodes parameters same are =
-    subst (λ (x : List NodeId). All HasNoEvents x) (sym (same ∙ are)) (older_bare o (in_range o.params.l o.params.k parameters).arity_some (leaves_after o count))
+    subst (λ (x : List NodeId). All HasNoEvents x) (sym (same ∙ are)) (older_bare o (in_range o.params.l o.params.k parameters).arity_two (leaves_after o count))
 
 times_among : (o : Opening) (count : ℕ) (given nodes given_times in_time : List NodeId) → are_parameters o.params.l o.params.k ≡ true → given ≡ nodes → nodes ≡ older_children o count
     → given_times ≡ in_time → in_time ≡ times o count → All (Contains given) given_times
 times_among o count given nodes given_times in_time parameters same are same_times are_times =
     subst (λ (x : List NodeId × List NodeId). All (Contains x.0) x.1) (let e : (older_children o count, times o count) ≡ (given, given_times) = λ i. (sym (same ∙ are) i, sym (same_times ∙ are_times) i) in e)
-    (older_among o.params.k (leaves_before o) (leaves_after o count) (in_range o.params.l o.params.k parameters).arity_some)
+    (older_among o.params.k (leaves_before o) (leaves_after o count) (in_range o.params.l o.params.k parameters).arity_two)
 
 none_in_time : (o : Opening) (count : ℕ) → are_parameters o.params.l o.params.k ≡ true → older_children o count ≡ [] → times o count ≡ []
 none_in_time o count parameters none =
     none_in (times o count)
-    (subst (λ (x : List NodeId). All (Contains x) (times o count)) none (older_among o.params.k (leaves_before o) (leaves_after o count) (in_range o.params.l o.params.k parameters).arity_some))
+    (subst (λ (x : List NodeId). All (Contains x) (times o count)) none (older_among o.params.k (leaves_before o) (leaves_after o count) (in_range o.params.l o.params.k parameters).arity_two))
 
 none_of : (v : Vec NodeId) (b : Bool) → b ≡ (vec_len v == 0) → b ≡ true → v.items ≡ []
 none_of v b is holds = empty v.items (let long = v.ok.0 in omega (arith, long, eqb-true (vec_len v) 0 (sym is ∙ holds)))

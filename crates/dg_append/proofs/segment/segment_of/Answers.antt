@@ -1,11 +1,11 @@
-use Rattle.std.proofs.Common.{◌∙◌, ℕ, ap, length, map, refl, subst, sym}
+use Rattle.std.proofs.Common.{◌∙◌, ℕ, ap, arith, length, map, refl, subst, sym}
 use Rattle.dg_append.proofs.BatchSegmentIndex.{tail_rises}
-use Rattle.dg_append.proofs.FrontEvents.{InRange}
 use Rattle.dg_append.proofs.BatchSegmentParts.{as_many_deltas, as_many_lists, begins_after_lists, given_here, listed_by, older_long, past_graph, past_long, past_recent, past_steps, range_of, recent_long}
 use Rattle.dg_append.proofs.segment.segment_of.Goals as goal
 use Rattle.dg_build.specs.GivenDeltas.{AreGiven, IsFaultOfSuch}
 use Rattle.dg_history.specs.declared.params.Params.{Params}
 use Rattle.dg_history.specs.History.{first_time_of, last_time_from}
+use Rattle.dg_history.proofs.ParameterRanges.{InRange}
 use Rattle.dg_index.specs.FileOfHistory.{segment_of}
 use Rattle.dg_index.specs.OpenedIndex.{Opening, list_bytes_max, list_row, may_be_listed}
 use Rattle.dg_pool.specs.Graphs.{graph_now}
@@ -14,10 +14,11 @@ use Rattle.dg_start.specs.StoredHistory.{floor_of}
 pub build-requires-clause-list : goal.build-requires-clause-list
 build-requires-clause-list c =
     let p : InRange c.params-params.result.l c.params-params.result.k = range_of c.args.index.now.opening c.params-params.result c.events_len-before.result c.params-params.ensures c.events_len-before.ensures.events c.facts.ensures.parameters in
-    (p.list_some, p.list_most)
+    let some = p.list_some in
+    (omega (arith, some), p.list_most)
 
 pub build-requires-clause-arity : goal.build-requires-clause-arity
-build-requires-clause-arity c = (range_of c.args.index.now.opening c.params-params.result c.events_len-before.result c.params-params.ensures c.events_len-before.ensures.events c.facts.ensures.parameters).arity_some
+build-requires-clause-arity c = (range_of c.args.index.now.opening c.params-params.result c.events_len-before.result c.params-params.ensures c.events_len-before.ensures.events c.facts.ensures.parameters).arity_two
 
 pub build-requires-clause-recent : goal.build-requires-clause-recent
 build-requires-clause-recent c = recent_long c.args.index.now.opening c.params-params.result c.events_len-before.result c.params-params.ensures c.events_len-before.ensures.events (length c.args.next.now.recent.now) c.requires.next.follows.counted

@@ -1,5 +1,5 @@
-use Rattle.std.proofs.Common.{◌≡◌, ℕ, ◌+◌, ◌<◌, Bool, true, false, not, List, [], ◌∷◌, length, drop, refl, sym, ◌∙◌, subst, arith, rules}
-use Rattle.std.proofs.lemmas.Bool.{eqb-true, eqb-false, false≢true}
+use Rattle.std.proofs.Common.{◌≡◌, ℕ, ◌+◌, ◌<◌, Bool, true, false, not, List, [], ◌∷◌, length, drop, sym, ◌∙◌, subst, arith, rules}
+use Rattle.std.proofs.lemmas.Bool.{eqb-true, eqb-false, false≢true, not-false}
 use Rattle.std.proofs.lemmas.List.{take_rest, length-map}
 use Rattle.dg_line.specs.declared.grammar.Symbol.{Symbol}
 use Rattle.dg_line.specs.Prefixes.{IsLongestPrefix}
@@ -19,10 +19,6 @@ tests row s more e h = subst (λ (r : List Symbol). AreWellFormed (row_of r)) e 
 never : (b : Bool) → not b ≡ true → b ≡ true → ⊥
 never true e f = false≢true e
 never false e f = false≢true f
-
-is_so : (b : Bool) → not b ≡ false → b ≡ true
-is_so true e = refl
-is_so false e = absurd (false≢true (sym e))
 
 pub returns-in_default : goal.returns-in_default
 returns-in_default t c = empty_row c.args.row.now c.args.rest.now c.in_default.ensures.cases
@@ -61,7 +57,7 @@ returns t c =
     let row : c.args.row.now ≡ c.in-Some.symbol.now ∷ c.in-Some.more.now = c.in-Some.ensures.cases.0 in
     let size = length-map c.in-Some.more.now terminal_of in
     let some : 0 < length more = omega (arith, eqb-false (length c.in-Some.more.now) 0 (sym (c.if-is_empty.ensures))) in
-    let taken = c.prefix-prefix.ensures.whole.0 (is_so c.prefix-prefix.result.whole c.if-not-prefix.false) in
+    let taken = c.prefix-prefix.ensures.whole.0 (not-false c.prefix-prefix.result.whole c.if-not-prefix.false) in
     let space = c.has_space_at.ensures.0 c.if-not-has_space_at.false in
     let rest : IsLongestPrefix (IsLineOf more) (drop (c.prefix-prefix.result.bytes + 1) c.args.rest.now) c.row_prefix.result =
     subst (λ (bytes : List ℕ). IsLongestPrefix (IsLineOf more) bytes c.row_prefix.result)

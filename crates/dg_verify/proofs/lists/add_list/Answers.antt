@@ -1,6 +1,7 @@
 use Rattle.std.proofs.Common.{ℕ, ap, subst, ◌∙◌}
 use Rattle.dg_history.specs.declared.node.Key.TheVariants as key
 use Rattle.dg_history.specs.declared.params.Params.{Params}
+use Rattle.dg_history.proofs.ParameterRanges.{in_range}
 use Rattle.dg_index.specs.OpenedIndex.{entry_at}
 use Rattle.dg_sound.specs.OwnEvents.{events_of_record, have_ends, with_list}
 use Rattle.dg_start.specs.EventSources.{WhereTold}
@@ -8,7 +9,6 @@ use Rattle.dg_start.proofs.EventSourceOutcomes.{err_is}
 use Rattle.dg_verify.specs.declared.stop.Stop.{Stop}
 use Rattle.dg_verify.specs.EventTests.{IsStopBehind, tested}
 use Rattle.dg_verify.specs.Verification.{IsStop, keyed, opened_with}
-use Rattle.dg_verify.proofs.OpenedIndexParameters.{in_range}
 use Rattle.dg_verify.proofs.EventTestLists.{list_held}
 use Rattle.dg_verify.proofs.VerificationRecords.{record_stops}
 use Rattle.dg_verify.proofs.EventTestRecords.{stops_behind}
@@ -18,7 +18,7 @@ pub read_events-requires-clause-held : goal.read_events-requires-clause-held
 read_events-requires-clause-held g c =
     let o = c.args.index.now.opening in
     let range = in_range o.params.l o.params.k c.facts.ensures.parameters in
-    list_held o c.args.number range.some range.two c.facts.ensures.kept c.requires.closed
+    list_held o c.args.number range.list_some range.arity_two c.facts.ensures.kept c.requires.closed
 
 pub returns-in_err-events-clause-stopped : goal.returns-in_err-events-clause-stopped
 returns-in_err-events-clause-stopped g c =

@@ -1,4 +1,5 @@
 use Rattle.std.proofs.Common.{◌≡◌, ◌+◌, ◌-◌, ◌<◌, ◌≤◌, Some, Ok, length, slice_get, sym, ◌∙◌, ap, subst, arith}
+use Rattle.dg_history.proofs.ParameterRanges.{in_range}
 use Rattle.dg_disk.proofs.FrameLemmas.{reads_then}
 use Rattle.dg_file.specs.Index.{IndexState}
 use Rattle.dg_index.specs.OpenedIndex.{Opening, event_total}
@@ -9,7 +10,7 @@ use Rattle.dg_start.proofs.EventSourceOutcomes.{err_is, said_before}
 use Rattle.dg_verify.specs.declared.stop.Stop.{Stop}
 use Rattle.dg_verify.specs.EventTests.{IsStopBehind, tested}
 use Rattle.dg_verify.specs.Verification.{AreSoFar, opened_with}
-use Rattle.dg_verify.proofs.OpenedIndexParameters.{all_count, in_range}
+use Rattle.dg_verify.proofs.OpenedIndexParameters.{all_count}
 use Rattle.dg_verify.proofs.EventTestPieces.{all_counted, all_pieced, one_pieced, piece_stops}
 use Rattle.dg_verify.proofs.pieces.add_pieces.Goals as goal
 
@@ -88,7 +89,7 @@ returns-clause-many g c =
     let o : Opening = c.args.index.now.opening in
     let range = in_range o.params.l o.params.k c.facts.ensures.parameters in
     let same : c.loop-batch.index.opening ≡ o = ap (λ (i : IndexState). i.opening) c.loop-batch.invariant.same in
-    all_count o c.loop-batch.before (length c.loop-batch.own.events.items) range.some
+    all_count o c.loop-batch.before (length c.loop-batch.own.events.items) range.list_some
     (all_counted (g.D.Disk.image c.args.disk.now) (opened_with o c.args.names.now) c.args.own.now c.loop-batch.number c.loop-batch.before c.loop-batch.own
     (none_left o.batches c.loop-batch.number (ap (λ (p : Opening). slice_get p.batches c.loop-batch.number) (sym same) ∙ sym c.batch.ensures ∙ c.in_default.is)) c.loop-batch.invariant.so_far)
     c.loop-batch.invariant.many

@@ -3,7 +3,8 @@ use Rattle.dg_graph.specs.declared.event.Event.{Event}
 use Rattle.dg_history.specs.declared.node.Key.TheVariants as key
 use Rattle.dg_sound.specs.OwnEvents.{events_of_record, has_batch_ends, piece_length, with_recent}
 use Rattle.dg_start.specs.EventSources.{WhereTold}
-use Rattle.dg_start.proofs.EventSourceSources.{batch_there, piece_held}
+use Rattle.dg_index.proofs.HeldRecords.{piece_held}
+use Rattle.dg_start.proofs.EventSourceSources.{batch_there}
 use Rattle.dg_start.proofs.EventSourceOutcomes.{err_is}
 use Rattle.dg_verify.specs.declared.stop.Stop.{Stop}
 use Rattle.dg_verify.specs.EventTests.{IsStopBehind, tested}

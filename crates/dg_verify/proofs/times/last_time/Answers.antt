@@ -1,4 +1,4 @@
-use Rattle.dg_verify.proofs.HistoryLastTime.{last_time_is}
+use Rattle.dg_history.proofs.EventTimes.{last_time_is}
 use Rattle.dg_verify.proofs.times.last_time.Goals as goal
 
 pub returns-in-Some : goal.returns-in-Some

@@ -2,6 +2,7 @@ use Rattle.std.proofs.Common.{◌≡◌, ℕ, ◌+◌, List, [], Some, Ok, None,
 use Rattle.dg_file.specs.Index.{IndexState}
 use Rattle.dg_graph.specs.declared.event.Event.{Event}
 use Rattle.dg_history.specs.declared.node.Key.{Key}
+use Rattle.dg_history.proofs.ParameterRanges.{in_range}
 use Rattle.dg_index.specs.FileOfHistory.{Stored, stored}
 use Rattle.dg_index.specs.Hierarchy.{leaves}
 use Rattle.dg_index.specs.IndexRecords.{deltas_due, record_among}
@@ -15,7 +16,6 @@ use Rattle.dg_verify.specs.declared.own_events.OwnEvents.{OwnEvents}
 use Rattle.dg_verify.specs.declared.stop.Stop.{Stop}
 use Rattle.dg_verify.specs.Deltas.{first_unlike}
 use Rattle.dg_verify.specs.Verification.{IsUnsound, IsWrong, opened_with}
-use Rattle.dg_verify.proofs.OpenedIndexParameters.{in_range}
 use Rattle.dg_verify.proofs.EventTestRecords.{all_tested}
 use Rattle.dg_verify.proofs.VerificationOutcomes.{all_sound, downs_unsound, tops_unsound}
 use Rattle.dg_verify.proofs.verification.compare_all.Goals as goal
@@ -43,7 +43,7 @@ returns-in_err-compare_deltas-clause-stopped g c =
     λ image h. c.in_default.ensures.own image h ∙ all_tested names own c.in_default.ensures.read c.in_ok-due.ensures.fit (Ok events) in
     let s : Stop = c.in_err-compare_deltas.field-0.0 in
     err_is c.from_residual-in_err-compare_deltas.result s (λ (s : Stop). WhereTold told (λ image. IsUnsound s (soundness_of image x))) c.from_residual-in_err-compare_deltas.ensures
-    (λ image h. tops_unsound image x events (read image h) range.wide keys due many keys_are due_are s
+    (λ image h. tops_unsound image x events (read image h) range.arity_some keys due many keys_are due_are s
     (said_before (g.D.Disk.image c.read_all.new.disk) told c.read_all.new.index.opening o (λ image p. IsWrong s (first_unlike image p delta.Top keys due))
     image_same same c.in_err-compare_deltas.ensures.stopped image h))
 
@@ -74,7 +74,7 @@ returns-in_err-compare_deltas-2-clause-stopped g c =
     image_same same c.in_ok-compare_deltas.ensures.alike in
     let s : Stop = c.in_err-compare_deltas-2.field-0.0 in
     err_is c.from_residual-in_err-compare_deltas-2.result s (λ (s : Stop). WhereTold told (λ image. IsUnsound s (soundness_of image x))) c.from_residual-in_err-compare_deltas-2.ensures
-    (λ image h. downs_unsound image x events (read image h) range.wide keys due many keys_are due_are (no_top image h) s
+    (λ image h. downs_unsound image x events (read image h) range.arity_some keys due many keys_are due_are (no_top image h) s
     (said_before (g.D.Disk.image c.compare_deltas.new.disk) told c.compare_deltas.new.index.opening o (λ image p. IsWrong s (first_unlike image p delta.Down keys due))
     then_image then_same c.in_err-compare_deltas-2.ensures.stopped image h))
 
@@ -109,5 +109,5 @@ returns-clause-sound g c =
     let lists : c.from-lists.result ≡ leaves o.params (event_total o.batches) =
     c.from-lists.ensures ∙ c.leaves.ensures.leaves
     ∙ (λ j. leaves ((c.params-2.ensures ∙ ap (λ (p : Opening). p.params) last_same) j) ((c.events_len.ensures.events ∙ ap (λ (p : Opening). event_total p.batches) last_same) j)) in
-    λ image h. all_sound image x events (read image h) range.wide keys due many keys_are due_are (no_top image h)
+    λ image h. all_sound image x events (read image h) range.arity_some keys due many keys_are due_are (no_top image h)
     (c.from-lists.result + c.len.result) (no_down image h) (omega (arith, lists, c.len.ensures, c.in_ok-due.due.keys.ok))

@@ -1,8 +1,7 @@
--- What an index of a legal history is opened as.
-use Rattle.std.proofs.Common.{◌≡◌, ℕ, ◌+◌, ◌<◌, ◌≤◌, Bool, true, ◌&&◌, ap, List, [], ◌∷◌, ◌++◌, length, ◌∙◌, sym, subst, arith, append_assoc, append-nil, length-append}
+-- What a legal history is opened as.
+use Rattle.std.proofs.Common.{◌≡◌, ℕ, ◌+◌, ◌<◌, ◌≤◌, true, List, [], ◌∷◌, ◌++◌, length, sym, subst, arith, append_assoc, append-nil, length-append}
 use Rattle.std.specs.Prelude.{nat_le}
-use Rattle.std.specs.List.{flat_map}
-use borrow.Author.Tests.{le-leb}
+use Rattle.std.proofs.lemmas.Bool.{and_from, le-leb}
 use Rattle.dg_graph.specs.declared.event.Event.{Event}
 use Rattle.dg_graph.specs.declared.limits.TheConstants.{NAMES_MAX}
 use Rattle.dg_graph.specs.Names.{are_new}
@@ -10,17 +9,11 @@ use Rattle.dg_history.specs.declared.limits.TheConstants.{EVENTS_MAX}
 use Rattle.dg_history.specs.declared.params.Params.{Params}
 use Rattle.dg_history.specs.History.{Batch, History, events_of, names_of}
 use Rattle.dg_history.specs.LegalHistory.{AreLegalAfter, IsLegal}
+use Rattle.dg_history.proofs.LegalHistories.{events_among, names_among}
 use Rattle.dg_index.specs.FileOfHistory.{segment_of}
 use Rattle.dg_index.specs.OpenedIndex.{Opened, bare, may_be_named, opened_of, opened_onto, with_segment}
 use Rattle.dg_index.proofs.ImageTextNames.{new_parts}
-use Rattle.dg_start.proofs.NetLawEvents.{events_among}
 use Rattle.dg_index.proofs.OpenedIndexHistories.{IsBehind, bare_is, behind_more, large_parameters}
-
-abbrev names_among : List Batch → List (List ℕ)
-names_among batches = flat_map (λ (b : Batch). b.names) batches
-
-both_true : (a b : Bool) → a ≡ true → b ≡ true → (a && b) ≡ true
-both_true a b is_a is_b = ap (λ x. x && b) is_a ∙ is_b
 
 -- more batches behind some
 behind_all : (p : Params) → 0 < p.l → 2 ≤ p.k → (batches : List Batch) (x : Opened) (before : List Event) (names all_names : List (List ℕ))
@@ -33,7 +26,7 @@ behind_all p pos two (b ∷ more) x before names all_names is legal new few_name
     let number : length (b.names ++ names_among more) ≡ length b.names + length (names_among more) = length-append b.names (names_among more) in
     let fresh = new_parts names b.names (names_among more) new in
     let named : may_be_named names b.names ≡ true =
-    both_true (are_new names b.names) (nat_le (length names + length b.names) NAMES_MAX) fresh.0 (le-leb (length names + length b.names) NAMES_MAX (omega (arith, number, few_names))) in
+    and_from (are_new names b.names) (nat_le (length names + length b.names) NAMES_MAX) fresh.0 (le-leb (length names + length b.names) NAMES_MAX (omega (arith, number, few_names))) in
     let next = behind_more p pos two x before names all_names b is legal.0 (omega (arith, count, few)) named in
     subst (λ (es : List Event). IsBehind p (opened_onto p x before (b ∷ more)) es (names ++ names_among (b ∷ more))) (append_assoc before b.events (events_among more))
     (subst (λ (ns : List (List ℕ)). IsBehind p (opened_onto p x before (b ∷ more)) ((before ++ b.events) ++ events_among more) ns) (append_assoc names b.names (names_among more))

@@ -1,0 +1,3 @@
+pub mod EventTimes
+pub mod LegalHistories
+pub mod ParameterRanges
