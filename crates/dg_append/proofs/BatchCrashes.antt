@@ -19,8 +19,8 @@ use Rattle.dg_graph.specs.declared.element.Element.{Element}
 use Rattle.dg_history.specs.History.{History, events_of}
 use Rattle.dg_index.specs.FileOfHistory.{Segment, segment_of}
 use Rattle.dg_index.specs.OpenedIndex.{Opening}
-use Rattle.dg_now.specs.declared.fault.PrepareFault.{PrepareFault}
-use Rattle.dg_now.specs.declared.fault.PrepareFault.TheVariants as prepare_fault
+use Rattle.dg_current.specs.declared.fault.PrepareFault.{PrepareFault}
+use Rattle.dg_current.specs.declared.fault.PrepareFault.TheVariants as prepare_fault
 
 module _ {D : Type 0} (g : Ghosts D) where
   -- ---- calls that read

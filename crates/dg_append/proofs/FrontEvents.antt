@@ -31,8 +31,8 @@ use Rattle.dg_index.specs.declared.entry.BatchEntry.{BatchEntry}
 use Rattle.dg_index.specs.FileOfHistory.{Segment}
 use Rattle.dg_index.specs.IndexGrowth.{last_time_in}
 use Rattle.dg_index.specs.OpenedIndex.{Opening, earliest_in, may_be_named}
-use Rattle.dg_list.proofs.NetLaws.{changes_are_exact}
-use Rattle.dg_now.specs.Now.{earliest_time_after as earliest_now}
+use Rattle.dg_net.proofs.NetLaws.{changes_are_exact}
+use Rattle.dg_current.specs.Now.{earliest_time_after as earliest_now}
 use Rattle.dg_retrieval.specs.NamesThere.{BodyHasNamesThere, EventNamesAreThere, HasNamesThere, NamesAreThere}
 use Rattle.dg_start.specs.declared.stored_history.StoredHistory.{StoredHistory}
 

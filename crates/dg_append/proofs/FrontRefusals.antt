@@ -6,9 +6,9 @@ use Rattle.dg_graph.specs.declared.event.Event.{Event}
 use Rattle.dg_graph.specs.declared.event.TheConstants.{REASON_FORM}
 use Rattle.dg_graph.specs.CompletedChanges.{completed, event_of, go_on, on_value}
 use Rattle.dg_graph.specs.Effect.{forwards}
-use Rattle.dg_now.specs.declared.fault.PrepareFault.{PrepareFault}
-use Rattle.dg_now.specs.declared.fault.PrepareFault.TheVariants.{BadChange, Memory}
-use Rattle.dg_now.specs.Now.{FaultOf}
+use Rattle.dg_current.specs.declared.fault.PrepareFault.{PrepareFault}
+use Rattle.dg_current.specs.declared.fault.PrepareFault.TheVariants.{BadChange, Memory}
+use Rattle.dg_current.specs.Now.{FaultOf}
 use Rattle.dg_append.specs.declared.front.Front.{Front}
 use Rattle.dg_append.specs.declared.front.Front.TheVariants.{Whole, Form, Unkept}
 use Rattle.dg_append.specs.Fronts.{IsFront, lines}

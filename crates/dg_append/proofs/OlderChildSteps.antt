@@ -25,7 +25,7 @@ use Rattle.dg_index.specs.Hierarchy.{leaves, set_at, set_of}
 use Rattle.dg_index.specs.IndexRecords.{recent_of}
 use Rattle.dg_index.specs.OpenedIndex.{Opening, event_total}
 use Rattle.dg_index.proofs.HierarchySteps.{IsSet-node}
-use Rattle.dg_list.proofs.ExactEventCuts.{changes_behind}
+use Rattle.dg_net.proofs.ExactEventCuts.{changes_behind}
 use Rattle.dg_plan.specs.declared.edge.Edge.{Edge}
 use Rattle.dg_plan.specs.HistoryGraph.{all_columns}
 use Rattle.dg_plan.specs.InstantPoint.{same_node}

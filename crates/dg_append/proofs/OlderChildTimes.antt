@@ -4,7 +4,7 @@ use Rattle.std.specs.List.{All, Contains}
 use Rattle.std.proofs.lemmas.List.{reverse-append}
 use Rattle.std.proofs.lemmas.List.Elements.{All-append, All-contains_itself, All-nil, All-weaker}
 use Rattle.dg_append.proofs.OlderNodeHeights.{all_leaves, higher_up, some_older}
-use Rattle.dg_shape.proofs.HierarchyRecords.{height_few}
+use Rattle.dg_catalogue.proofs.HierarchyRecords.{height_few}
 use Rattle.dg_build.specs.OlderSteps.{in_time, older_in_time}
 use Rattle.dg_history.specs.declared.node.NodeId.{NodeId}
 use Rattle.dg_index.specs.Hierarchy.{numbers}

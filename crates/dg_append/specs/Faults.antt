@@ -5,8 +5,8 @@ use Rattle.dg_append.specs.declared.fault.BatchFault.{BatchFault}
 use Rattle.dg_append.specs.declared.fault.BatchFault.TheVariants as fault
 use Rattle.dg_disk.specs.Calls.{Fails, FailsToWrite}
 use Rattle.dg_disk.specs.declared.disk.Disk.{Ghosts}
-use Rattle.dg_now.specs.declared.fault.PrepareFault.{PrepareFault}
-use Rattle.dg_now.specs.declared.fault.PrepareFault.TheVariants as prepare_fault
+use Rattle.dg_current.specs.declared.fault.PrepareFault.{PrepareFault}
+use Rattle.dg_current.specs.declared.fault.PrepareFault.TheVariants as prepare_fault
 use Rattle.dg_retrieval.specs.declared.fault.RetrievalFault.{RetrievalFault}
 use Rattle.dg_retrieval.specs.declared.fault.RetrievalFault.TheVariants as retrieval_fault
 

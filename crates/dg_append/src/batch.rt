@@ -7,7 +7,7 @@ ghost use Rattle.dg_append.specs.KeptBatches.{GivesBack};
 ghost use Rattle.dg_append.specs.LiveHistories.{IsLiveHistory};
 ghost use Rattle.dg_history.specs.declared.limits.TheConstants.{FILE_BYTES_MAX};
 ghost use Rattle.dg_index.specs.OpenedIndex.{earliest_in};
-ghost use Rattle.dg_now.specs.Now.{earliest_time_after};
+ghost use Rattle.dg_current.specs.Now.{earliest_time_after};
 ghost use Rattle.dg_start.specs.StoredHistory.{IsHeldBy, index_opening};
 
 use crate::batch_commit::keep_batch;

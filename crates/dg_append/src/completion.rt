@@ -6,11 +6,11 @@ ghost use Rattle.dg_graph.specs.declared.event.Change.{Change};
 ghost use Rattle.dg_graph.specs.declared.event.Event.{Event};
 ghost use Rattle.dg_graph.specs.CompletedChanges.{completed};
 ghost use Rattle.dg_history.specs.declared.limits.TheConstants.{BATCH_LINES_MAX};
-ghost use Rattle.dg_now.specs.Now.{FaultOf, earliest_time_after};
+ghost use Rattle.dg_current.specs.Now.{FaultOf, earliest_time_after};
 
 use crate::front::Front;
 use dg_graph::{Change, REASON_FORM};
-use dg_now::{Now, PrepareFault};
+use dg_current::{Now, PrepareFault};
 
 // Why the changes are refused, if they are, before a line that is no change. The graph has nothing
 // pending, before and after.

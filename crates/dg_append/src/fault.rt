@@ -6,7 +6,7 @@ ghost use Rattle.dg_append.specs.Faults.{of_prepare, of_retrieval};
 
 use dg_graph::Column;
 use dg_history::Key;
-use dg_now::PrepareFault;
+use dg_current::PrepareFault;
 use dg_retrieval::RetrievalFault;
 use std::alloc::AllocError;
 use thiserror::Error;

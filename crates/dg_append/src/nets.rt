@@ -7,7 +7,7 @@ ghost use Rattle.dg_append.specs.KeptBatches.{HaveCellsFor, LeadPast};
 ghost use Rattle.dg_pool.specs.Graphs.{SameGraphs, graph_now, slot_graph};
 
 use dg_graph::Event;
-use dg_list::{Delta, whole_net};
+use dg_net::{Delta, whole_net};
 use dg_pool::Pool;
 use std::alloc::{AllocError, Global};
 

@@ -10,7 +10,7 @@ ghost use Rattle.dg_index.specs.OpenedIndex.{event_total};
 
 use dg_file::Index;
 use dg_history::NodeId;
-use dg_shape::leaves;
+use dg_catalogue::leaves;
 use std::alloc::{AllocError, Global};
 
 // The node of this number at a height, where the leaves have height 0.

@@ -26,7 +26,7 @@ use dg_disk::Disk;
 use dg_file::Index;
 use dg_graph::Event;
 use dg_history::NodeId;
-use dg_list::net_back;
+use dg_net::net_back;
 use dg_planner::Planner;
 use dg_pool::Pool;
 use dg_retrieval::{RetrievalFault, node_sets};

@@ -26,7 +26,7 @@ use dg_history::{NodeId, Params};
 use dg_planner::Planner;
 use dg_pool::Pool;
 use dg_retrieval::{ALL_COLUMNS, RetrievalFault};
-use dg_shape::{Shape, leaves};
+use dg_catalogue::{Shape, leaves};
 use dg_steps::node_steps;
 use std::alloc::{AllocError, Global};
 use std::thread::Threads;

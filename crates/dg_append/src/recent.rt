@@ -8,7 +8,7 @@ ghost use Rattle.dg_index.specs.OpenedIndex.{event_total};
 
 use dg_file::Index;
 use dg_graph::Event;
-use dg_shape::leaves;
+use dg_catalogue::leaves;
 use std::alloc::{AllocError, Global};
 
 // The events behind the first `count`, or none where there are not so many.

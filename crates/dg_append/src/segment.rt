@@ -30,7 +30,7 @@ use dg_names::Names;
 use dg_pool::Pool;
 use dg_segment::Segment;
 use dg_set::Set;
-use dg_shape::{keys_due, leaves};
+use dg_catalogue::{keys_due, leaves};
 use std::alloc::{AllocError, Global};
 
 /// The instant of the first event, or 0 where there is none.

@@ -29,9 +29,9 @@ use Rattle.dg_plan.specs.IndexGraph.{inner_nodes}
 use Rattle.dg_plan.proofs.IndexGraphReachability.{contains_mapped, contains_number}
 use Rattle.dg_planner.specs.HistoryLaws.{first_time_in}
 use Rattle.dg_retrieval.specs.KeptGraph.{kept_ground, kept_nodes}
-use Rattle.dg_shape.specs.Entries.{Holdings}
-use Rattle.dg_shape.specs.Held.{ends_of}
-use Rattle.dg_shape.specs.Points.{after_all_begun, after_begun, begun_by, end_by, has_begun, has_come, point_in, point_in_lists, point_of}
+use Rattle.dg_catalogue.specs.Entries.{Holdings}
+use Rattle.dg_catalogue.specs.Held.{ends_of}
+use Rattle.dg_catalogue.specs.Points.{after_all_begun, after_begun, begun_by, end_by, has_begun, has_come, point_in, point_in_lists, point_of}
 use Rattle.dg_ask.specs.HeldIndex.{catalogue_of, ends_pair, point_over, span_held}
 
 -- what holds of each index, as far as it is needed here

@@ -12,8 +12,8 @@ use Rattle.dg_machine.specs.declared.stands.Stands.{Stands}
 use Rattle.dg_machine.specs.declared.stands.Stands.TheVariants.{Overlay, Base}
 use Rattle.dg_machine.specs.Needs.{can_be_held}
 use Rattle.dg_planner.specs.HistoryLaws.{first_time_in}
-use Rattle.dg_shape.specs.Entries.{Holdings}
-use Rattle.dg_shape.specs.Points.{point_of}
+use Rattle.dg_catalogue.specs.Entries.{Holdings}
+use Rattle.dg_catalogue.specs.Points.{point_of}
 
 -- how many events it has
 abbrev pub events_held : Option Opening → ℕ

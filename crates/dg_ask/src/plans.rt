@@ -24,7 +24,7 @@ use dg_machine::{BodyLine, BodyLines, Head, Reply};
 use dg_path::Route;
 use dg_plan::{Edge, PlanLine, Verdict};
 use dg_planner::{Planner, law_nodes_are_listed};
-use dg_shape::Shape;
+use dg_catalogue::Shape;
 use std::alloc::{AllocError, Global};
 
 /// The first and the last instant of the history of an index, where there is an event.

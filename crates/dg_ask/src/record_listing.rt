@@ -8,13 +8,13 @@ ghost use Rattle.dg_index.specs.Hierarchy.{numbers};
 ghost use Rattle.dg_index.specs.IndexRecords.{heights, keys_of};
 ghost use Rattle.dg_index.specs.OpenedIndex.{event_total};
 ghost use Rattle.dg_ask.specs.RecordListing.{down_keys, held_line, listing_of};
-ghost use Rattle.dg_shape.specs.Shapes.{IsShape, made_with};
+ghost use Rattle.dg_catalogue.specs.Shapes.{IsShape, made_with};
 
 use crate::plans::shape_of;
 use dg_file::Index;
 use dg_history::{Key, Params};
 use dg_machine::{BodyLine, BodyLines, Head, Reply};
-use dg_shape::{Catalogue, Shape};
+use dg_catalogue::{Catalogue, Shape};
 use std::alloc::{AllocError, Global};
 
 // The line of a record. Where the key is not held, no column has a byte.

@@ -19,7 +19,7 @@ use Rattle.dg_index.proofs.HierarchyStability.{leaf_next, list_cut}
 use Rattle.dg_build.specs.InteriorDeltas.{AreNewNodes}
 use Rattle.dg_build.specs.GivenDeltas.{IsExactNet, gone_back}
 use Rattle.dg_build.specs.OlderSteps.{AreOlderSteps, first_in_time, last_leaf, older_in_time}
-use Rattle.dg_list.proofs.ExactEventCuts.{changes_behind, changes_cut, changes_front}
+use Rattle.dg_net.proofs.ExactEventCuts.{changes_behind, changes_cut, changes_front}
 use Rattle.dg_build.proofs.InteriorDeltaHeights.{all_heights}
 use Rattle.dg_build.proofs.OlderSteps.{div_one, div_mono}
 use Rattle.dg_build.proofs.StepsBack.{back_to_first}

@@ -22,7 +22,7 @@ use crate::start::base_set;
 use dg_delta::Delta;
 use dg_event::Event;
 use dg_history::Params;
-use dg_list::exact_net;
+use dg_net::exact_net;
 use dg_segment::Segment;
 use dg_set::Set;
 use std::alloc::{AllocError, Global};

@@ -12,7 +12,7 @@ ghost use Rattle.dg_build.specs.GivenDeltas.{gone_back, taken_back};
 
 use dg_delta::Delta;
 use dg_event::Event;
-use dg_list::net_back;
+use dg_net::net_back;
 use dg_set::Set;
 use std::alloc::{AllocError, Global};
 

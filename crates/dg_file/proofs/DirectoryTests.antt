@@ -15,7 +15,7 @@ use Rattle.dg_index.proofs.IndexRecordColumns.{Each}
 use Rattle.dg_file.proofs.OpenedIndexKeys.{IsTimed, IsUntimed, suits_due}
 use Rattle.dg_file.specs.declared.found_directory.FoundDirectory.{FoundDirectory}
 use Rattle.dg_file.specs.Directories.{TakesNames, directory_due, TakesDirectory}
-use Rattle.dg_shape.specs.Additions.{bytes_of_rows, Suits}
+use Rattle.dg_catalogue.specs.Additions.{bytes_of_rows, Suits}
 use Rattle.dg_file.proofs.OpenedIndexLists.{listed_read}
 use Rattle.dg_file.proofs.DirectoryTexts.{names_length, end_in, names_first, name_far}
 

@@ -8,14 +8,14 @@ use Rattle.dg_graph.specs.declared.element.Column.{Column}
 use Rattle.dg_history.specs.declared.node.Key.{Key}
 use Rattle.dg_history.specs.Keys.{same_key}
 use Rattle.dg_index.specs.ImageText.{is_within, gate_behind, eight_at}
-use Rattle.dg_shape.specs.Entries.{column_length_in, offset_in}
+use Rattle.dg_catalogue.specs.Entries.{column_length_in, offset_in}
 use Rattle.dg_index.specs.OpenedIndex.{total, Opening, Opened, Directory, opening, bare, read_on, go_on_with, directory_next, directory_in, may_stand, if_it_may, keys_next, laid, rows_in, column_at}
 use Rattle.dg_index.specs.declared.entry.Entry.{Entry}
 use Rattle.dg_index.specs.declared.entry.Row.{Row}
 use Rattle.dg_index.proofs.IndexRecordColumns.{Each, each_append}
 use Rattle.dg_index.proofs.OpenedSoFar.{was, one_more, opened_in}
 use Rattle.std.proofs.lemmas.List.Sums.{sum_by-cons}
-use Rattle.dg_shape.specs.Additions.{bytes_of_rows}
+use Rattle.dg_catalogue.specs.Additions.{bytes_of_rows}
 use Rattle.dg_file.specs.Images.{IsOpenedAs}
 use Rattle.dg_file.specs.Directories.{directory_due}
 use Rattle.dg_file.proofs.DirectoryTexts.{some_then}

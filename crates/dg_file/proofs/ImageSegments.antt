@@ -21,7 +21,7 @@ use Rattle.dg_index.proofs.OpenedIndexHistories.{images_are_opened, large_parame
 use Rattle.dg_index.proofs.OpenedSoFar.{gains}
 use Rattle.dg_index.specs.IndexGrowth.{IsDue, index_with, needed_for}
 use Rattle.dg_file.proofs.InvariantBatches.{follows_in}
-use Rattle.dg_shape.specs.Additions.{bytes_of_rows}
+use Rattle.dg_catalogue.specs.Additions.{bytes_of_rows}
 use Rattle.dg_file.specs.Invariant.{with_rows}
 use Rattle.dg_file.proofs.SegmentText.{text_is}
 use Rattle.dg_file.proofs.OpenedIndexKeys.{keys_count, keys_few}

@@ -6,7 +6,7 @@ use Rattle.std.proofs.lemmas.List.Sums.{sum_by-cons, sum_by_push, sum_by-append}
 use Rattle.dg_history.specs.declared.limits.TheConstants.{BATCH_LINES_MAX, EVENTS_MAX, FILE_BYTES_MAX}
 use Rattle.dg_graph.specs.declared.limits.TheConstants.{NAMES_MAX, TIME_MAX}
 use Rattle.dg_history.specs.declared.node.Key.{Key}
-use Rattle.dg_shape.specs.Entries.{Holdings, spanned}
+use Rattle.dg_catalogue.specs.Entries.{Holdings, spanned}
 use Rattle.dg_index.specs.OpenedIndex.{total, Opening, event_total, earliest_in, first_in, last_or, last_list, keys_next, laid, list_bytes_max, may_be_listed, may_follow, span_in, within}
 use Rattle.dg_index.specs.IndexGrowth.{AreInTurn, columns_in, last_time_in, name_total}
 use Rattle.dg_index.specs.declared.entry.Ends.{Ends}
@@ -18,9 +18,9 @@ use Rattle.dg_history.specs.History.{are_parameters}
 use Rattle.dg_index.proofs.EverAddedBounds.{kept_laid}
 use Rattle.dg_index.proofs.IndexKeyUniqueness.{fresh_next}
 use Rattle.dg_index.proofs.OpenedIndexHistories.{large_parameters}
-use Rattle.dg_shape.specs.Additions.{bytes_of_rows, Suits, IsRoomFor}
+use Rattle.dg_catalogue.specs.Additions.{bytes_of_rows, Suits, IsRoomFor}
 use Rattle.dg_file.specs.Invariant.{IndexIsSound, TimesRise, last_from, later, listed_after, with_rows}
-use Rattle.dg_shape.proofs.AdditionRecords.{suits_length}
+use Rattle.dg_catalogue.proofs.AdditionRecords.{suits_length}
 use Rattle.dg_file.proofs.InvariantLists.{span_push, times_with}
 
 earliest_push : (t : ℕ) (batches : List BatchEntry) (b : BatchEntry) → earliest_in t (batches ++ b ∷ []) ≡ b.ends.last + 1

@@ -19,9 +19,9 @@ use Rattle.dg_index.specs.OpenedIndex.{Opening, first_in, keys_next, laid, last_
 use Rattle.dg_index.proofs.IndexRecordColumns.{Each, each_append, each_flat, each_map, each_number}
 use Rattle.dg_index.proofs.OpenedIndexHistories.{large_parameters}
 use Rattle.dg_index.proofs.HierarchyStability.{leaves_more}
-use Rattle.dg_shape.specs.Entries.{Holdings, spanned, EndsIfList}
-use Rattle.dg_shape.specs.Held.{entry_of}
-use Rattle.dg_shape.specs.Points.{ListsRise}
+use Rattle.dg_catalogue.specs.Entries.{Holdings, spanned, EndsIfList}
+use Rattle.dg_catalogue.specs.Held.{entry_of}
+use Rattle.dg_catalogue.specs.Points.{ListsRise}
 use Rattle.dg_file.specs.Invariant.{BeginsFrom, IndexIsSound, TimesRise, last_from}
 
 -- ---- the first and the last time of the batches

@@ -13,7 +13,7 @@ use Rattle.dg_index.specs.ImageText.{eight_at, is_within, params_in}
 use Rattle.dg_index.specs.IndexGrowth.{columns_in}
 use Rattle.dg_index.specs.OpenedIndex.{No_index, Not_ours, Directory, Opened, Opening, directory_next, bare, go_on_with, if_it_may, keys_next, laid, may_stand, opened_by, opened_or, opening, read_on, rows_in, total}
 use Rattle.dg_index.proofs.OpenedSoFar.{one_more, some_turn}
-use Rattle.dg_shape.specs.Additions.{bytes_of_rows}
+use Rattle.dg_catalogue.specs.Additions.{bytes_of_rows}
 use Rattle.dg_file.specs.declared.lengths.Lengths.{Lengths}
 use Rattle.dg_file.specs.Directories.{segment_lengths_at}
 use Rattle.dg_file.specs.declared.fault.ReopenFault.{ReopenFault}

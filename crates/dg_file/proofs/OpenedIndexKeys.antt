@@ -15,9 +15,9 @@ use Rattle.dg_index.specs.IndexRecords.{lists_due, deltas_of, deltas_due_at, del
 use Rattle.dg_index.specs.OpenedIndex.{Opening, delta_count, directory_of, event_total, keys_next, list_count, list_row, record_row, rows_in}
 use Rattle.dg_index.proofs.HierarchyCounts.{numbers_length, deltas_fit}
 use Rattle.dg_index.proofs.IndexRecordColumns.{Each, each_append, each_flat, each_number, each_map}
-use Rattle.dg_shape.specs.declared.catalogue.TheConstants.{LISTS_MAX}
-use Rattle.dg_shape.specs.Additions.{Suits}
-use Rattle.dg_shape.specs.Keys.{IsNumbered}
+use Rattle.dg_catalogue.specs.declared.catalogue.TheConstants.{LISTS_MAX}
+use Rattle.dg_catalogue.specs.Additions.{Suits}
+use Rattle.dg_catalogue.specs.Keys.{IsNumbered}
 
 -- a row with times, and one without
 abbrev pub IsTimed : Row → Type 0

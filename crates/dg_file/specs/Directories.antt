@@ -5,7 +5,7 @@ use Rattle.dg_graph.specs.Names.{number_of, is_name, are_new}
 use Rattle.dg_history.specs.declared.limits.TheConstants.{FILE_BYTES_MAX}
 use Rattle.dg_index.specs.ImageText.{eight_at, name_at, names_at}
 use Rattle.dg_index.specs.OpenedIndex.{Opening, Opened, Directory, directory_in, earliest_in, event_total, first_in, if_it_may, keys_next, last_list, list_bytes_max, may_be_listed, may_follow, may_stand, rows_in}
-use Rattle.dg_shape.specs.Additions.{bytes_of_rows, Suits}
+use Rattle.dg_catalogue.specs.Additions.{bytes_of_rows, Suits}
 use Rattle.dg_file.specs.declared.found_directory.FoundDirectory.{FoundDirectory}
 use Rattle.dg_file.specs.declared.lengths.Lengths.{Lengths}
 

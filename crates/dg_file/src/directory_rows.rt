@@ -3,7 +3,7 @@
 ghost use Rattle.std.specs.Prelude.{◌≡◌, ◌≤◌, ◌+◌, ◌*◌, ◌++◌, ◌∷◌, [], ◌==◌, ◌&&◌, length, nat_le, IfOk, OnOk};
 ghost use Rattle.dg_index.specs.ImageText.{four_at};
 ghost use Rattle.dg_index.specs.OpenedIndex.{lengths_at, list_at, list_bytes_max, record_at, rows_at, may_be_listed, total};
-ghost use Rattle.dg_shape.specs.Additions.{bytes_of_rows};
+ghost use Rattle.dg_catalogue.specs.Additions.{bytes_of_rows};
 
 use dg_index::{Ends, Row};
 use dg_numbers::{u32_at, u64_at};

@@ -14,8 +14,8 @@ ghost use Rattle.dg_index.specs.IndexGrowth.{AreInTurn, IsDue, columns_in, last_
 ghost use Rattle.dg_index.specs.IndexKeys.{AreKept};
 ghost use Rattle.dg_index.specs.OpenedIndex.{column_at, bare, directory_of, earliest_in, event_total, first_in, keys_next, last_list, list_count, list_bytes_max, may_be_listed, may_follow, opened_of, opening, rows_in, span_in};
 ghost use Rattle.dg_disk.specs.Image.{HasRange, IsLengthOf};
-ghost use Rattle.dg_shape.specs.Additions.{bytes_of_rows, Suits};
-ghost use Rattle.dg_shape.specs.Points.{ListsRise};
+ghost use Rattle.dg_catalogue.specs.Additions.{bytes_of_rows, Suits};
+ghost use Rattle.dg_catalogue.specs.Points.{ListsRise};
 ghost use Rattle.dg_file.specs.Calls.{CommitsPart, CommitsSegment, IsOverLimit};
 ghost use Rattle.dg_file.specs.Directories.{directory_due, FindsDirectory, TakesDirectory};
 ghost use Rattle.dg_file.specs.Headers.{IsOpenedSoFar, Misses};
@@ -42,7 +42,7 @@ use dg_index::{BatchEntry, Entry, Row};
 use dg_names::Names;
 use dg_numbers::u32_at;
 use dg_segment::Segment;
-use dg_shape::{Catalogue, column_length, column_offset, keys_due, leaves};
+use dg_catalogue::{Catalogue, column_length, column_offset, keys_due, leaves};
 use std::alloc::{AllocError, Global};
 use std::marker::Model;
 

@@ -19,7 +19,7 @@ use Rattle.dg_history.specs.EventTimes.{RisesFrom}
 use Rattle.dg_history.proofs.EventTimes.{no_fall}
 use Rattle.dg_history.proofs.LegalHistories.{all_fit, events_made, events_rise}
 use Rattle.dg_history.proofs.ParameterRanges.{in_range}
-use Rattle.dg_list.proofs.NetLaws.{changes_are_exact}
+use Rattle.dg_net.proofs.NetLaws.{changes_are_exact}
 use Rattle.dg_fold.specs.HistoryTrees.{LegalIsIndexed}
 
 body_fits : (n : ℕ) (set : List Element) (b : Body) → FitsBody n b → is_change_of set b ≡ true → BodyFits n b

@@ -21,8 +21,8 @@ use Rattle.dg_columns.proofs.ColumnLawDeltas.{deltas_back}
 use Rattle.dg_columns.proofs.ColumnLawEvents.{events_back}
 use Rattle.dg_delta.proofs.Deltas.{word, can_be_cut}
 use Rattle.dg_graph.specs.ExactEvents.{effect_of}
-use Rattle.dg_list.specs.Lists.{counts}
-use Rattle.dg_list.proofs.ReplayNets.{back_of}
+use Rattle.dg_net.specs.Lists.{counts}
+use Rattle.dg_net.proofs.ReplayNets.{back_of}
 use Rattle.dg_fold.specs.declared.part.Part.{Part}
 use Rattle.dg_plan.specs.declared.edge.Way.{Way}
 use Rattle.dg_plan.specs.declared.edge.Way.TheVariants as way

@@ -12,7 +12,7 @@ use Rattle.dg_columns.specs.ReadOutcome.{IsFaultOf}
 use Rattle.dg_index.specs.IndexRecords.{Record, Events, Exact}
 use Rattle.dg_fold.specs.PathIndependence.{taken}
 use Rattle.dg_graph.specs.Composition.{Delta, Composes}
-use Rattle.dg_list.proofs.ReplayNets.{composes_halves}
+use Rattle.dg_net.proofs.ReplayNets.{composes_halves}
 use Rattle.dg_fold.specs.declared.fault.FoldFault.{FoldFault}
 use Rattle.dg_fold.specs.declared.fault.FoldFault.TheVariants as fault
 use Rattle.dg_fold.specs.declared.part.Part.{Part}

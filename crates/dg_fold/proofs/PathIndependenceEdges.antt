@@ -22,7 +22,7 @@ use Rattle.dg_plan.specs.declared.edge.Via.TheVariants as via
 use Rattle.dg_plan.specs.declared.edge.Way.TheVariants.{Same, Forward, Back}
 use Rattle.dg_index.specs.IndexRecords.{Events, Exact, heights, record_among}
 use Rattle.dg_fold.specs.PathIndependence.{taken, Contents, IsSoundEdge, DeltasLead, via_deltas, enters_held, contents, EdgesAreSound}
-use Rattle.dg_list.proofs.ExactEventCuts.{changes_behind}
+use Rattle.dg_net.proofs.ExactEventCuts.{changes_behind}
 use Rattle.dg_fold.proofs.PathIndependenceRecords.{exact_leads, events_lead, events_lead_back, slice_leads}
 use Rattle.dg_index.proofs.HierarchySteps.{IsSet-node}
 use Rattle.dg_index.specs.Hierarchy.{leaves, parent, set_at, set_of, numbers}

@@ -9,8 +9,8 @@ use Rattle.dg_delta.specs.Deltas.{applied_in_turn}
 use Rattle.dg_delta.proofs.Deltas.{between_leads_on, reversed_leads_back}
 use Rattle.dg_graph.specs.ExactEvents.{effect_of, AreChangesOf}
 use Rattle.dg_graph.proofs.ExactEvents.{IsSet-replay_from, replay_append}
-use Rattle.dg_list.proofs.ExactEventCuts.{changes_front, changes_behind}
-use Rattle.dg_list.proofs.ReplayNets.{all_count, back_in_turn, replays_in_turn}
+use Rattle.dg_net.proofs.ExactEventCuts.{changes_front, changes_behind}
+use Rattle.dg_net.proofs.ReplayNets.{all_count, back_in_turn, replays_in_turn}
 use Rattle.dg_plan.specs.declared.edge.Way.TheVariants.{Forward, Back}
 use Rattle.dg_index.specs.IndexRecords.{Events}
 use Rattle.dg_fold.specs.PathIndependence.{taken, DeltasLead, ExactLeads, SliceLeads, RecordsLead}

@@ -17,7 +17,7 @@ use Rattle.dg_graph.proofs.Sets.{same_members, has-filter, IsSet-filter}
 use Rattle.dg_graph.proofs.ExactEvents.{replay_append}
 use Rattle.dg_delta.specs.Deltas.{applied_in_turn, is_in_after}
 use Rattle.dg_delta.proofs.Deltas.{decides_each_element, has-applied_in_turn, in_turn-append, IsSet-applied, IsSet-applied_in_turn}
-use Rattle.dg_list.proofs.ReplayNets.{replays_in_turn}
+use Rattle.dg_net.proofs.ReplayNets.{replays_in_turn}
 use Rattle.dg_plan.specs.declared.edge.Edge.{Edge}
 use Rattle.dg_plan.specs.declared.edge.Via.{Via}
 use Rattle.dg_plan.specs.declared.edge.Via.TheVariants as via

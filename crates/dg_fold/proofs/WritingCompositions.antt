@@ -5,7 +5,7 @@ use Rattle.std.proofs.lemmas.List.{append-nil, map-append, take_more}
 use Rattle.std.proofs.lemmas.List.Elements.{All-head, All-push, All-tail}
 use Rattle.dg_graph.specs.Composition.{Delta, IsDelta, Composes, composition, says, then_says}
 use Rattle.dg_delta.proofs.Deltas.{IsDelta-composed, can_be_cut, say_the_same_are_equal, says-composed}
-use Rattle.dg_list.proofs.ReplayNets.{composes_halves}
+use Rattle.dg_net.proofs.ReplayNets.{composes_halves}
 use Rattle.dg_fold.specs.declared.writing.Writing.{Writing}
 use Rattle.dg_fold.specs.Writings.{composed_all, is_for, written_for}
 

@@ -16,7 +16,7 @@ use Rattle.dg_history.specs.History.{History, events_of}
 use Rattle.dg_index.specs.Hierarchy.{leaves, set_of}
 use Rattle.dg_index.specs.IndexRecords.{Record, Events, Exact, record_among, recent_of}
 use Rattle.dg_delta.specs.Deltas.{applied_in_turn}
-use Rattle.dg_list.specs.Lists.{counts}
+use Rattle.dg_net.specs.Lists.{counts}
 use Rattle.dg_plan.specs.declared.edge.Edge.{Edge}
 use Rattle.dg_plan.specs.declared.edge.Via.{Via}
 use Rattle.dg_plan.specs.declared.edge.Via.TheVariants as via

@@ -8,7 +8,7 @@ ghost use Rattle.dg_plan.specs.declared.edge.Way.TheVariants.{Forward};
 
 use dg_delta::Delta;
 use dg_graph::Event;
-use dg_list::{merge_lists, net_back, net_to};
+use dg_net::{merge_lists, net_back, net_to};
 use dg_plan::Way;
 use std::alloc::{AllocError, Global};
 use std::thread::Threads;

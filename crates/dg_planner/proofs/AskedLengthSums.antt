@@ -15,7 +15,7 @@ use Rattle.dg_index.specs.Hierarchy.{numbers}
 use Rattle.dg_index.specs.IndexGrowth.{columns_in}
 use Rattle.dg_index.specs.OpenedIndex.{total}
 use Rattle.dg_plan.specs.IndexGraph.{lists_before}
-use Rattle.dg_shape.specs.Entries.{Holdings, column_length_in}
+use Rattle.dg_catalogue.specs.Entries.{Holdings, column_length_in}
 use Rattle.dg_planner.specs.AskedLengths.{asked_of, asked_in, asked_length_of}
 
 -- the asked columns of what is held, if anything is

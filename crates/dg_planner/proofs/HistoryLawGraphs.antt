@@ -27,7 +27,7 @@ use Rattle.dg_index.proofs.OpenedIndexHistories.{large_parameters}
 use Rattle.dg_plan.specs.IndexGraph.{edges_of, inners_at}
 use Rattle.dg_plan.proofs.IndexGraphWeights.{same_edges}
 use Rattle.dg_plan.proofs.EnteredRecordTrees.{all_flat, number_of}
-use Rattle.dg_shape.specs.Entries.{Holdings, column_length_in}
+use Rattle.dg_catalogue.specs.Entries.{Holdings, column_length_in}
 use Rattle.dg_planner.specs.Bases.{ground_of}
 use Rattle.dg_planner.specs.AskedLengths.{asked_length_of}
 use Rattle.dg_planner.specs.HistoryLaws.{shape_of, HoldsRecordsOf, GraphOfHistory}

@@ -25,10 +25,10 @@ use Rattle.dg_index.specs.OpenedIndex.{opened_of}
 use Rattle.dg_index.proofs.OpenedIndexRecords.{ends_in, told_at, record_held}
 use Rattle.dg_index.proofs.OpenedIndexHistories.{large_parameters}
 use Rattle.dg_plan.specs.InstantPoint.{point, point_at}
-use Rattle.dg_shape.specs.Entries.{Holdings}
-use Rattle.dg_shape.specs.Held.{ends_of}
-use Rattle.dg_shape.specs.Points.{ListsRise, begin_by, end_by, has_begun, begun_by, has_come, point_in, point_in_lists, point_of}
-use Rattle.dg_shape.proofs.PointLists.{begun_is}
+use Rattle.dg_catalogue.specs.Entries.{Holdings}
+use Rattle.dg_catalogue.specs.Held.{ends_of}
+use Rattle.dg_catalogue.specs.Points.{ListsRise, begin_by, end_by, has_begun, begun_by, has_come, point_in, point_in_lists, point_of}
+use Rattle.dg_catalogue.proofs.PointLists.{begun_is}
 use Rattle.dg_planner.specs.HistoryLaws.{HoldsRecordsOf, PointsOfHistory, kept_span, first_time_in}
 use Rattle.dg_planner.proofs.ReplayInstants.{time_at, counted, until_few, times_rise, last_at, last_is, first_taken, by_then, has_come_is}
 

@@ -6,7 +6,7 @@ use Rattle.dg_graph.specs.declared.event.Event.{Event}
 use Rattle.dg_graph.specs.Replay.{events_until}
 use Rattle.dg_history.specs.EventTimes.{RisesFrom}
 use Rattle.dg_history.specs.History.{first_time_of, last_time_from}
-use Rattle.dg_shape.specs.Points.{has_come}
+use Rattle.dg_catalogue.specs.Points.{has_come}
 use Rattle.dg_planner.specs.HistoryLaws.{first_time_in}
 
 -- the time of the event with this number

@@ -5,8 +5,8 @@ use Rattle.dg_graph.specs.declared.element.Column.TheVariants.{Structure, NodeAt
 use Rattle.dg_graph.specs.declared.element.Columns.{Columns}
 use Rattle.dg_history.specs.declared.node.Key.{Key}
 use Rattle.dg_index.specs.declared.entry.Entry.{Entry}
-use Rattle.dg_shape.specs.Entries.{Holdings, column_length_in}
-use Rattle.dg_shape.specs.Held.{length_of}
+use Rattle.dg_catalogue.specs.Entries.{Holdings, column_length_in}
+use Rattle.dg_catalogue.specs.Held.{length_of}
 
 -- the bytes of the asked columns, where this is what each column has: the structure is always asked for
 abbrev pub asked_of : Columns → (Column → ℕ) → ℕ

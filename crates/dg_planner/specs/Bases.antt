@@ -5,8 +5,8 @@ use Rattle.dg_graph.specs.declared.element.Columns.{Columns}
 use Rattle.dg_history.specs.declared.node.Key.{Key}
 use Rattle.dg_history.specs.declared.node.NodeId.{NodeId}
 use Rattle.dg_plan.specs.IndexGraph.{Ground, nodes_of}
-use Rattle.dg_shape.specs.declared.shape.Shape.{Shape}
-use Rattle.dg_shape.specs.Entries.{Holdings}
+use Rattle.dg_catalogue.specs.declared.shape.Shape.{Shape}
+use Rattle.dg_catalogue.specs.Entries.{Holdings}
 use Rattle.dg_planner.specs.declared.build.Base.{Base}
 use Rattle.dg_planner.specs.AskedLengths.{asked_length_of}
 

@@ -11,9 +11,9 @@ use Rattle.dg_index.specs.OpenedIndex.{opened_of}
 use Rattle.dg_plan.specs.HistoryGraph.{ground_of_history}
 use Rattle.dg_plan.specs.IndexGraph.{edges_of, nodes_of}
 use Rattle.dg_plan.specs.InstantPoint.{point}
-use Rattle.dg_shape.specs.declared.shape.Shape.{Shape}
-use Rattle.dg_shape.specs.Entries.{Holdings}
-use Rattle.dg_shape.specs.Points.{ListsRise, point_of}
+use Rattle.dg_catalogue.specs.declared.shape.Shape.{Shape}
+use Rattle.dg_catalogue.specs.Entries.{Holdings}
+use Rattle.dg_catalogue.specs.Points.{ListsRise, point_of}
 use Rattle.dg_planner.specs.Bases.{ground_of}
 
 -- the shape of the index of a history

@@ -13,7 +13,7 @@ use crate::node_order::Form;
 use dg_graph::Columns;
 use dg_history::{Key, NodeId};
 use dg_plan::{Edge, Via, Way};
-use dg_shape::Catalogue;
+use dg_catalogue::Catalogue;
 use std::alloc::{AllocError, Global};
 
 /// A base that can serve: the handle that holds the graph of a node.

@@ -7,7 +7,7 @@ ghost use Rattle.dg_plan.specs.CertificateLines.{potential_in};
 ghost use Rattle.dg_plan.specs.IndexGraph.{arcs_of, edges_of, nodes_of, lists_before};
 ghost use Rattle.dg_plan.specs.EnteredRecords.{EntersOnce};
 ghost use Rattle.dg_plan.specs.Walks.{AllHaveLeast, ArePotentials, AreSingles, IsCertificate, IsPlan, IsPotential, IsTree, Leads, steps_of, tree_weight, weight_of};
-ghost use Rattle.dg_shape.specs.Shapes.{IsShape};
+ghost use Rattle.dg_catalogue.specs.Shapes.{IsShape};
 ghost use Rattle.dg_planner.specs.AskedLengths.{asked_length_of};
 ghost use Rattle.dg_planner.specs.Bases.{HasBases, ground_of, ground_with};
 ghost use Rattle.dg_planner.specs.Trees.{grafts_in, node_grafts};
@@ -23,7 +23,7 @@ use dg_graph::Columns;
 use dg_history::NodeId;
 use dg_path::{Adjacency, Cost, Link, Route, costs_from, route_to, thread};
 use dg_plan::Edge;
-use dg_shape::{Catalogue, Shape};
+use dg_catalogue::{Catalogue, Shape};
 use std::alloc::{AllocError, Global};
 use std::marker::Model;
 

@@ -29,7 +29,7 @@ use Rattle.dg_history.specs.declared.node.Key.{Key}
 use Rattle.dg_history.specs.declared.node.NodeId.{NodeId}
 use Rattle.dg_history.specs.declared.node.NodeId.TheVariants as node
 use Rattle.dg_index.specs.IndexRecords.{Events, Exact, Record}
-use Rattle.dg_list.specs.Lists.{counts}
+use Rattle.dg_net.specs.Lists.{counts}
 use Rattle.dg_plan.specs.declared.edge.Edge.{Edge}
 use Rattle.dg_plan.specs.declared.edge.Via.{Via}
 use Rattle.dg_plan.specs.declared.edge.Via.TheVariants as via

@@ -12,8 +12,8 @@ use Rattle.dg_plan.specs.declared.edge.Edge.{Edge}
 use Rattle.dg_plan.specs.HistoryGraph.{all_columns}
 use Rattle.dg_plan.specs.IndexGraph.{Ground, edges_of, nodes_of}
 use Rattle.dg_planner.specs.Bases.{ground_of}
-use Rattle.dg_shape.specs.declared.shape.Shape.{Shape}
-use Rattle.dg_shape.specs.Entries.{Holdings}
+use Rattle.dg_catalogue.specs.declared.shape.Shape.{Shape}
+use Rattle.dg_catalogue.specs.Entries.{Holdings}
 
 -- the shape of an index with these parameters and so many events
 abbrev pub shape_with : Params → ℕ → Shape

@@ -36,7 +36,7 @@ use Rattle.dg_planner.specs.Bases.{ground_of}
 use Rattle.dg_planner.specs.HistoryLaws.{first_time_in}
 use Rattle.dg_planner.proofs.HistoryLawGraphs.{edges_are as edges_of_records, graph_of_history}
 use Rattle.dg_planner.proofs.HistoryLawPoints.{points_of_history}
-use Rattle.dg_shape.specs.Points.{point_of}
+use Rattle.dg_catalogue.specs.Points.{point_of}
 use Rattle.dg_ask.proofs.HeldIndexHistory.{count_is, kept_span_is, span_is}
 use Rattle.dg_index.proofs.OpenedLegalHistories.{behind}
 use Rattle.dg_session.proofs.ReplyNames.{head_names, plan_names}

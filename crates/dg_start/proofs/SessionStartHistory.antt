@@ -22,7 +22,7 @@ use Rattle.dg_index.specs.IndexRecords.{recent_of}
 use Rattle.dg_index.specs.OpenedIndex.{No_index, Opened, Opening, Unopened, opened_by, opened_of, opening}
 use Rattle.dg_index.proofs.OpenedIndexHistories.{images_are_opened}
 use Rattle.dg_index.proofs.OpenedLegalHistories.{behind}
-use Rattle.dg_list.proofs.NetLaws.{changes_keep_graphs}
+use Rattle.dg_net.proofs.NetLaws.{changes_keep_graphs}
 use Rattle.dg_plan.specs.IndexGraph.{leaf}
 use Rattle.dg_retrieval.specs.NodeSets.{IsLedByPlan}
 use Rattle.dg_start.specs.declared.fault.StartFault.{StartFault}

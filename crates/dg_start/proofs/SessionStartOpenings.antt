@@ -17,7 +17,7 @@ use Rattle.dg_index.specs.ImageOfHistory.{IsImageOf, StandsAs}
 use Rattle.dg_index.specs.OpenedIndex.{Unopened, No_index, Opened, Opening, opened_of, opening}
 use Rattle.dg_index.proofs.OpenedIndexHistories.{images_are_opened}
 use Rattle.dg_columns.specs.NamesInRange.{NamesFit}
-use Rattle.dg_now.specs.Now.{NowState}
+use Rattle.dg_current.specs.Now.{NowState}
 use Rattle.dg_retrieval.specs.NamesThere.{BodyHasNamesThere, EventNamesAreThere, NamesAreThere}
 use Rattle.dg_retrieval.specs.NodeSets.{IsIndexOver}
 use Rattle.dg_retrieval.specs.ValueRange.{ValuesFit}

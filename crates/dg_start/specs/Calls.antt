@@ -11,7 +11,7 @@ use Rattle.dg_history.specs.EventTimes.{RisesFrom}
 use Rattle.dg_history.specs.History.{History}
 use Rattle.dg_index.specs.ImageOfHistory.{IsImageOf, StandsAs, is_blank}
 use Rattle.dg_index.specs.OpenedIndex.{Opening, opened_of}
-use Rattle.dg_now.specs.Now.{NowState}
+use Rattle.dg_current.specs.Now.{NowState}
 use Rattle.dg_plan.specs.IndexGraph.{arcs_of}
 use Rattle.dg_plan.specs.Walks.{weight_of}
 use Rattle.dg_retrieval.specs.KeptGraph.{record_edges}

@@ -2,8 +2,8 @@
 -- sets not composed, or a set not taken as the current graph.
 use Rattle.dg_file.specs.declared.fault.FetchFault.{FetchFault}
 use Rattle.dg_file.specs.declared.fault.FetchFault.TheVariants as fetch_fault
-use Rattle.dg_now.specs.declared.fault.FromFault.{FromFault}
-use Rattle.dg_now.specs.declared.fault.FromFault.TheVariants as from_fault
+use Rattle.dg_current.specs.declared.fault.FromFault.{FromFault}
+use Rattle.dg_current.specs.declared.fault.FromFault.TheVariants as from_fault
 use Rattle.dg_retrieval.specs.declared.fault.RetrievalFault.{RetrievalFault}
 use Rattle.dg_retrieval.specs.declared.fault.RetrievalFault.TheVariants as retrieval_fault
 use Rattle.dg_start.specs.declared.fault.RecordFault.{RecordFault}

@@ -14,7 +14,7 @@ use Rattle.dg_index.specs.ImageOfHistory.{StandsAs, is_blank}
 use Rattle.dg_index.specs.IndexGrowth.{name_total}
 use Rattle.dg_index.specs.IndexRecords.{recent_of}
 use Rattle.dg_index.specs.OpenedIndex.{Opening, earliest_in, event_total, first_in, last_list, opened_of, opening}
-use Rattle.dg_now.specs.Now.{NowState}
+use Rattle.dg_current.specs.Now.{NowState}
 use Rattle.dg_retrieval.specs.NamesThere.{EventNamesAreThere, NamesAreThere}
 use Rattle.dg_retrieval.specs.ValueRange.{ValuesFit}
 use Rattle.dg_start.specs.declared.fault.StartFault.{StartFault}

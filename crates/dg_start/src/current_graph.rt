@@ -14,7 +14,7 @@ use crate::keys::has_key;
 use dg_graph::Event;
 use dg_index::Ends;
 use dg_names::Names;
-use dg_now::Now;
+use dg_current::Now;
 use dg_set::Set;
 use std::alloc::{AllocError, Global};
 

@@ -18,7 +18,7 @@ use dg_history::{NodeId, Params};
 use dg_planner::Planner;
 use dg_retrieval::{ALL_COLUMNS, plan_set};
 use dg_set::Set;
-use dg_shape::Shape;
+use dg_catalogue::Shape;
 use std::alloc::{AllocError, Global};
 use std::thread::Threads;
 

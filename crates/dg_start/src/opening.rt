@@ -26,7 +26,7 @@ use dg_disk::Disk;
 use dg_file::{Index, ReopenFault};
 use dg_graph::Event;
 use dg_names::Names;
-use dg_now::Now;
+use dg_current::Now;
 use dg_set::Set;
 use std::alloc::Global;
 use std::thread::Threads;

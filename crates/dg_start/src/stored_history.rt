@@ -4,7 +4,7 @@ ghost use Rattle.std.specs.Prelude.{◌≡◌, [], None};
 use dg_file::Index;
 use dg_graph::Event;
 use dg_names::Names;
-use dg_now::Now;
+use dg_current::Now;
 use std::alloc::Global;
 
 /// An index, if there is one, and what is kept in memory of the history that its file holds.

@@ -2,7 +2,7 @@
 use Rattle.std.proofs.Common.{◌≡◌, ℕ, List, [], None}
 use Rattle.dg_graph.specs.ExactEvents.{AreChangesOf}
 use Rattle.dg_graph.proofs.Completions.{empty_graph}
-use Rattle.dg_list.specs.NetLaws.{ChangesAreExact}
+use Rattle.dg_net.specs.NetLaws.{ChangesAreExact}
 use Rattle.dg_verify.specs.declared.own_events.OwnEvents.{OwnEvents}
 use Rattle.dg_verify.specs.EventTests.{IsRead, first_unfit}
 use Rattle.dg_verify.proofs.EventTestRecords.{are_made}

@@ -18,7 +18,7 @@ use dg_file::Index;
 use dg_graph::{Column, Event};
 use dg_history::Key;
 use dg_names::Names;
-use dg_shape::leaves;
+use dg_catalogue::leaves;
 use std::alloc::Global;
 
 // Whether the index tells of the list the times of the first and of the last of these events.

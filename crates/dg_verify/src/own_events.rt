@@ -12,7 +12,7 @@ ghost use Rattle.dg_verify.specs.EventTests.{IsRead, first_unfit, followed, key_
 use dg_graph::Event;
 use dg_history::Key;
 use dg_names::Names;
-use dg_now::Now;
+use dg_current::Now;
 use dg_start::has_key;
 use std::alloc::{AllocError, Global};
 

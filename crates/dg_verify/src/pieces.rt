@@ -23,7 +23,7 @@ use dg_graph::{Column, Event};
 use dg_history::Key;
 use dg_index::BatchEntry;
 use dg_names::Names;
-use dg_shape::leaves;
+use dg_catalogue::leaves;
 use std::alloc::Global;
 
 // So many of the events, from this one on, as far as there are.

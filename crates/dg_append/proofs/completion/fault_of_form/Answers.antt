@@ -1,5 +1,5 @@
 use Rattle.std.proofs.Common.{length, refl}
-use Rattle.dg_now.specs.Now.{earliest_time_after}
+use Rattle.dg_current.specs.Now.{earliest_time_after}
 use Rattle.dg_append.proofs.FrontRefusals.{front_fault, other_refused}
 use Rattle.dg_append.proofs.completion.fault_of_form.Goals as goal
 

@@ -2,7 +2,7 @@ use Rattle.std.proofs.Common.{sym, subst}
 use Rattle.dg_append.proofs.FrontRefusals.{form_refused}
 use Rattle.dg_append.proofs.completion.prepare.Goals as goal
 use Rattle.dg_append.specs.Fronts.{IsFront}
-use Rattle.dg_now.specs.Now.{earliest_time_after}
+use Rattle.dg_current.specs.Now.{earliest_time_after}
 
 pub returns-in-Form-clause-refused : goal.returns-in-Form-clause-refused
 returns-in-Form-clause-refused c all front =

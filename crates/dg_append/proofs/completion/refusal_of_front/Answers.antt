@@ -1,6 +1,6 @@
 use Rattle.std.proofs.Common.{[], length, ◌∙◌, sym}
 use borrow.Author.Tests.{eqb-true}
-use Rattle.dg_now.specs.Now.{earliest_time_after}
+use Rattle.dg_current.specs.Now.{earliest_time_after}
 use Rattle.dg_append.proofs.FrontRefusals.{none_completed}
 use Rattle.dg_append.proofs.completion.refusal_of_front.Goals as goal
 

@@ -1,7 +1,7 @@
 use Rattle.std.proofs.Common.{◌≡◌, suc, ◌+◌, ◌-◌, ◌/◌, ◌≤◌, ◌<◌, ◌++◌, reverse, sym, ap, ◌∙◌, append-nil, arith}
 use Rattle.dg_append.proofs.OlderChildTimes.{height_more, heights_end}
 use Rattle.dg_append.proofs.OlderNodeHeights.{all_leaves, higher_up}
-use Rattle.dg_shape.proofs.HierarchyRecords.{half_fewer, height_few}
+use Rattle.dg_catalogue.proofs.HierarchyRecords.{half_fewer, height_few}
 use Rattle.dg_append.proofs.older_children.nodes_in_time.Goals as goal
 use Rattle.dg_build.specs.OlderSteps.{in_time, older_in_time}
 

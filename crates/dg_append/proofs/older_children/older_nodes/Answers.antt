@@ -1,7 +1,7 @@
 use Rattle.std.proofs.Common.{List, ◌≡◌, ◌+◌, ◌-◌, ◌/◌, ◌≤◌, ◌<◌, ◌++◌, sym, ap, ◌∙◌, arith}
 use Rattle.std.specs.List.{flat_map}
 use Rattle.dg_append.proofs.OlderNodeHeights.{all_leaves, end_nodes, higher_up, next_nodes, none_more, some_older}
-use Rattle.dg_shape.proofs.HierarchyRecords.{half_fewer, height_few}
+use Rattle.dg_catalogue.proofs.HierarchyRecords.{half_fewer, height_few}
 use Rattle.dg_append.proofs.older_children.older_nodes.Goals as goal
 use Rattle.dg_history.specs.declared.node.NodeId.{NodeId}
 use Rattle.dg_index.specs.Hierarchy.{numbers}

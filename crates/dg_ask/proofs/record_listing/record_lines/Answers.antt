@@ -1,4 +1,4 @@
-use Rattle.dg_shape.specs.Shapes.{made_with}
+use Rattle.dg_catalogue.specs.Shapes.{made_with}
 use Rattle.dg_ask.specs.RecordListing.{held_line}
 use Rattle.dg_ask.proofs.RecordListingLines.{all_listed}
 use Rattle.dg_ask.proofs.record_listing.record_lines.Goals as goal

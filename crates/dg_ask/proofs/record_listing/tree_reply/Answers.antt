@@ -5,8 +5,8 @@ use Rattle.dg_index.specs.IndexRecords.{keys_of}
 use Rattle.dg_index.specs.OpenedIndex.{Opening, event_total}
 use Rattle.dg_machine.specs.declared.reply.Head.TheVariants as head
 use Rattle.dg_retrieval.specs.KeptGraph.{shape_with}
-use Rattle.dg_shape.specs.declared.shape.Shape.{Shape}
-use Rattle.dg_shape.specs.Shapes.{made_with}
+use Rattle.dg_catalogue.specs.declared.shape.Shape.{Shape}
+use Rattle.dg_catalogue.specs.Shapes.{made_with}
 use Rattle.dg_ask.specs.RecordListing.{held_line}
 use Rattle.dg_ask.proofs.record_listing.tree_reply.Goals as goal
 

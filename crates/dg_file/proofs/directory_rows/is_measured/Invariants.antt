@@ -1,5 +1,5 @@
 use Rattle.std.proofs.Common.{◌≡◌, ◌+◌, drop}
-use Rattle.dg_shape.specs.Additions.{bytes_of_rows}
+use Rattle.dg_catalogue.specs.Additions.{bytes_of_rows}
 use Rattle.dg_file.proofs.directory_rows.is_measured.Given as goal
 
 abbrev pub invariant-loop-row : goal.invariant-loop-row

@@ -2,7 +2,7 @@ use Rattle.std.proofs.Common.{map, subst, sym, ◌∙◌}
 use Rattle.std.proofs.lemmas.Result.{IfOk-weaker}
 use Rattle.dg_graph.specs.Composition.{Composes}
 use Rattle.dg_graph.specs.ExactEvents.{effect_of}
-use Rattle.dg_list.proofs.ReplayNets.{all_count}
+use Rattle.dg_net.proofs.ReplayNets.{all_count}
 use Rattle.dg_fold.proofs.net.net.Goals as goal
 
 pub returns : goal.returns

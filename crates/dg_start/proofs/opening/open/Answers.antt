@@ -10,7 +10,7 @@ use Rattle.dg_graph.specs.Replay.{replay_from}
 use Rattle.dg_history.specs.History.{History}
 use Rattle.dg_index.specs.ImageOfHistory.{StandsAs, is_blank}
 use Rattle.dg_index.specs.OpenedIndex.{No_index, Opening, opening}
-use Rattle.dg_now.specs.Now.{NowState}
+use Rattle.dg_current.specs.Now.{NowState}
 use Rattle.dg_start.specs.declared.fault.StartFault.{StartFault}
 use Rattle.dg_start.specs.declared.fault.StartFault.TheVariants as fault
 use Rattle.dg_start.specs.Calls.{TakesAlongPlan, current_bytes}

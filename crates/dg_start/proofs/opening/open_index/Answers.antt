@@ -3,7 +3,7 @@ use Rattle.std.specs.Prelude.{IfSome, length}
 use Rattle.dg_file.specs.Index.{IndexState}
 use Rattle.dg_graph.specs.declared.event.Event.{Event}
 use Rattle.dg_index.specs.OpenedIndex.{Opening, opening}
-use Rattle.dg_now.specs.Now.{NowState}
+use Rattle.dg_current.specs.Now.{NowState}
 use Rattle.dg_start.specs.Calls.{current_bytes}
 use Rattle.dg_start.specs.SessionStart.{Starts}
 use Rattle.dg_start.specs.StoredHistory.{IsSoundHistory, started_with}

@@ -9,7 +9,7 @@ use Rattle.dg_index.specs.IndexGrowth.{index_with, needed_for}
 use Rattle.dg_index.specs.OpenedIndex.{Opening, directory_of, earliest_in, event_total, first_in, last_list, list_bytes_max, may_be_listed, rows_in}
 use Rattle.dg_file.proofs.OpenedIndexLists.{listed_segment}
 use Rattle.dg_index.proofs.OpenedIndexHistories.{large_parameters}
-use Rattle.dg_shape.specs.Additions.{Suits}
+use Rattle.dg_catalogue.specs.Additions.{Suits}
 use Rattle.dg_file.specs.declared.fault.CommitFault.{CommitFault}
 use Rattle.dg_file.specs.declared.fault.CommitFault.TheVariants.{FileFull, Disk}
 use Rattle.dg_file.specs.Growth.{Moved, Gated, GatedOrNot}

@@ -7,7 +7,7 @@ use Rattle.dg_disk.specs.Image.{HasRange}
 use Rattle.dg_history.specs.Keys.{same_key}
 use Rattle.dg_index.specs.declared.entry.Entry.{Entry}
 use Rattle.dg_index.specs.OpenedIndex.{Opening, column_at}
-use Rattle.dg_shape.specs.Entries.{offset_in, IsInRange}
+use Rattle.dg_catalogue.specs.Entries.{offset_in, IsInRange}
 use Rattle.dg_file.specs.Images.{taken_after}
 use Rattle.dg_file.specs.Index.{IndexState}
 use Rattle.dg_file.proofs.ImageColumns.{column_there, column_read, ok_both}

@@ -4,12 +4,12 @@ use Rattle.dg_history.specs.declared.node.Key.{Key}
 use Rattle.dg_index.specs.declared.entry.BatchEntry.{BatchEntry}
 use Rattle.dg_index.specs.declared.entry.Ends.{Ends}
 use Rattle.dg_index.specs.OpenedIndex.{Opening, event_total, earliest_in, first_in, keys_next, laid, last_list, list_bytes_max, may_be_listed, may_follow}
-use Rattle.dg_shape.specs.Additions.{Suits}
-use Rattle.dg_shape.specs.Entries.{spanned}
+use Rattle.dg_catalogue.specs.Additions.{Suits}
+use Rattle.dg_catalogue.specs.Entries.{spanned}
 use Rattle.dg_file.specs.Index.{IndexState}
 use Rattle.dg_file.specs.Invariant.{IndexIsSound, listed_after, with_rows}
 use Rattle.dg_index.specs.IndexGrowth.{name_total}
-use Rattle.dg_shape.proofs.AdditionRecords.{suits_length}
+use Rattle.dg_catalogue.proofs.AdditionRecords.{suits_length}
 use Rattle.dg_file.proofs.InvariantBatches.{noted_sound, room_for}
 use Rattle.dg_file.proofs.index.Index.note.Goals as goal
 

@@ -4,7 +4,7 @@ use Rattle.std.proofs.lemmas.Result.{err_from_is_err_and}
 use Rattle.dg_disk.specs.Image.{IsLengthOf}
 use Rattle.dg_index.specs.IndexGrowth.{columns_in, name_total}
 use Rattle.dg_index.specs.OpenedIndex.{Opening, opening, keys_next, event_total, earliest_in, first_in, last_list, list_bytes_max, may_be_listed, may_follow}
-use Rattle.dg_shape.specs.Additions.{Suits, bytes_of_rows}
+use Rattle.dg_catalogue.specs.Additions.{Suits, bytes_of_rows}
 use Rattle.dg_history.specs.declared.node.Key.{Key}
 use Rattle.dg_file.specs.declared.lengths.Lengths.{Lengths}
 use Rattle.dg_file.specs.Directories.{FindsDirectory, directory_due}

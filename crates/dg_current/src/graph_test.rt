@@ -1,0 +1,136 @@
+//! Whether a set is a graph, by walks over its elements in their order.
+ghost use Rattle.std.specs.Prelude.{◌≡◌, ◌↔◌, ◌==◌, true, IfOk, IsTrue};
+ghost use Rattle.std.specs.List.{list_any, list_all};
+ghost use Rattle.std.specs.List.Sorted.{IsNonDecreasing};
+ghost use Rattle.dg_graph.specs.Elements.{IsSet};
+ghost use Rattle.dg_graph.specs.Graph.{IsGraph, has_needs};
+ghost use Rattle.dg_current.specs.Sorted.{AreNodesOf, OneOfEachId, has_ends, holder_of, is_held};
+
+use crate::element_id::ElementId;
+use crate::search::{first_from, found_at, least, next_from};
+use dg_graph::Element;
+use std::alloc::{AllocError, Global};
+
+// Whether no two of the items have one id: such two would be neighbours.
+fn ids_differ(items: &[Element]) -> bool
+    requires { IsSet items.now }
+    ensures { IsTrue result ↔ OneOfEachId items.now }
+{
+    for index in 1..items.len() {
+        if ElementId::of(&items[index - 1]) == ElementId::of(&items[index]) {
+            return false;
+        }
+    }
+    true
+}
+
+// The id of the element that a value stands at.
+fn holder_of(element: &Element) -> Option<ElementId>
+    ensures { result ≡ holder_of element.now }
+{
+    match *element {
+        Element::Node { .. } | Element::Edge { .. } => None,
+        Element::NodeAttr { id, .. } => Some(ElementId::Node(id)),
+        Element::EdgeAttr { id, .. } => Some(ElementId::Edge(id)),
+    }
+}
+
+// Whether each value stands at a node or an edge among the items. What the values stand at comes in
+// the order of the values, so one walk over the nodes and edges finds it.
+fn values_are_held(items: &[Element]) -> bool
+    requires { IsSet items.now }
+    ensures { result ≡ list_all (is_held items.now) items.now }
+{
+    let mut at = 0;
+    for element in items {
+        if let Some(id) = holder_of(element) {
+            at = next_from(items, at, &least(id));
+            if found_at(items, at, id).is_none() {
+                return false;
+            }
+        }
+    }
+    true
+}
+
+// The ids of the nodes among the items.
+fn node_ids(alloc: Global, items: &[Element]) -> Result<Vec<u64>, AllocError>
+    requires { IsSet items.now }
+    ensures { IfOk result (λ nodes. AreNodesOf items.now nodes.items) }
+{
+    let mut nodes = Vec::with_capacity(alloc, first_from(items, &least(ElementId::Edge(0))))?;
+    for element in items {
+        match *element {
+            Element::Node { id } => nodes.push(id)?,
+            _ => break,
+        }
+    }
+    Ok(nodes)
+}
+
+// Whether the id stands as far behind the first node as it is greater, as it does where none between them is
+// missing.
+fn stands_as_numbered(nodes: &[u64], id: u64) -> bool
+    ensures { IsTrue result → list_any (λ node. node == id) nodes.now ≡ true }
+{
+    let Some(first) = nodes.first() else {
+        return false;
+    };
+    match nodes.get(id.wrapping_sub(*first) as usize) {
+        Some(node) => *node == id,
+        None => false,
+    }
+}
+
+// Whether the id is among those of the nodes. Most have the ids from one on, so one look is tried before a search.
+fn is_node(nodes: &[u64], id: u64) -> bool
+    requires { IsNonDecreasing nodes.now }
+    ensures { result ≡ list_any (λ node. node == id) nodes.now }
+{
+    stands_as_numbered(nodes, id) || nodes.binary_search(&id).is_ok()
+}
+
+// Whether the ends of the element, where it is an edge, are among the nodes.
+fn has_ends(items: &[Element], nodes: &[u64], element: &Element) -> bool
+    requires { AreNodesOf items.now nodes.now }
+    ensures { result ≡ has_ends items.now element.now }
+{
+    match *element {
+        Element::Edge { src, dst, .. } => is_node(nodes, src) && is_node(nodes, dst),
+        _ => true,
+    }
+}
+
+// Whether the ends of all edges are among the nodes.
+fn edges_have_ends(items: &[Element], nodes: &[u64]) -> bool
+    requires { AreNodesOf items.now nodes.now }
+    ensures { result ≡ list_all (has_ends items.now) items.now }
+{
+    for element in items {
+        if !has_ends(items, nodes, element) {
+            return false;
+        }
+    }
+    true
+}
+
+// Whether each of the items has what it needs among them.
+fn are_fed(items: &[Element], nodes: &[u64]) -> bool
+    requires set { IsSet items.now }
+    requires nodes { AreNodesOf items.now nodes.now }
+    ensures { result ≡ list_all (has_needs items.now) items.now }
+{
+    values_are_held(items) && edges_have_ends(items, nodes)
+}
+
+/// Whether the items are a graph. An `Err` says that memory ran out.
+pub(crate) fn is_graph(alloc: Global, items: &[Element]) -> Result<bool, AllocError>
+    requires { IsSet items.now }
+    ensures { IfOk result (λ is. IsTrue is ↔ IsGraph items.now) }
+{
+    if !ids_differ(items) {
+        return Ok(false);
+    }
+    let nodes = node_ids(alloc, items)?;
+    Ok(are_fed(items, &nodes))
+}

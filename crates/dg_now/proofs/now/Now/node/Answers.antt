@@ -1,6 +1,0 @@
-use Rattle.std.proofs.Common.{is_some, ap, ◌∙◌}
-use Rattle.dg_now.proofs.ElementIds.{has_node_is}
-use Rattle.dg_now.proofs.now.Now.node.Goals as goal
-
-pub returns : goal.returns
-returns c = c.is_some.ensures ∙ ap is_some c.element_at.ensures ∙ has_node_is c.args.self.now.graph c.args.id
