@@ -2,7 +2,7 @@
 use Rattle.std.proofs.Common.{◌≡◌, ℕ, zero, suc, ◌+◌, List, [], ◌∷◌, ◌++◌, Some, None, drop, slice_get, refl, sym, ◌∙◌, ap, append_assoc, add-one}
 use Rattle.std.proofs.lemmas.List.{append-nil}
 use Rattle.dg_index.specs.FileOfHistory.{Segment}
-use Rattle.dg_graph.specs.Names.{name_text}
+use Rattle.dg_text.specs.Names.{name_text}
 
 from_here : (names : List (List ℕ)) (n : ℕ) (text : List ℕ) → slice_get names n ≡ Some text → drop n names ≡ text ∷ drop (suc n) names
 from_here [] n text there = cc

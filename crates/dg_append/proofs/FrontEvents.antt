@@ -18,11 +18,12 @@ use Rattle.dg_graph.specs.declared.event.Body.{Body}
 use Rattle.dg_graph.specs.declared.event.Body.TheVariants as body
 use Rattle.dg_graph.specs.declared.event.Change.{Change}
 use Rattle.dg_graph.specs.declared.event.Event.{Event}
-use Rattle.dg_graph.specs.declared.limits.TheConstants.{NAMES_MAX, TIME_MAX}
+use Rattle.dg_graph.specs.declared.limits.TheConstants.{TIME_MAX}
+use Rattle.dg_text.specs.declared.limits.TheConstants.{NAMES_MAX}
 use Rattle.dg_graph.specs.CompletedChanges.{completed}
 use Rattle.dg_graph.specs.ExactEvents.{AreChangesOf}
 use Rattle.dg_graph.specs.Graph.{IsGraph}
-use Rattle.dg_graph.specs.Names.{are_new}
+use Rattle.dg_text.specs.Names.{are_new}
 use Rattle.dg_graph.proofs.Completions.{AllCome, all_come, as_many, made_come, times_fit}
 use Rattle.dg_history.specs.History.{are_parameters}
 use Rattle.dg_history.proofs.EventTimes.{first_and_last, last_in_time, rises_come}

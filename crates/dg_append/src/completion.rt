@@ -9,8 +9,8 @@ ghost use Rattle.dg_history.specs.declared.limits.TheConstants.{BATCH_LINES_MAX}
 ghost use Rattle.dg_current.specs.Now.{FaultOf, earliest_time_after};
 
 use crate::front::Front;
-use dg_graph::{Change, REASON_FORM};
 use dg_current::{Now, PrepareFault};
+use dg_graph::{Change, REASON_FORM};
 
 // Why the changes are refused, if they are, before a line that is no change. The graph has nothing
 // pending, before and after.

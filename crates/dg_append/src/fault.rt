@@ -4,9 +4,9 @@ ghost use Rattle.std.specs.Prelude.{◌≡◌};
 ghost use Rattle.dg_append.specs.declared.fault.BatchFault.TheVariants.{Memory};
 ghost use Rattle.dg_append.specs.Faults.{of_prepare, of_retrieval};
 
+use dg_current::PrepareFault;
 use dg_graph::Column;
 use dg_history::Key;
-use dg_current::PrepareFault;
 use dg_retrieval::RetrievalFault;
 use std::alloc::AllocError;
 use thiserror::Error;

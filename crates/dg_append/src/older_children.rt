@@ -8,9 +8,9 @@ ghost use Rattle.dg_index.specs.Hierarchy.{numbers};
 ghost use Rattle.dg_index.specs.OlderNodes.{node_at, older};
 ghost use Rattle.dg_index.specs.OpenedIndex.{event_total};
 
+use dg_catalogue::leaves;
 use dg_file::Index;
 use dg_history::NodeId;
-use dg_catalogue::leaves;
 use std::alloc::{AllocError, Global};
 
 // The node of this number at a height, where the leaves have height 0.

@@ -6,9 +6,9 @@ ghost use Rattle.dg_history.specs.declared.limits.TheConstants.{EVENTS_MAX};
 ghost use Rattle.dg_index.specs.Hierarchy.{leaves};
 ghost use Rattle.dg_index.specs.OpenedIndex.{event_total};
 
+use dg_catalogue::leaves;
 use dg_file::Index;
 use dg_graph::Event;
-use dg_catalogue::leaves;
 use std::alloc::{AllocError, Global};
 
 // The events behind the first `count`, or none where there are not so many.

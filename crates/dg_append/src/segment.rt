@@ -21,6 +21,7 @@ ghost use Rattle.dg_pool.specs.Graphs.{graph_now};
 use crate::fault::BatchFault;
 use crate::next_batch::NextBatch;
 use dg_build::{BuildFault, build, is_top_due};
+use dg_catalogue::{keys_due, leaves};
 use dg_delta::Delta;
 use dg_disk::Disk;
 use dg_file::{CommitFault, Index};
@@ -30,7 +31,6 @@ use dg_names::Names;
 use dg_pool::Pool;
 use dg_segment::Segment;
 use dg_set::Set;
-use dg_catalogue::{keys_due, leaves};
 use std::alloc::{AllocError, Global};
 
 /// The instant of the first event, or 0 where there is none.

@@ -12,13 +12,14 @@ use Rattle.std.proofs.lemmas.List.Elements.{All-append, All-cons, All-head, All-
 use Rattle.std.proofs.lemmas.List.Splits.{slice_split_at, slice_split_none}
 use Rattle.std.proofs.lemmas.Slice.Eq.{bytes_eq-Decides}
 use Rattle.std.proofs.lemmas.Str.Parse.{digit_at}
-use Rattle.dg_graph.specs.declared.limits.TheConstants.{LINE_BYTES_MAX, TIME_MAX}
-use Rattle.dg_graph.specs.Lines.{Long, Text, lines_of, script_line}
-use Rattle.dg_graph.specs.Verbs.{none_more, one, read_by}
-use Rattle.dg_graph.specs.Words.{number, words}
+use Rattle.dg_graph.specs.declared.limits.TheConstants.{TIME_MAX}
+use Rattle.dg_text.specs.declared.limits.TheConstants.{LINE_BYTES_MAX}
+use Rattle.dg_text.specs.Lines.{Long, Text, lines_of, script_line}
+use Rattle.dg_text.specs.Verbs.{none_more, one, read_by}
+use Rattle.dg_text.specs.Words.{number, words}
 use Rattle.dg_history.specs.declared.node.NodeId.{NodeId}
 use Rattle.dg_history.specs.declared.node.NodeId.TheVariants.{Root, Now, Recent, Leaf, List, Inner}
-use Rattle.dg_history.specs.ChangeGrammar.{time_of}
+use Rattle.dg_changes.specs.ChangeGrammar.{time_of}
 use Rattle.dg_machine.specs.declared.reply.BodyLine.{BodyLine}
 use Rattle.dg_machine.specs.declared.reply.BodyLine.TheVariants as line
 use Rattle.dg_machine.specs.CommandGrammar.{n32_of, node_verbs, plan_line_of, plan_verbs}

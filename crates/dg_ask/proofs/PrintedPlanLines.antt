@@ -8,7 +8,7 @@ use Rattle.std.proofs.lemmas.List.Elements.{All-append, All-cons, All-head, All-
 use Rattle.std.proofs.lemmas.Option.{get_or_from_slice_get, slice_get_within}
 use Rattle.std.proofs.Math.Nat.{div-le_self}
 use Rattle.dg_graph.specs.declared.limits.TheConstants.{TIME_MAX}
-use Rattle.dg_graph.specs.Lines.{ScriptLine, Text, lines_of}
+use Rattle.dg_text.specs.Lines.{ScriptLine, Text, lines_of}
 use Rattle.dg_history.specs.declared.node.NodeId.{NodeId}
 use Rattle.dg_history.specs.declared.node.NodeId.TheVariants.{Root, Now, Recent, Leaf, List, Inner}
 use Rattle.dg_history.specs.History.{events_of}

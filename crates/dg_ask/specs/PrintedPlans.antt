@@ -2,7 +2,7 @@
 use Rattle.std.specs.Prelude.{◌≡◌, ◌<◌, ◌≤◌, ◌^◌, ℕ, List, [], All, None, length}
 use Rattle.dg_graph.specs.declared.element.Columns.{Columns}
 use Rattle.dg_graph.specs.declared.limits.TheConstants.{TIME_MAX}
-use Rattle.dg_graph.specs.Lines.{ScriptLine, lines_of}
+use Rattle.dg_text.specs.Lines.{ScriptLine, lines_of}
 use Rattle.dg_history.specs.LegalHistory.{IsLegal}
 use Rattle.dg_machine.specs.declared.command.Command.TheVariants as command
 use Rattle.dg_machine.specs.declared.reply.Head.TheVariants.{Certified}

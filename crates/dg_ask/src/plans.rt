@@ -15,6 +15,7 @@ ghost use Rattle.dg_ask.specs.HeldIndex.{HasNodes, has_node_held, point_over, sp
 ghost use Rattle.dg_ask.specs.KeptPlanner.{IsGraphFor};
 ghost use Rattle.dg_ask.specs.Plans.{IsPlanReply};
 
+use dg_catalogue::Shape;
 use dg_certify::certify;
 use dg_file::Index;
 use dg_graph::{Columns, Event};
@@ -24,7 +25,6 @@ use dg_machine::{BodyLine, BodyLines, Head, Reply};
 use dg_path::Route;
 use dg_plan::{Edge, PlanLine, Verdict};
 use dg_planner::{Planner, law_nodes_are_listed};
-use dg_catalogue::Shape;
 use std::alloc::{AllocError, Global};
 
 /// The first and the last instant of the history of an index, where there is an event.

@@ -11,10 +11,10 @@ ghost use Rattle.dg_ask.specs.RecordListing.{down_keys, held_line, listing_of};
 ghost use Rattle.dg_catalogue.specs.Shapes.{IsShape, made_with};
 
 use crate::plans::shape_of;
+use dg_catalogue::{Catalogue, Shape};
 use dg_file::Index;
 use dg_history::{Key, Params};
 use dg_machine::{BodyLine, BodyLines, Head, Reply};
-use dg_catalogue::{Catalogue, Shape};
 use std::alloc::{AllocError, Global};
 
 // The line of a record. Where the key is not held, no column has a byte.

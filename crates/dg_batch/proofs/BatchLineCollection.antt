@@ -4,9 +4,9 @@ use Rattle.std.proofs.Math.Seq.{take-append_seam}
 use Rattle.std.proofs.lemmas.List.{map-append, take-append-drop}
 use Rattle.dg_io.specs.declared.lines.Line.{Line}
 use Rattle.dg_graph.specs.declared.event.Change.{Change}
-use Rattle.dg_history.specs.Batch.{changes_after, names_after}
-use Rattle.dg_history.specs.ChangeGrammar.{ChangeByText, change_by_text_in, named, change_with}
-use Rattle.dg_graph.specs.Lines.{ScriptLine}
+use Rattle.dg_changes.specs.Batch.{changes_after, names_after}
+use Rattle.dg_changes.specs.ChangeGrammar.{ChangeByText, change_by_text_in, named, change_with}
+use Rattle.dg_text.specs.Lines.{ScriptLine}
 use Rattle.dg_batch.proofs.NamesAfter.{names_both, changes_both}
 use Rattle.dg_append.specs.declared.front.Front.{Front}
 use Rattle.dg_append.specs.declared.front.Front.TheVariants.{Whole, Form, Unkept}

@@ -11,11 +11,11 @@ use borrow.Author.Tests.{leb-true}
 use Rattle.dg_graph.specs.declared.event.What.{What}
 use Rattle.dg_graph.specs.declared.event.What.TheVariants as what
 use Rattle.dg_graph.specs.declared.limits.TheConstants.{TIME_MAX}
-use Rattle.dg_graph.specs.Lines.{ScriptLine, Text, Long}
-use Rattle.dg_graph.specs.Names.{is_key, is_name}
-use Rattle.dg_graph.specs.Verbs.{Verb, none_more, one, two_words, three, four_words}
-use Rattle.dg_graph.specs.Words.{words, number}
-use Rattle.dg_history.specs.ChangeGrammar.{WhatByText, Plain, Sets_node, Unsets_node, Sets_edge, Unsets_edge, ChangeByText, change_verbs, id_of, time_of, direction_of, key_text_of, value_text_of, setting_of, what_by_text_of, change_by_text_of_words, change_by_text_in}
+use Rattle.dg_text.specs.Lines.{ScriptLine, Text, Long}
+use Rattle.dg_text.specs.Names.{is_key, is_name}
+use Rattle.dg_text.specs.Verbs.{Verb, none_more, one, two_words, three, four_words}
+use Rattle.dg_text.specs.Words.{words, number}
+use Rattle.dg_changes.specs.ChangeGrammar.{WhatByText, Plain, Sets_node, Unsets_node, Sets_edge, Unsets_edge, ChangeByText, change_verbs, id_of, time_of, direction_of, key_text_of, value_text_of, setting_of, what_by_text_of, change_by_text_of_words, change_by_text_in}
 use Rattle.dg_machine.proofs.VerbTables.{each_read_by}
 
 -- what the words, or one word, are read as has the property

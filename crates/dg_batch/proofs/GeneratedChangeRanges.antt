@@ -8,11 +8,11 @@ use Rattle.std.proofs.lemmas.List.Elements.{All-nil, All-cons}
 use Rattle.std.proofs.lemmas.Str.Parse.{digit_from_value}
 use borrow.Author.Tests.{le-leb, lt-ltb}
 use Rattle.dg_graph.specs.declared.event.What.TheVariants.{RemoveEdge}
-use Rattle.dg_graph.specs.declared.limits.TheConstants.{NAME_BYTES_MAX}
-use Rattle.dg_graph.specs.Names.{is_name}
-use Rattle.dg_history.specs.ChangeGrammar.{WhatByText, Plain, Sets_node, Unsets_node, Unsets_edge}
+use Rattle.dg_text.specs.declared.limits.TheConstants.{NAME_BYTES_MAX}
+use Rattle.dg_text.specs.Names.{is_name}
+use Rattle.dg_changes.specs.ChangeGrammar.{WhatByText, Plain, Sets_node, Unsets_node, Unsets_edge}
 use Rattle.dg_history.specs.declared.limits.TheConstants.{BATCH_LINES_MAX}
-use Rattle.dg_history.specs.GeneratedChanges.{generated, generated_change, generated_from, generated_what, lettered, next_number, part_of}
+use Rattle.dg_changes.specs.GeneratedChanges.{generated, generated_change, generated_from, generated_what, lettered, next_number, part_of}
 use Rattle.dg_batch.proofs.ChangeGrammarRanges.{AskedFits, SaidFits}
 use Rattle.dg_batch.proofs.NamesAfter.{no_end}
 

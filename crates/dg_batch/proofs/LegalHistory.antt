@@ -8,14 +8,15 @@ use Rattle.std.proofs.lemmas.List.Elements.{All-nil}
 use Rattle.dg_graph.specs.declared.element.Element.{Element}
 use Rattle.dg_graph.specs.declared.event.Change.{Change}
 use Rattle.dg_graph.specs.declared.event.Event.{Event}
-use Rattle.dg_graph.specs.declared.limits.TheConstants.{NAMES_MAX, TIME_MAX}
+use Rattle.dg_graph.specs.declared.limits.TheConstants.{TIME_MAX}
+use Rattle.dg_text.specs.declared.limits.TheConstants.{NAMES_MAX}
 use Rattle.dg_history.specs.declared.limits.TheConstants.{BATCH_LINES_MAX, EVENTS_MAX}
 use Rattle.dg_graph.specs.CompletedChanges.{completed}
-use Rattle.dg_history.specs.Batch.{changes_after, names_after}
-use Rattle.dg_history.specs.ChangeGrammar.{ChangeByText}
+use Rattle.dg_changes.specs.Batch.{changes_after, names_after}
+use Rattle.dg_changes.specs.ChangeGrammar.{ChangeByText}
 use Rattle.dg_history.specs.History.{History, Batch, events_of, names_of, with_batch, span_of, earliest_next}
 use Rattle.dg_history.specs.LegalHistory.{FitsEvent, IsLegal, IsLegalBatch, AreLegalAfter}
-use Rattle.dg_graph.specs.Names.{are_new}
+use Rattle.dg_text.specs.Names.{are_new}
 use Rattle.dg_graph.specs.Replay.{replay}
 use Rattle.dg_graph.proofs.Completions.{AllCome, all_come, as_many, times_fit}
 use Rattle.dg_history.proofs.LegalHistories.{all_fit, events_among}

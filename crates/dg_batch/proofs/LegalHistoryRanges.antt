@@ -14,13 +14,13 @@ use Rattle.dg_graph.specs.declared.event.Event.{Event}
 use Rattle.dg_graph.specs.declared.event.What.{What}
 use Rattle.dg_graph.specs.declared.event.What.TheVariants as what
 use Rattle.dg_graph.specs.declared.limits.TheConstants.{TIME_MAX}
-use Rattle.dg_history.specs.Batch.{changes_after, names_after}
+use Rattle.dg_changes.specs.Batch.{changes_after, names_after}
 use Rattle.dg_graph.specs.Completion.{is_edge, node_value, edge_value, is_node_value, is_edge_value, value_in, complete, has_key}
 use Rattle.dg_graph.specs.Effect.{forwards, removed_by, added_by, moved}
 use Rattle.dg_graph.specs.Elements.{before, same, put, with_one, without}
-use Rattle.dg_history.specs.ChangeGrammar.{WhatByText, Plain, Sets_node, Unsets_node, Sets_edge, Unsets_edge, ChangeByText, named, change_with, what_in}
+use Rattle.dg_changes.specs.ChangeGrammar.{WhatByText, Plain, Sets_node, Unsets_node, Sets_edge, Unsets_edge, ChangeByText, named, change_with, what_in}
 use Rattle.dg_history.specs.LegalHistory.{FitsBody}
-use Rattle.dg_graph.specs.Names.{added, is_key, is_name, name_text}
+use Rattle.dg_text.specs.Names.{added, is_key, is_name, name_text}
 use Rattle.dg_graph.specs.Replay.{replay_from}
 use Rattle.dg_graph.proofs.Completions.{AllCome, IsCompletion, completion}
 use Rattle.dg_batch.proofs.NamesAfter.{Grows, Has, grows_none, grows_both, added_grows, added_has, has_more, key_is_name, number_within, text_is}

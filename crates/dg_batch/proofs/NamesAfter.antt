@@ -9,10 +9,10 @@ use Rattle.std.proofs.lemmas.Option.{slice_get_within, get_or_from_slice_get}
 use Rattle.std.proofs.lemmas.Bool.{and_parts}
 use borrow.Author.Tests.{le-leb, leb-true, eqb-true}
 use Rattle.dg_graph.specs.declared.event.Change.{Change}
-use Rattle.dg_graph.specs.declared.limits.TheConstants.{KEY_BYTES_MAX, NAME_BYTES_MAX}
-use Rattle.dg_history.specs.Batch.{changes_after, names_after}
-use Rattle.dg_history.specs.ChangeGrammar.{ChangeByText, named, change_with}
-use Rattle.dg_graph.specs.Names.{number_of, added, number_in, number_or, name_text, is_name, is_key, are_new}
+use Rattle.dg_text.specs.declared.limits.TheConstants.{KEY_BYTES_MAX, NAME_BYTES_MAX}
+use Rattle.dg_changes.specs.Batch.{changes_after, names_after}
+use Rattle.dg_changes.specs.ChangeGrammar.{ChangeByText, named, change_with}
+use Rattle.dg_text.specs.Names.{number_of, added, number_in, number_or, name_text, is_name, is_key, are_new}
 use Rattle.dg_names.proofs.NameLimitNumbers.{number_stands, no_number}
 
 -- ---- lines one after another

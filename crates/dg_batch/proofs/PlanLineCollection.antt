@@ -1,7 +1,7 @@
 -- How plan lines are gathered, one at a time.
 use Rattle.std.proofs.Common.{◌≡◌, ℕ, ◌+◌, Bool, true, List, [], ◌∷◌, ◌++◌, Option, length, map, sym, ◌∙◌, ap, arith, length-append}
 use Rattle.std.proofs.lemmas.List.{map-append}
-use Rattle.dg_graph.specs.Lines.{ScriptLine}
+use Rattle.dg_text.specs.Lines.{ScriptLine}
 use Rattle.dg_io.specs.declared.lines.Line.{Line}
 use Rattle.dg_machine.specs.CommandGrammar.{plan_line_in}
 use Rattle.dg_plan.specs.declared.certificate.PlanLine.{PlanLine}

@@ -5,10 +5,10 @@ use Rattle.dg_io.specs.declared.lines.Line.TheVariants as line
 use Rattle.dg_io.specs.declared.lines.LineFault.{LineFault}
 use Rattle.dg_io.specs.declared.lines.LineFault.TheVariants as fault
 use Rattle.dg_graph.specs.declared.event.Change.{Change}
-use Rattle.dg_history.specs.Batch.{changes_after, names_after}
-use Rattle.dg_history.specs.ChangeGrammar.{ChangeByText, change_by_text_in, named, change_with}
-use Rattle.dg_graph.specs.Lines.{ScriptLine, Text, Long}
-use Rattle.dg_graph.specs.declared.limits.TheConstants.{NAMES_MAX}
+use Rattle.dg_changes.specs.Batch.{changes_after, names_after}
+use Rattle.dg_changes.specs.ChangeGrammar.{ChangeByText, change_by_text_in, named, change_with}
+use Rattle.dg_text.specs.Lines.{ScriptLine, Text, Long}
+use Rattle.dg_text.specs.declared.limits.TheConstants.{NAMES_MAX}
 use Rattle.dg_machine.specs.declared.reply.Refusal.{Refusal}
 use Rattle.dg_machine.specs.declared.reply.Refusal.TheVariants as refusal
 use Rattle.dg_append.specs.declared.batch.Batch.{Batch}

@@ -1,6 +1,6 @@
 -- How the plan lines that follow a command are read.
 use Rattle.std.specs.Prelude.{◌≡◌, true, List, length, map}
-use Rattle.dg_graph.specs.Lines.{ScriptLine}
+use Rattle.dg_text.specs.Lines.{ScriptLine}
 use Rattle.dg_machine.specs.CommandGrammar.{plan_line_in}
 use Rattle.dg_batch.specs.declared.plan_lines.PlanLines.{PlanLines}
 

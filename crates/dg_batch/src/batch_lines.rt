@@ -3,9 +3,9 @@ ghost use Rattle.std.specs.Prelude.{◌≡◌, ◌+◌, ◌*◌, ◌≤◌, ◌<
 ghost use Rattle.dg_io.specs.Calls.{FailsToRead, TakesFrom};
 ghost use Rattle.dg_cuts.specs.TakenLines.{CutsWithin, TakesBehind};
 ghost use Rattle.dg_io.specs.LinesState.{told, LineComes, NeedsByte, TookLine, TookNone};
-ghost use Rattle.dg_graph.specs.declared.limits.TheConstants.{NAMES_MAX};
-ghost use Rattle.dg_history.specs.ChangeGrammar.{change_by_text_in};
-ghost use Rattle.dg_graph.specs.Lines.{ScriptLine};
+ghost use Rattle.dg_text.specs.declared.limits.TheConstants.{NAMES_MAX};
+ghost use Rattle.dg_changes.specs.ChangeGrammar.{change_by_text_in};
+ghost use Rattle.dg_text.specs.Lines.{ScriptLine};
 ghost use Rattle.dg_batch.specs.BatchLines.{KeepsChange, ReadsAs, ReadsBatch, IsShort, IsShortBatch, first_refusal, line_read};
 
 use crate::halt::Halt;

@@ -1,7 +1,7 @@
 //! The batch that a seed leads to.
 
 ghost use Rattle.std.specs.Prelude.{◌≡◌, ◌+◌, ◌*◌, ◌≤◌, IfOk, OnErr, length};
-ghost use Rattle.dg_graph.specs.declared.limits.TheConstants.{NAMES_MAX};
+ghost use Rattle.dg_text.specs.declared.limits.TheConstants.{NAMES_MAX};
 ghost use Rattle.dg_history.specs.declared.limits.TheConstants.{BATCH_LINES_MAX};
 ghost use Rattle.dg_batch.specs.GeneratedBatch.{IsGenerated};
 

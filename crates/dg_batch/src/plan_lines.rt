@@ -4,7 +4,7 @@ ghost use Rattle.std.specs.Prelude.{◌≡◌, ◌++◌, [], ◌∷◌, ◌≤�
 ghost use Rattle.dg_io.specs.Calls.{FailsToRead, TakesFrom};
 ghost use Rattle.dg_cuts.specs.TakenLines.{CutsWithin, TakesBehind};
 ghost use Rattle.dg_io.specs.LinesState.{NeedsByte};
-ghost use Rattle.dg_graph.specs.Lines.{ScriptLine};
+ghost use Rattle.dg_text.specs.Lines.{ScriptLine};
 ghost use Rattle.dg_machine.specs.CommandGrammar.{plan_line_in};
 ghost use Rattle.dg_batch.specs.BatchLines.{line_read};
 ghost use Rattle.dg_batch.specs.PlanLines.{ReadsPlanLines};

@@ -2,7 +2,7 @@
 use Rattle.std.specs.Prelude.{◌≡◌, [], ◌∷◌, codes, refl}
 use Rattle.std.specs.Fmt.{digits}
 use Rattle.dg_cuts.specs.WholeEntries.{whole_entries}
-use Rattle.dg_graph.specs.Lines.{Text}
+use Rattle.dg_text.specs.Lines.{Text}
 use Rattle.dg_machine.specs.declared.command.Command.TheVariants as command
 use Rattle.dg_machine.specs.Script.{Asked, No_command}
 

@@ -7,7 +7,7 @@ use Rattle.dg_cuts.specs.TakenLines.{AreLinesOf, CutsEntries, CutsWithin, GaveEn
 use Rattle.dg_cuts.specs.WholeEntries.{up_to_feed, whole_entries, whole_in}
 use Rattle.dg_cuts.proofs.TakenLines.{command_lines, more_lines, no_lines, part_of_command}
 use Rattle.dg_cuts.proofs.WholeLines.{whole_lines}
-use Rattle.dg_graph.specs.Lines.{ScriptLine, Long, lines_of, script_line}
+use Rattle.dg_text.specs.Lines.{ScriptLine, Long, lines_of, script_line}
 use Rattle.dg_io.specs.Feed.{has_feed, is_feed, past_feed}
 use Rattle.dg_io.specs.LinesState.{GaveLines, LinesState, NeedsByte, TookNone, ahead, lines_on}
 use Rattle.dg_io.specs.Told.{Gives}

@@ -4,7 +4,7 @@ use Rattle.std.specs.Prelude.{if◌then◌else◌, nat_lt}
 use Rattle.std.proofs.lemmas.Bool.{cond-true, cond-false, lt-ltb, le-ltb}
 use Rattle.dg_cuts.specs.TakenLines.{AreLinesOf}
 use Rattle.dg_cuts.specs.WholeEntries.{wanted, whole_in, whole_within}
-use Rattle.dg_graph.specs.Lines.{ScriptLine}
+use Rattle.dg_text.specs.Lines.{ScriptLine}
 use Rattle.dg_machine.specs.declared.command.Command.{Command}
 use Rattle.dg_machine.specs.Needs.{following}
 use Rattle.dg_machine.specs.Script.{Entry, Asked, Meaning, Skipped, Command_is, Other, first_entry, meaning}

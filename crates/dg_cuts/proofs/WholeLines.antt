@@ -4,7 +4,7 @@ use Rattle.std.specs.Str.Lines.{strip_carriage_return}
 use Rattle.std.proofs.lemmas.Bool.{cases_Bool, cond-true, cond-false}
 use Rattle.std.proofs.lemmas.List.Folds.{list_any-append}
 use Rattle.dg_cuts.specs.WholeEntries.{up_to_feed}
-use Rattle.dg_graph.specs.Lines.{lines_of, script_line}
+use Rattle.dg_text.specs.Lines.{lines_of, script_line}
 use Rattle.dg_io.specs.Feed.{has_feed, is_feed}
 use Rattle.dg_io.proofs.FeedLemmas.{feed_cases, lines_of-feed}
 

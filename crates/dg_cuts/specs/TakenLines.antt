@@ -1,7 +1,7 @@
 -- The lines that were taken of a script, by what the source gave, and whose entries they are.
 use Rattle.std.specs.Prelude.{◌≡◌, ℕ, ◌<◌, false, List, [], ◌++◌, Option, length}
 use Rattle.dg_cuts.specs.WholeEntries.{whole_in}
-use Rattle.dg_graph.specs.Lines.{ScriptLine}
+use Rattle.dg_text.specs.Lines.{ScriptLine}
 use Rattle.dg_io.specs.LinesState.{GaveLines, LinesState, NeedsByte, told}
 use Rattle.dg_machine.specs.Script.{Entry, Follows}
 

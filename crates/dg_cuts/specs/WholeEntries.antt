@@ -1,6 +1,6 @@
 -- Which entries of a script stand whole in the bytes that were taken of it.
 use Rattle.std.specs.Prelude.{◌≡◌, ℕ, zero, suc, ◌||◌, List, [], ◌∷◌, ◌++◌, length, if◌then◌else◌, nat_lt}
-use Rattle.dg_graph.specs.Lines.{ScriptLine, lines_of}
+use Rattle.dg_text.specs.Lines.{ScriptLine, lines_of}
 use Rattle.dg_io.specs.Feed.{has_feed, is_feed}
 use Rattle.dg_machine.specs.Needs.{following}
 use Rattle.dg_machine.specs.Script.{Entry, Meaning, Skipped, Command_is, Other, first_entry, meaning, script}

@@ -4,9 +4,9 @@ use Rattle.std.specs.Prelude.{◌&&◌, ◌==◌, nat_le, nat_lt, option_and_the
 use Rattle.std.proofs.lemmas.Bool.{and_from, le-leb, lt-leb, lt-ltb, le-ltb, eqb-true, and_parts}
 use Rattle.std.proofs.lemmas.List.{take_at}
 use Rattle.dg_history.specs.declared.limits.TheConstants.{EVENTS_MAX}
-use Rattle.dg_graph.specs.declared.limits.TheConstants.{NAMES_MAX}
+use Rattle.dg_text.specs.declared.limits.TheConstants.{NAMES_MAX}
 use Rattle.dg_history.specs.declared.node.Key.{Key}
-use Rattle.dg_graph.specs.Names.{are_new}
+use Rattle.dg_text.specs.Names.{are_new}
 use Rattle.dg_index.specs.ImageText.{four_at, eight_at, names_at}
 use Rattle.dg_index.specs.OpenedIndex.{may_be_named, Opening, Opened, Directory, list_count, delta_count, keys_next, list_at, record_at, rows_at, rows_in, directory_with, may_follow, list_bytes_max, may_be_listed, may_stand, if_it_may, event_total, earliest_in, last_list, first_in}
 use Rattle.dg_index.specs.declared.entry.BatchEntry.{BatchEntry}

@@ -3,8 +3,8 @@ use Rattle.std.proofs.Common.{◌≡◌, ℕ, zero, suc, ◌+◌, ◌-◌, ◌<�
 use Rattle.std.specs.Prelude.{◌&&◌, nat_le, nat_lt, option_and_then}
 use Rattle.std.specs.Option.{option_map}
 use Rattle.std.proofs.lemmas.Bool.{and_from, leb-true, le-ltb, lt-ltb, false≢true, and_parts}
-use Rattle.dg_graph.specs.declared.limits.TheConstants.{NAME_BYTES_MAX}
-use Rattle.dg_graph.specs.Names.{number_of, added, is_name, are_new}
+use Rattle.dg_text.specs.declared.limits.TheConstants.{NAME_BYTES_MAX}
+use Rattle.dg_text.specs.Names.{number_of, added, is_name, are_new}
 use Rattle.dg_index.specs.ImageText.{two_at, name_at, names_at}
 use Rattle.dg_index.proofs.ImageTextNames.{in_front_of, names_more, new_append, new_first, name_with, with_room}
 use Rattle.dg_file.specs.Directories.{is_fresh, TakesName, TakesNames}

@@ -4,7 +4,8 @@ use Rattle.std.specs.Prelude.{nat_le, slice_get}
 use Rattle.std.proofs.lemmas.Bool.{leb-true, and_parts}
 use Rattle.std.proofs.lemmas.List.Sums.{sum_by-cons, sum_by_push, sum_by-append}
 use Rattle.dg_history.specs.declared.limits.TheConstants.{BATCH_LINES_MAX, EVENTS_MAX, FILE_BYTES_MAX}
-use Rattle.dg_graph.specs.declared.limits.TheConstants.{NAMES_MAX, TIME_MAX}
+use Rattle.dg_graph.specs.declared.limits.TheConstants.{TIME_MAX}
+use Rattle.dg_text.specs.declared.limits.TheConstants.{NAMES_MAX}
 use Rattle.dg_history.specs.declared.node.Key.{Key}
 use Rattle.dg_catalogue.specs.Entries.{Holdings, spanned}
 use Rattle.dg_index.specs.OpenedIndex.{total, Opening, event_total, earliest_in, first_in, last_or, last_list, keys_next, laid, list_bytes_max, may_be_listed, may_follow, span_in, within}

@@ -1,7 +1,7 @@
 -- The two lengths in front of a directory, and what the bytes of a directory say behind an index.
 use Rattle.std.specs.Prelude.{◌≡◌, ℕ, ◌+◌, ◌≤◌, Bool, true, ◌&&◌, not, List, [], ◌∷◌, ◌++◌, Option, Some, is_some, nat_le, length, take, drop, IfSome, option_and_then}
-use Rattle.dg_graph.specs.declared.limits.TheConstants.{NAMES_MAX}
-use Rattle.dg_graph.specs.Names.{number_of, is_name, are_new}
+use Rattle.dg_text.specs.declared.limits.TheConstants.{NAMES_MAX}
+use Rattle.dg_text.specs.Names.{number_of, is_name, are_new}
 use Rattle.dg_history.specs.declared.limits.TheConstants.{FILE_BYTES_MAX}
 use Rattle.dg_index.specs.ImageText.{eight_at, name_at, names_at}
 use Rattle.dg_index.specs.OpenedIndex.{Opening, Opened, Directory, directory_in, earliest_in, event_total, first_in, if_it_may, keys_next, last_list, list_bytes_max, may_be_listed, may_follow, may_stand, rows_in}

@@ -2,8 +2,8 @@
 
 ghost use Rattle.std.specs.Prelude.{◌≡◌, ℕ, ◌+◌, ◌<◌, ◌≤◌, List, Some, false, length, IfOk, IfSome, IsErrOf};
 ghost use Rattle.std.specs.Option.{option_map};
-ghost use Rattle.dg_graph.specs.declared.limits.TheConstants.{NAMES_MAX};
-ghost use Rattle.dg_graph.specs.Names.{are_new};
+ghost use Rattle.dg_text.specs.declared.limits.TheConstants.{NAMES_MAX};
+ghost use Rattle.dg_text.specs.Names.{are_new};
 ghost use Rattle.dg_index.specs.ImageText.{name_at, names_at};
 ghost use Rattle.dg_file.specs.declared.directory_names.DirectoryFault.TheVariants.{Memory};
 ghost use Rattle.dg_file.specs.Directories.{is_fresh, TakesName, TakesNames};

@@ -11,7 +11,7 @@ use Rattle.dg_graph.specs.declared.event.What.{What}
 use Rattle.dg_graph.specs.declared.event.What.TheVariants.{AddNode, RemoveNode, AddEdge, RemoveEdge, SetNode, UnsetNode, SetEdge, UnsetEdge}
 use Rattle.dg_graph.specs.declared.event.TheConstants.{REASON_NODE_EXISTS, REASON_NO_NODE, REASON_NODE_IN_USE, REASON_EDGE_EXISTS, REASON_NO_EDGE, REASON_EDGE_IN_USE, REASON_NO_END, REASON_NO_ATTRIBUTE}
 use Rattle.dg_graph.specs.Elements.{has, same}
-use Rattle.dg_graph.specs.Names.{is_key, name_text}
+use Rattle.dg_text.specs.Names.{is_key, name_text}
 
 abbrev pub has_node : List Element → ℕ → Bool
 has_node set id = has set (element.Node id)

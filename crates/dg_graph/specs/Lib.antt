@@ -1,7 +1,3 @@
-pub mod Lines
-pub mod Words
-pub mod Verbs
-pub mod Names
 pub mod Elements
 pub mod Sets
 pub mod Composition

@@ -15,7 +15,5 @@ pub use event::{
     REASON_TIME, What, reasons,
 };
 pub use function::Function;
-pub use limits::{
-    KEY_BYTES_MAX, LINE_BYTES_MAX, NAME_BYTES_MAX, NAMES_MAX, TIME_MAX, graph_limits,
-};
+pub use limits::{TIME_MAX, graph_limits};
 pub use placed::Placed;

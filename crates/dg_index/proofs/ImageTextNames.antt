@@ -7,10 +7,10 @@ use Rattle.std.specs.Option.{option_map}
 use Rattle.std.proofs.lemmas.Bool.{leb-true, le-ltb, and_parts}
 use Rattle.std.proofs.lemmas.List.{take_at}
 use Rattle.std.proofs.lemmas.Nat.{from_be_bytes-to_be_bytes_2}
-use Rattle.dg_graph.specs.declared.limits.TheConstants.{NAME_BYTES_MAX}
+use Rattle.dg_text.specs.declared.limits.TheConstants.{NAME_BYTES_MAX}
 use Rattle.dg_graph.specs.Columns.{two}
 use Rattle.dg_index.specs.FileOfHistory.{name_bytes}
-use Rattle.dg_graph.specs.Names.{number_of, is_name, are_new}
+use Rattle.dg_text.specs.Names.{number_of, is_name, are_new}
 use Rattle.dg_index.specs.ImageText.{two_at, name_at, names_at}
 use Rattle.dg_index.proofs.ImageTextRanges.{behind}
 

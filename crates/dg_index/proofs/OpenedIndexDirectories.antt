@@ -5,11 +5,12 @@ use Rattle.std.specs.List.{flat_map}
 use Rattle.std.proofs.lemmas.Bool.{and_from, leb-true, le-leb, eq-eqb, le-ltb, and_parts}
 use Rattle.std.proofs.lemmas.List.{take_at}
 use Rattle.std.proofs.lemmas.List.Sums.{sum_by-cons}
-use Rattle.dg_graph.specs.declared.limits.TheConstants.{NAMES_MAX, TIME_MAX}
+use Rattle.dg_graph.specs.declared.limits.TheConstants.{TIME_MAX}
+use Rattle.dg_text.specs.declared.limits.TheConstants.{NAMES_MAX}
 use Rattle.dg_history.specs.declared.limits.TheConstants.{BATCH_LINES_MAX, EVENTS_MAX, FILE_BYTES_MAX}
 use Rattle.dg_graph.specs.Columns.{four, eight}
 use Rattle.dg_index.specs.FileOfHistory.{name_bytes, Stored, StoredList, Segment, bytes_of, lengths_bytes, list_bytes, directory, blobs, stored_in, segment_bytes}
-use Rattle.dg_graph.specs.Names.{are_new}
+use Rattle.dg_text.specs.Names.{are_new}
 use Rattle.dg_index.specs.ImageText.{four_at, eight_at, names_at, gate_behind, is_within}
 use Rattle.dg_index.specs.OpenedIndex.{may_be_named, Opened, Directory, lengths_at, list_at, record_at, rows_at, rows_in, total, lengths_of, list_row, record_row, directory_of, directory_with, directory_in, list_count, delta_count, may_follow, list_bytes_max, may_be_listed, within, may_stand, if_it_may, directory_next, event_total, earliest_in, last_list, first_in, read_on, go_on_with, with_directory, with_segment, MayStand}
 use Rattle.dg_index.specs.declared.entry.BatchEntry.{BatchEntry}

@@ -7,7 +7,8 @@ use Rattle.std.proofs.lemmas.List.{drop_more, take-append-drop, length-map}
 use Rattle.std.proofs.lemmas.List.Sums.{sum_by_push}
 use Rattle.std.proofs.lemmas.Option.{slice_get_within, get_or_from_slice_get}
 use Rattle.dg_graph.specs.declared.event.Event.{Event}
-use Rattle.dg_graph.specs.declared.limits.TheConstants.{NAMES_MAX, TIME_MAX}
+use Rattle.dg_graph.specs.declared.limits.TheConstants.{TIME_MAX}
+use Rattle.dg_text.specs.declared.limits.TheConstants.{NAMES_MAX}
 use Rattle.dg_history.specs.declared.limits.TheConstants.{BATCH_LINES_MAX, EVENTS_MAX, FILE_BYTES_MAX}
 use Rattle.dg_history.specs.declared.node.Key.{Key}
 use Rattle.dg_history.specs.declared.node.Key.TheVariants as key
@@ -23,7 +24,7 @@ use Rattle.dg_history.proofs.EventTimes.{earliest_behind, first_and_last, last_e
 use Rattle.dg_history.proofs.LegalHistories.{batch_rises, events_among, names_among}
 use Rattle.dg_history.proofs.ParameterRanges.{in_range}
 use Rattle.dg_index.specs.ImageOfHistory.{is_blank, IsImageOf}
-use Rattle.dg_graph.specs.Names.{are_new}
+use Rattle.dg_text.specs.Names.{are_new}
 use Rattle.dg_index.specs.OpenedIndex.{No_index, may_be_named, rows_in, Opened, bare, opening, opened_of, opened_onto, with_segment, directory_of, list_row, record_row, laid, total, last_list, last_or, first_in, earliest_in, event_total, may_follow, lengths_of, list_bytes_max, may_be_listed, within, read_on, opened_or, opened_by, keys_next, MayStand}
 use Rattle.dg_index.specs.ImageText.{params_in, params_with, function_in, four_at}
 use Rattle.dg_index.specs.Hierarchy.{numbers, leaves}

@@ -4,7 +4,8 @@ use Rattle.std.specs.Map.{lookup}
 use Rattle.dg_graph.specs.declared.element.Column.{Column}
 use Rattle.dg_graph.specs.declared.element.Column.TheVariants as column
 use Rattle.dg_graph.specs.declared.event.Event.{Event}
-use Rattle.dg_graph.specs.declared.limits.TheConstants.{NAMES_MAX, TIME_MAX}
+use Rattle.dg_graph.specs.declared.limits.TheConstants.{TIME_MAX}
+use Rattle.dg_text.specs.declared.limits.TheConstants.{NAMES_MAX}
 use Rattle.dg_history.specs.declared.limits.TheConstants.{BATCH_LINES_MAX, EVENTS_MAX}
 use Rattle.dg_history.specs.declared.node.Key.{Key}
 use Rattle.dg_history.specs.declared.node.Key.TheVariants as key
@@ -12,7 +13,7 @@ use Rattle.dg_history.specs.declared.params.Params.{Params}
 use Rattle.dg_history.specs.History.{History, Batch}
 use Rattle.dg_history.specs.Keys.{same_key}
 use Rattle.dg_index.specs.ImageOfHistory.{is_blank}
-use Rattle.dg_graph.specs.Names.{are_new}
+use Rattle.dg_text.specs.Names.{are_new}
 use Rattle.dg_index.specs.ImageText.{four_at, eight_at, params_in, names_at, gate_behind, is_within}
 use Rattle.dg_index.specs.declared.entry.Ends.{Ends}
 use Rattle.dg_index.specs.declared.entry.Entry.{Entry}

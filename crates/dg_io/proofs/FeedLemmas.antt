@@ -7,8 +7,8 @@ use Rattle.std.proofs.lemmas.List.Splits.{slice_split_at, slice_split_none}
 use Rattle.std.proofs.lemmas.List.{drop_more, length-take-le, get_or-take, get_or-drop, get_or_default}
 use Rattle.std.proofs.Math.Seq.{take-add}
 use Rattle.std.proofs.lemmas.Bool.{cases_Bool, cond-true, cond-false, false_from_ne_true, both_ways, or_from, or_parts, cond_both, le-leb, lt-leb, eqb-true, ne_eqb}
-use Rattle.dg_graph.specs.declared.limits.TheConstants.{LINE_BYTES_MAX}
-use Rattle.dg_graph.specs.Lines.{Text, Long, script_line, lines_of}
+use Rattle.dg_text.specs.declared.limits.TheConstants.{LINE_BYTES_MAX}
+use Rattle.dg_text.specs.Lines.{Text, Long, script_line, lines_of}
 use Rattle.dg_io.specs.Feed.{is_feed, has_feed, past_feed, IsFirstFeed}
 
 pub no_feed-append : (xs ys : List ℕ) → has_feed xs ≡ false → has_feed ys ≡ false → has_feed (xs ++ ys) ≡ false

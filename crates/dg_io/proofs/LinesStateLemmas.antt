@@ -5,8 +5,8 @@ use Rattle.std.specs.Option.{option_map}
 use Rattle.std.specs.Prelude.{IsTrue}
 use Rattle.std.specs.Str.Lines.{strip_carriage_return}
 use Rattle.std.proofs.lemmas.Bool.{cases_Bool, ltb-true, ltb-false, eqb-true, cond_both, eqb-false}
-use Rattle.dg_graph.specs.declared.limits.TheConstants.{LINE_BYTES_MAX}
-use Rattle.dg_graph.specs.Lines.{ScriptLine, Long, script_line, lines_of}
+use Rattle.dg_text.specs.declared.limits.TheConstants.{LINE_BYTES_MAX}
+use Rattle.dg_text.specs.Lines.{ScriptLine, Long, script_line, lines_of}
 use Rattle.dg_io.specs.declared.lines.Line.{Line}
 use Rattle.dg_io.specs.declared.lines.Line.TheVariants as line
 use Rattle.dg_io.specs.Feed.{has_feed, past_feed, IsFirstFeed}

@@ -2,8 +2,8 @@
 -- the first bytes of a line that is dropped are gone.
 use Rattle.std.specs.Prelude.{◌≡◌, ◌≢◌, ℕ, ◌+◌, ◌-◌, ◌<◌, ◌≤◌, Bool, false, IsTrue, List, [], ◌∷◌, ◌++◌, length, IfSome, if◌then◌else◌, Option, Some}
 use Rattle.std.specs.Option.{option_map}
-use Rattle.dg_graph.specs.declared.limits.TheConstants.{LINE_BYTES_MAX}
-use Rattle.dg_graph.specs.Lines.{ScriptLine, Text, Long, lines_of}
+use Rattle.dg_text.specs.declared.limits.TheConstants.{LINE_BYTES_MAX}
+use Rattle.dg_text.specs.Lines.{ScriptLine, Text, Long, lines_of}
 use Rattle.dg_io.specs.declared.lines.Line.{Line}
 use Rattle.dg_io.specs.declared.lines.Line.TheVariants as line
 use Rattle.dg_io.specs.Feed.{has_feed, past_feed}

@@ -8,7 +8,7 @@ ghost use Rattle.dg_io.specs.declared.lines.LineFault.TheVariants.{Read};
 ghost use Rattle.dg_io.specs.LinesState.{TookLine, TookNone, LinesState, told, ahead, to_come, LineComes, NeedsByte, EndsWith, Cuts};
 
 use crate::source::{Failed, Source};
-use dg_graph::LINE_BYTES_MAX;
+use dg_text::LINE_BYTES_MAX;
 use memchr::memchr;
 use std::marker::Model;
 use thiserror::Error;

@@ -5,9 +5,9 @@ use Rattle.std.proofs.lemmas.Fmt.{decimal_digit}
 use Rattle.std.proofs.lemmas.List.{length-take-le, take-append-drop}
 use Rattle.dg_graph.specs.declared.limits.TheConstants.{TIME_MAX}
 use Rattle.dg_history.specs.declared.limits.TheConstants.{BATCH_LINES_MAX}
-use Rattle.dg_graph.specs.Verbs.{Verb, read_by}
-use Rattle.dg_graph.specs.Words.{words}
-use Rattle.dg_history.specs.ChangeGrammar.{id_of, time_of}
+use Rattle.dg_text.specs.Verbs.{Verb, read_by}
+use Rattle.dg_text.specs.Words.{words}
+use Rattle.dg_changes.specs.ChangeGrammar.{id_of, time_of}
 use Rattle.dg_machine.specs.declared.command.Command.{Command}
 use Rattle.dg_machine.specs.declared.command.Command.TheVariants as command
 use Rattle.dg_machine.specs.CommandGrammar.{BeginsCommand, IsColumn, columns_of, command_verbs, count_from_0, count_of, function_of, handle_of, held_node_verbs, n32_of, sweep_of}

@@ -7,8 +7,8 @@ use Rattle.std.proofs.lemmas.List.{append-nil, append_assoc, drop-drop, drop-rep
 use Rattle.std.proofs.lemmas.Option.{none-some, same_Some}
 use Rattle.dg_graph.specs.declared.element.Columns.{Columns}
 use Rattle.dg_graph.specs.declared.limits.TheConstants.{TIME_MAX}
-use Rattle.dg_graph.specs.Words.{words}
-use Rattle.dg_history.specs.ChangeGrammar.{time_of}
+use Rattle.dg_text.specs.Words.{words}
+use Rattle.dg_changes.specs.ChangeGrammar.{time_of}
 use Rattle.dg_machine.specs.declared.command.Command.{Command}
 use Rattle.dg_machine.specs.declared.command.Command.TheVariants as command
 use Rattle.dg_machine.specs.declared.command.TheConstants.{TIMES_MAX}

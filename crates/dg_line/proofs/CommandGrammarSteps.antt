@@ -1,6 +1,6 @@
 -- What the words behind `step` are read as.
 use Rattle.std.proofs.Common.{◌≡◌, ℕ, List, ◌∷◌, Option, Some, option_and_then, sym, ap, ◌∙◌}
-use Rattle.dg_graph.specs.Verbs.{read_by}
+use Rattle.dg_text.specs.Verbs.{read_by}
 use Rattle.dg_plan.specs.declared.certificate.PlanLine.{PlanLine}
 use Rattle.dg_plan.specs.declared.certificate.PlanLine.TheVariants as plan_line
 use Rattle.dg_machine.specs.CommandGrammar.{n32_of, node_verbs, step_of}

@@ -4,7 +4,7 @@ use Rattle.std.specs.List.{position, position_or_len, join_with_byte}
 use Rattle.std.proofs.lemmas.Bool.{ltb-true, ltb-false}
 use Rattle.std.proofs.lemmas.List.Sums.{fails_before_first}
 use Rattle.std.proofs.lemmas.List.Splits.{slice_split_first, slice_split_none, length-slice_split, join_with_byte-slice_split}
-use Rattle.dg_graph.specs.Words.{words}
+use Rattle.dg_text.specs.Words.{words}
 use Rattle.dg_line.specs.Space.{is_space, rest_of}
 
 some_of : (b : Bool) (n at : ℕ) → cond b (Some n) None ≡ Some at → (b ≡ true) × (n ≡ at)

@@ -11,7 +11,7 @@ use Rattle.std.proofs.lemmas.List.Sums.{split_at_first, fails_before_first, pass
 use Rattle.std.proofs.lemmas.List.Splits.{slice_split_none, slice_split_at, slice_split_first}
 use Rattle.std.specs.Char.{digit_value}
 use Rattle.std.specs.Str.Parse.{AllDigits}
-use Rattle.dg_graph.specs.Words.{words}
+use Rattle.dg_text.specs.Words.{words}
 use Rattle.dg_line.specs.Space.{is_space}
 use Rattle.dg_line.specs.Prefixes.{IsLongestPrefix}
 use Rattle.dg_line.specs.Symbols.{Terminal, One_of, Number, IsWordOf, IsLineOf, IsLineOfOne, is_short_word, is_well_formed}

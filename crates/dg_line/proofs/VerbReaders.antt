@@ -1,7 +1,7 @@
 -- What some words are read as, by the first of them and by those behind it.
 use Rattle.std.proofs.Common.{◌≡◌, ℕ, List, [], ◌∷◌, Option, Some, None, option_and_then, refl, sym, ap, ◌∙◌}
 use Rattle.std.specs.Option.{option_map}
-use Rattle.dg_graph.specs.Verbs.{none_more, one, two_words, three}
+use Rattle.dg_text.specs.Verbs.{none_more, one, two_words, three}
 
 -- what is made of the only word
 pub one_made : {A B : Type 0} (a : List ℕ → Option A) (make : A → B) (ws : List (List ℕ)) (r : Option A)

@@ -9,8 +9,8 @@ use Rattle.std.specs.Option.{option_map}
 use Rattle.std.proofs.lemmas.Bool.{false≢true, and_parts, or_left, or_right}
 use Rattle.std.proofs.lemmas.List.{append-nil}
 use Rattle.std.proofs.lemmas.Slice.Eq.{bytes_eq-Decides}
-use Rattle.dg_graph.specs.Verbs.{Verb, is_word, look_up, read_by, none_more, one, two_words, three}
-use Rattle.dg_graph.specs.Words.{number}
+use Rattle.dg_text.specs.Verbs.{Verb, is_word, look_up, read_by, none_more, one, two_words, three}
+use Rattle.dg_text.specs.Words.{number}
 use Rattle.dg_line.specs.Symbols.{Terminal, One_of, Number, IsWordOf}
 use Rattle.dg_line.proofs.ListElements.{any_first, any_none, any_cases, any_left, any_right, any_either, any_mapped, any_unmapped, any_weaker, contains_first, contains_later, contains_none, contains_cases}
 

@@ -1,6 +1,6 @@
 -- Numbers and their decimal text.
 use Rattle.std.proofs.Common.{Bool, true, false, cond, ◌&&◌, nat_le, ◌≡◌, ℕ, zero, suc, ◌+◌, ◌*◌, ◌-◌, ◌<◌, ◌≤◌, ◌^◌, List, length, get_or, take, decimal, Option, Some, None, IfNone, refl, sym, ap, ◌∙◌, subst, arith}
-use Rattle.dg_graph.specs.Words.{number}
+use Rattle.dg_text.specs.Words.{number}
 use Rattle.std.proofs.lemmas.Slice.Eq.{bytes_eq-Decides}
 use Rattle.std.proofs.lemmas.Bool.{leb-true, false≢true}
 use Rattle.std.specs.Char.{digit_value}

@@ -2,7 +2,7 @@
 use Rattle.std.specs.Prelude.{ℕ, ◌^◌, Bool, not, ◌&&◌, List, length, map, is_some, IsTrue, nat_le, nat_lt, Any, Contains}
 use Rattle.std.specs.Borrow.{Bor}
 use Rattle.std.specs.List.{AllZip, list_all}
-use Rattle.dg_graph.specs.Words.{words, number}
+use Rattle.dg_text.specs.Words.{words, number}
 use Rattle.dg_line.specs.declared.grammar.Symbol.{Symbol}
 use Rattle.dg_line.specs.declared.grammar.Symbol.TheVariants as symbol
 use Rattle.dg_line.specs.Space.{is_space}

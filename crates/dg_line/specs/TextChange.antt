@@ -1,7 +1,7 @@
 -- The changes that the lines of a batch ask for, by their texts.
 use Rattle.std.specs.Prelude.{ℕ, List}
-use Rattle.dg_graph.specs.Names.{added}
-use Rattle.dg_history.specs.ChangeGrammar.{WhatByText, Plain, Sets_node, Unsets_node, Sets_edge, Unsets_edge, ChangeByText}
+use Rattle.dg_text.specs.Names.{added}
+use Rattle.dg_changes.specs.ChangeGrammar.{WhatByText, Plain, Sets_node, Unsets_node, Sets_edge, Unsets_edge, ChangeByText}
 use Rattle.dg_line.specs.declared.text_change.TextWhat.{TextWhat}
 use Rattle.dg_line.specs.declared.text_change.TextWhat.TheVariants as what
 use Rattle.dg_line.specs.declared.text_change.TextChange.{TextChange}

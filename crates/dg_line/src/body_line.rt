@@ -1,16 +1,17 @@
 //! The lines of a reply's body, put piece by piece behind what a buffer holds.
 
 ghost use Rattle.std.specs.Prelude.{◌≡◌, ◌+◌, ◌≤◌, ◌++◌, [], ◌∷◌, codes, decimal, if◌then◌else◌, length};
-ghost use Rattle.dg_graph.specs.Names.{name_text};
+ghost use Rattle.dg_text.specs.Names.{name_text};
 ghost use Rattle.dg_machine.specs.ReplyText.{body_words, element_words, key_words, node_words, side_word, text_line};
 ghost use Rattle.dg_line.specs.Buffered.{HasBufferRoom, spaced};
 
 use crate::reply_buffer::{BODY_LINE_BYTES, ReplyBuffer};
-use dg_graph::{Element, NAME_BYTES_MAX};
+use dg_graph::Element;
 use dg_history::{Key, NodeId};
 use dg_machine::BodyLine;
 use dg_names::Names;
 use dg_query::{Neighbour, Side};
+use dg_text::NAME_BYTES_MAX;
 
 /// The most bytes of a key and a value, with a space between them and a line feed.
 const NAMES_BYTES: usize = 2 * NAME_BYTES_MAX + 2;

@@ -1,9 +1,9 @@
 //! The change that a line of a batch asks for, with its texts numbered into the names.
 ghost use Rattle.std.specs.Prelude.{drop, ◌≡◌, ◌+◌, ◌<◌, ◌≤◌, ◌⊎◌, List, ℕ, Some, None, IfOk, IsErrOf, OnOk, OnErr, length, take};
 ghost use Rattle.std.specs.Option.{option_map};
-ghost use Rattle.dg_history.specs.ChangeGrammar.{change_verbs, WhatByText, Plain, ChangeByText, what_by_text_of, change_with, direction_of, named, new_edge, one_id, change_by_text_of, setting_of, unset_of, what_in};
-ghost use Rattle.dg_graph.specs.Verbs.{look_up};
-ghost use Rattle.dg_graph.specs.Names.{added, number_in};
+ghost use Rattle.dg_changes.specs.ChangeGrammar.{change_verbs, WhatByText, Plain, ChangeByText, what_by_text_of, change_with, direction_of, named, new_edge, one_id, change_by_text_of, setting_of, unset_of, what_in};
+ghost use Rattle.dg_text.specs.Verbs.{look_up};
+ghost use Rattle.dg_text.specs.Names.{added, number_in};
 ghost use Rattle.dg_line.specs.TextChange.{change_by_text, what_by_text, with_key};
 ghost use Rattle.dg_line.specs.declared.change.ChangeFault.TheVariants.{Memory};
 

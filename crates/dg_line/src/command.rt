@@ -1,10 +1,10 @@
 //! The command that a line is, or the column at which it leaves the grammar.
 ghost use Rattle.std.specs.Prelude.{drop, ◌≡◌, ◌+◌, ◌<◌, ◌≤◌, ◌∷◌, IfErr, IfOk, IfSome, List, option_and_then, ℕ};
 ghost use Rattle.std.specs.Result.{result_ok};
-ghost use Rattle.dg_graph.specs.Words.{number};
+ghost use Rattle.dg_text.specs.Words.{number};
 ghost use Rattle.std.specs.Option.{option_map};
-ghost use Rattle.dg_graph.specs.Verbs.{look_up, none_more, one, read_by, two_words, three};
-ghost use Rattle.dg_history.specs.ChangeGrammar.{id_of, time_of};
+ghost use Rattle.dg_text.specs.Verbs.{look_up, none_more, one, read_by, two_words, three};
+ghost use Rattle.dg_changes.specs.ChangeGrammar.{id_of, time_of};
 ghost use Rattle.dg_machine.specs.CommandGrammar.{command_verbs, IsColumn, CountIsInRange, columns_of, command_of, count_from_0, count_of, function_of, handle_of, held_node_verbs, n32_of, several_of, several_with, sweep_of, times_of};
 
 use crate::grammar::{

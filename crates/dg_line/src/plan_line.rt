@@ -1,8 +1,8 @@
 //! The step or the potential that a line of a certificate is.
 ghost use Rattle.std.specs.Option.{option_map};
 ghost use Rattle.std.specs.Prelude.{drop, ◌≡◌, MatchOption, None, ℕ};
-ghost use Rattle.dg_graph.specs.Verbs.{look_up, one, read_by};
-ghost use Rattle.dg_history.specs.ChangeGrammar.{time_of};
+ghost use Rattle.dg_text.specs.Verbs.{look_up, one, read_by};
+ghost use Rattle.dg_changes.specs.ChangeGrammar.{time_of};
 ghost use Rattle.dg_history.specs.declared.node.NodeId.{NodeId};
 ghost use Rattle.dg_plan.specs.declared.certificate.PlanLine.{PlanLine};
 ghost use Rattle.dg_machine.specs.CommandGrammar.{node_verbs, plan_line_of, step_of};

@@ -5,8 +5,8 @@ ghost use Rattle.dg_io.specs.Calls.{FailsToPut, PutsOn, PutsPart};
 ghost use Rattle.dg_io.specs.Told.{grown};
 ghost use Rattle.dg_line.specs.Buffered.{IsBuffered, word_bytes};
 
-use dg_graph::NAME_BYTES_MAX;
 use dg_io::{Failed, Sink, write_whole};
+use dg_text::NAME_BYTES_MAX;
 use itoa::{Buffer, write_digits};
 use std::marker::Model;
 

@@ -1,7 +1,7 @@
 //! The changes that the lines of a batch ask for, with the texts of keys and values as they stand there.
 
 ghost use Rattle.std.specs.Prelude.{◌≤◌, length};
-ghost use Rattle.dg_graph.specs.declared.limits.TheConstants.{NAME_BYTES_MAX};
+ghost use Rattle.dg_text.specs.declared.limits.TheConstants.{NAME_BYTES_MAX};
 
 use dg_graph::What;
 

@@ -1,10 +1,10 @@
 //! The words of a line, and the numbers in them.
 ghost use Rattle.std.specs.Prelude.{◌≡◌, ◌≢◌, ℕ, ◌+◌, ◌*◌, ◌-◌, ◌<◌, ◌≤◌, ◌^◌, List, [], ◌∷◌, length, decimal, Option, Some, None, IfSome, IfNone, IsTrue, ◌↔◌, MatchOption, slice_index};
 ghost use Rattle.std.specs.List.{position};
-ghost use Rattle.dg_graph.specs.Words.{words, number};
-ghost use Rattle.dg_graph.specs.Verbs.{is_word, one};
+ghost use Rattle.dg_text.specs.Words.{words, number};
+ghost use Rattle.dg_text.specs.Verbs.{is_word, one};
 ghost use Rattle.std.specs.Option.{option_map};
-ghost use Rattle.dg_history.specs.ChangeGrammar.{id_of, time_of};
+ghost use Rattle.dg_changes.specs.ChangeGrammar.{id_of, time_of};
 ghost use Rattle.dg_machine.specs.CommandGrammar.{n32_of};
 ghost use Rattle.dg_line.specs.Space.{is_space, rest_of};
 
@@ -40,7 +40,7 @@ pub struct Words<'a> {
 
 impl<'a> Model for Words<'a> {
     ghost use Rattle.std.specs.Prelude.{ℕ, List, [], if◌then◌else◌};
-    ghost use Rattle.dg_graph.specs.Words.{words};
+    ghost use Rattle.dg_text.specs.Words.{words};
 
     ghost Value = { List (List ℕ) };
 

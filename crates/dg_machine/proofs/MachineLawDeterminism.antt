@@ -4,7 +4,7 @@ use Rattle.std.specs.List.{AllZip}
 use Rattle.std.proofs.lemmas.Bool.{cases_lt}
 use Rattle.std.proofs.lemmas.Option.{same_Some}
 use Rattle.dg_history.specs.declared.node.NodeId.TheVariants.{Root}
-use Rattle.dg_graph.specs.Lines.{ScriptLine}
+use Rattle.dg_text.specs.Lines.{ScriptLine}
 use Rattle.dg_plan.specs.IndexGraph.{arcs_of}
 use Rattle.dg_plan.specs.Walks.{Arc, Cost, Graft, IsPotential, IsTree, AreSingles, Leads, entered, weight_of}
 use Rattle.dg_plan.proofs.WalkLeastCosts.{least_is_one}

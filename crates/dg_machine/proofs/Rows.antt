@@ -2,12 +2,12 @@
 use Rattle.std.specs.Prelude.{◌≡◌, ℕ, List, [], ◌∷◌, ◌++◌, Option, Some, None, codes, map, refl}
 use Rattle.std.specs.Fmt.{digits}
 use Rattle.dg_graph.specs.declared.function.Function.TheVariants.{Intersection}
-use Rattle.dg_graph.specs.Lines.{lines_of}
+use Rattle.dg_text.specs.Lines.{lines_of}
 use Rattle.dg_machine.specs.declared.reply.Refusal.TheVariants as refusal
 use Rattle.dg_machine.specs.Answer.{Answered, answer, refuse}
-use Rattle.dg_history.specs.ChangeGrammar.{ChangeByText, change_by_text_in}
+use Rattle.dg_changes.specs.ChangeGrammar.{ChangeByText, change_by_text_in}
 use Rattle.dg_history.specs.History.{History, empty_history}
-use Rattle.dg_history.specs.GeneratedChanges.{generated, next_number}
+use Rattle.dg_changes.specs.GeneratedChanges.{generated, next_number}
 use Rattle.dg_machine.specs.MachineState.{MachineState, machine_at, names_in}
 use Rattle.dg_history.specs.declared.node.NodeId.{NodeId}
 use Rattle.dg_history.specs.declared.node.NodeId.TheVariants as node

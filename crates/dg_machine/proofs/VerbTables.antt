@@ -2,7 +2,7 @@
 use Rattle.std.proofs.Common.{◌≡◌, ℕ, Bool, true, false, cond, List, [], ◌∷◌, Some}
 use Rattle.std.specs.List.{AllByRecursion}
 use Rattle.std.proofs.lemmas.Option.{none-some}
-use Rattle.dg_graph.specs.Verbs.{Verb, is_word, look_up, read_by}
+use Rattle.dg_text.specs.Verbs.{Verb, is_word, look_up, read_by}
 
 -- what each reader gives has a property, so what is looked up has it
 pub each_read : {A : Type 0} (P : A → Type 0) (verbs : List (Verb A))

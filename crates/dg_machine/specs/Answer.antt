@@ -7,9 +7,9 @@ use Rattle.dg_graph.specs.declared.element.Columns.{Columns}
 use Rattle.dg_graph.specs.declared.element.Element.{Element}
 use Rattle.dg_graph.specs.declared.element.Element.TheVariants as element
 use Rattle.dg_graph.specs.Elements.{has}
-use Rattle.dg_graph.specs.Lines.{ScriptLine}
+use Rattle.dg_text.specs.Lines.{ScriptLine}
 use Rattle.dg_graph.specs.Replay.{replay}
-use Rattle.dg_history.specs.Batch.{batch_of}
+use Rattle.dg_changes.specs.Batch.{batch_of}
 use Rattle.dg_index.specs.FileOfHistory.{size}
 use Rattle.dg_history.specs.History.{History, Batch, empty_history, with_batch, events_of, last_time_from}
 use Rattle.dg_machine.specs.declared.command.Command.{Command}
@@ -36,7 +36,7 @@ use Rattle.dg_machine.specs.declared.stands.Stands.{Stands}
 use Rattle.dg_machine.specs.declared.stands.Stands.TheVariants.{Overlay, Base}
 use Rattle.dg_machine.specs.MachineState.{MachineState, elements, elements_held, stands_at, history_in, without_handle}
 use Rattle.dg_machine.specs.CommandGrammar.{plan_line_in}
-use Rattle.dg_history.specs.GeneratedChanges.{batch_of_changes, generated}
+use Rattle.dg_changes.specs.GeneratedChanges.{batch_of_changes, generated}
 use Rattle.dg_query.specs.Queries.{counts_of, degree_of, neighbours_of, values_of}
 use Rattle.dg_sound.specs.declared.soundness.Soundness.TheVariants.{Sound}
 use Rattle.dg_sound.specs.Soundness.{record_total}

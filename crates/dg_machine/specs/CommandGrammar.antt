@@ -9,14 +9,14 @@ use Rattle.dg_machine.specs.declared.command.TheConstants.{TIMES_MAX}
 use Rattle.dg_history.specs.declared.limits.TheConstants.{BATCH_LINES_MAX}
 use Rattle.dg_graph.specs.declared.function.Function.{Function}
 use Rattle.dg_graph.specs.declared.function.Function.TheVariants.{Intersection, Union, Balanced}
-use Rattle.dg_graph.specs.Words.{words, number}
-use Rattle.dg_graph.specs.Lines.{ScriptLine, Text, Long}
-use Rattle.dg_graph.specs.Verbs.{Verb, verb, is_word, read_by, none_more, one, two_words, three}
+use Rattle.dg_text.specs.Words.{words, number}
+use Rattle.dg_text.specs.Lines.{ScriptLine, Text, Long}
+use Rattle.dg_text.specs.Verbs.{Verb, verb, is_word, read_by, none_more, one, two_words, three}
 use Rattle.dg_history.specs.declared.node.NodeId.{NodeId}
 use Rattle.dg_history.specs.declared.node.NodeId.TheVariants as node
 use Rattle.dg_plan.specs.declared.certificate.PlanLine.{PlanLine}
 use Rattle.dg_plan.specs.declared.certificate.PlanLine.TheVariants as plan_line
-use Rattle.dg_history.specs.ChangeGrammar.{id_of, time_of}
+use Rattle.dg_changes.specs.ChangeGrammar.{id_of, time_of}
 
 abbrev pub handle_of : List ℕ → Option ℕ
 handle_of word = number 1 4294967295 word

@@ -1,8 +1,8 @@
 -- What each command needs, and the refusals that follow from it.
 use Rattle.std.specs.Prelude.{ℕ, ◌+◌, ◌*◌, Bool, true, false, ◌&&◌, ◌||◌, not, List, [], ◌∷◌, ◌++◌, Option, Some, None, length, nat_lt, is_some, take}
 use Rattle.std.specs.List.{list_any}
-use Rattle.dg_graph.specs.declared.limits.TheConstants.{NAMES_MAX}
-use Rattle.dg_graph.specs.Lines.{ScriptLine}
+use Rattle.dg_text.specs.declared.limits.TheConstants.{NAMES_MAX}
+use Rattle.dg_text.specs.Lines.{ScriptLine}
 use Rattle.dg_history.specs.declared.node.NodeId.{NodeId}
 use Rattle.dg_history.specs.declared.node.NodeId.TheVariants as node
 use Rattle.dg_history.specs.declared.params.Params.{Params}

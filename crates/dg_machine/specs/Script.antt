@@ -4,7 +4,7 @@ use Rattle.std.specs.Option.{option_map}
 use Rattle.dg_machine.specs.declared.command.Command.{Command}
 use Rattle.dg_machine.specs.Needs.{following}
 use Rattle.dg_machine.specs.CommandGrammar.{command_of}
-use Rattle.dg_graph.specs.Lines.{ScriptLine, Text, Long, lines_of}
+use Rattle.dg_text.specs.Lines.{ScriptLine, Text, Long, lines_of}
 
 -- what has a reply: a command with the lines that follow it, a line that is in no command, or a
 -- line of more bytes than a line may have

@@ -13,9 +13,9 @@ use Rattle.std.proofs.lemmas.Slice.Eq.{bytes_eq-Decides}
 use Rattle.std.specs.List.{IsDistinct, AllByRecursion, All, Contains, list_any, position_or_len}
 use Rattle.std.specs.Option.{unwrap_or, option_map}
 use Rattle.std.specs.Str.{bytes_eq}
-use Rattle.dg_graph.specs.Names.{number_of, added}
+use Rattle.dg_text.specs.Names.{number_of, added}
 use Rattle.dg_names.specs.NameLimits.{AreFew, AreShort}
-use Rattle.dg_graph.specs.declared.limits.TheConstants.{NAMES_MAX, NAME_BYTES_MAX}
+use Rattle.dg_text.specs.declared.limits.TheConstants.{NAMES_MAX, NAME_BYTES_MAX}
 
 -- ---- the first index that passes a test
 

@@ -1,7 +1,7 @@
 -- What holds of each list of names.
 use Rattle.std.specs.Prelude.{ℕ, ◌≤◌, List, length}
 use Rattle.std.specs.List.{All}
-use Rattle.dg_graph.specs.declared.limits.TheConstants.{NAMES_MAX, NAME_BYTES_MAX}
+use Rattle.dg_text.specs.declared.limits.TheConstants.{NAMES_MAX, NAME_BYTES_MAX}
 
 -- there are few enough names that each number fits 32 bits
 abbrev pub AreFew : List (List ℕ) → Type 0

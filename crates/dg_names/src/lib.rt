@@ -6,6 +6,6 @@
 mod names;
 mod text_rules;
 
-pub use dg_graph::{KEY_BYTES_MAX, NAME_BYTES_MAX, NAMES_MAX};
+pub use dg_text::{KEY_BYTES_MAX, NAME_BYTES_MAX, NAMES_MAX};
 pub use names::Names;
 pub use text_rules::{is_key, is_name};

@@ -2,10 +2,10 @@
 ghost use Rattle.std.specs.Prelude.{◌≡◌, ◌≤◌, ◌<◌, ℕ, List, [], length, take, None, Some, slice_get, option_copied, IsTrue, ◌↔◌, IfOk, IfSome, IfNone, OnOk, OnErr};
 ghost use Rattle.std.specs.List.{IsDistinct, Contains};
 ghost use Rattle.std.specs.Str.{bytes_eq};
-ghost use Rattle.dg_graph.specs.Names.{number_of, added};
+ghost use Rattle.dg_text.specs.Names.{number_of, added};
 ghost use Rattle.dg_names.specs.NameLimits.{AreFew, AreShort};
 
-use dg_graph::{NAME_BYTES_MAX, NAMES_MAX};
+use dg_text::{NAME_BYTES_MAX, NAMES_MAX};
 use indexmap::IndexSet;
 use std::alloc::{AllocError, Global};
 use std::marker::Model;

@@ -1,9 +1,9 @@
 //! Which texts may be keys and which may be names.
 ghost use Rattle.std.specs.Prelude.{◌≡◌, nat_lt, ◌==◌, ◌||◌};
 ghost use Rattle.std.specs.List.{list_all, list_any};
-ghost use Rattle.dg_graph.specs.Names.{is_key, is_name};
+ghost use Rattle.dg_text.specs.Names.{is_key, is_name};
 
-use dg_graph::{KEY_BYTES_MAX, NAME_BYTES_MAX};
+use dg_text::{KEY_BYTES_MAX, NAME_BYTES_MAX};
 
 /// Whether the text may be the key of an attribute: it has 1 to `KEY_BYTES_MAX` bytes, none of them
 /// from 0x00 to 0x20, which is the space.

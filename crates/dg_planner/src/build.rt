@@ -10,10 +10,10 @@ ghost use Rattle.dg_plan.specs.IndexGraph.{Ground, inners_at, leaf, level_node, 
 
 use crate::lengths::asked_length;
 use crate::node_order::Form;
+use dg_catalogue::Catalogue;
 use dg_graph::Columns;
 use dg_history::{Key, NodeId};
 use dg_plan::{Edge, Via, Way};
-use dg_catalogue::Catalogue;
 use std::alloc::{AllocError, Global};
 
 /// A base that can serve: the handle that holds the graph of a node.

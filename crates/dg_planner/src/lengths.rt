@@ -4,9 +4,9 @@ ghost use Rattle.dg_catalogue.specs.declared.catalogue.TheConstants.{BYTES_MAX};
 ghost use Rattle.dg_catalogue.specs.Entries.{IsInRange};
 ghost use Rattle.dg_planner.specs.AskedLengths.{asked_in, asked_length_of};
 
+use dg_catalogue::{Catalogue, Entry};
 use dg_graph::Columns;
 use dg_history::Key;
-use dg_catalogue::{Catalogue, Entry};
 
 // The bytes of the asked columns of an entry.
 fn asked_in(entry: &Entry, cols: Columns) -> u64

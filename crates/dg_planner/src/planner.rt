@@ -19,11 +19,11 @@ use crate::links::make_links;
 use crate::node_order::{Form, level_starts, node_count, node_index};
 use crate::nodes::list_nodes;
 use crate::tree::{Graft, Tree, costs_now, graft_at, grow_on, weight_at};
+use dg_catalogue::{Catalogue, Shape};
 use dg_graph::Columns;
 use dg_history::NodeId;
 use dg_path::{Adjacency, Cost, Link, Route, costs_from, route_to, thread};
 use dg_plan::Edge;
-use dg_catalogue::{Catalogue, Shape};
 use std::alloc::{AllocError, Global};
 use std::marker::Model;
 

@@ -3,9 +3,9 @@ use Rattle.std.proofs.Common.{◌≡◌, ℕ, Bool, true, false, List, [], ◌�
 use Rattle.std.specs.Prelude.{if◌then◌else◌, nat_lt, take}
 use Rattle.std.specs.List.{flat_map}
 use Rattle.std.proofs.lemmas.Bool.{false≢true}
-use Rattle.dg_graph.specs.Lines.{ScriptLine}
-use Rattle.dg_history.specs.Batch.{batch_of}
-use Rattle.dg_history.specs.GeneratedChanges.{batch_of_changes, generated}
+use Rattle.dg_text.specs.Lines.{ScriptLine}
+use Rattle.dg_changes.specs.Batch.{batch_of}
+use Rattle.dg_changes.specs.GeneratedChanges.{batch_of_changes, generated}
 use Rattle.dg_history.specs.History.{Batch, History, with_batch}
 use Rattle.dg_index.specs.FileOfHistory.{size}
 use Rattle.dg_machine.specs.declared.command.Command.{Command}

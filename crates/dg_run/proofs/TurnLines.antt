@@ -13,7 +13,7 @@ use Rattle.dg_machine.specs.declared.reply.Refusal.TheVariants as refusal
 use Rattle.dg_machine.specs.declared.reply.Reply.{Reply}
 use Rattle.dg_machine.specs.Answer.{headed}
 use Rattle.dg_machine.specs.Needs.{following}
-use Rattle.dg_graph.specs.Lines.{ScriptLine, Text, Long}
+use Rattle.dg_text.specs.Lines.{ScriptLine, Text, Long}
 use Rattle.dg_machine.specs.Run.{Step, Leaves_grammar, Too_long, is_store_read}
 use Rattle.dg_machine.specs.Script as script
 use Rattle.dg_machine.proofs.ScriptEntries.{told_asked, told_other, told_skip}

@@ -5,7 +5,7 @@ use Rattle.std.specs.Option.{option_map}
 use Rattle.dg_cuts.specs.TakenLines.{CutsEntries, GaveEntries}
 use Rattle.dg_disk.specs.Calls.{LeftByCrash, StaysOnDevice}
 use Rattle.dg_disk.specs.declared.disk.Disk as disk
-use Rattle.dg_graph.specs.Lines.{ScriptLine, Text}
+use Rattle.dg_text.specs.Lines.{ScriptLine, Text}
 use Rattle.dg_io.specs.declared.source.Source as source
 use Rattle.dg_io.specs.LinesState.{Comes, LinesState}
 use Rattle.dg_machine.specs.Script.{Entry, entries_of}

@@ -3,7 +3,7 @@ use Rattle.std.specs.Prelude.{◌≡◌, ℕ, ◌+◌, Bool, true, false, ◌&&�
 use Rattle.std.specs.List.{sum}
 use Rattle.dg_file.specs.OpeningBytes.{blank_bytes}
 use Rattle.dg_fold.specs.BytesRead.{TakesAtMost}
-use Rattle.dg_graph.specs.Lines.{ScriptLine}
+use Rattle.dg_text.specs.Lines.{ScriptLine}
 use Rattle.dg_history.specs.declared.node.NodeId.TheVariants.{Root}
 use Rattle.dg_history.specs.History.{History}
 use Rattle.dg_index.specs.OpenedIndex.{opened_of}

@@ -4,7 +4,7 @@ use Rattle.std.specs.Prelude.{◌≡◌, ℕ, ◌<◌, true, List, [], ◌∷◌
 use Rattle.std.specs.Option.{option_map}
 use Rattle.dg_machine.specs.declared.reply.Reply.{Reply}
 use Rattle.dg_machine.specs.CutImage.{IsCut}
-use Rattle.dg_graph.specs.Lines.{Text}
+use Rattle.dg_text.specs.Lines.{Text}
 use Rattle.dg_machine.specs.MachineState.{MachineState}
 use Rattle.dg_machine.specs.CommandGrammar.{CountIsInRange, IsColumn}
 use Rattle.dg_machine.specs.Run.{Step, is_store_read}

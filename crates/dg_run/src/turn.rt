@@ -6,7 +6,7 @@ ghost use Rattle.dg_io.specs.LinesState.{told, to_come};
 ghost use Rattle.dg_machine.specs.Answer.{headed};
 ghost use Rattle.dg_session.specs.Calls.{IsStopped};
 ghost use Rattle.dg_session.specs.Session.{HoldsImage};
-ghost use Rattle.dg_graph.specs.Lines.{Text};
+ghost use Rattle.dg_text.specs.Lines.{Text};
 ghost use Rattle.dg_run.specs.Calls.{AtLine, CutsTurn, MakesTurn, TakesEntries};
 ghost use Rattle.dg_run.specs.Turns.{Breaks, EndsAt, GoesOnward, HasRanges, Means, TurnTakes, asked};
 

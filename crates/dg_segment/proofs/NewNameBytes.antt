@@ -6,7 +6,7 @@ use Rattle.std.specs.List.{flat_map}
 use Rattle.std.proofs.lemmas.List.{take_at, drop_at, drop-drop}
 use Rattle.std.proofs.lemmas.List.Concat.{flat_map-append}
 use Rattle.std.proofs.lemmas.Nat.{from_be_bytes-to_be_bytes_2}
-use Rattle.dg_graph.specs.declared.limits.TheConstants.{NAME_BYTES_MAX}
+use Rattle.dg_text.specs.declared.limits.TheConstants.{NAME_BYTES_MAX}
 use Rattle.dg_graph.specs.Columns.{two}
 use Rattle.dg_index.specs.FileOfHistory.{name_bytes}
 use Rattle.dg_index.specs.ImageText.{two_at}

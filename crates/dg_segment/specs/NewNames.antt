@@ -1,7 +1,7 @@
 -- The names of a new segment as the bytes that they have in its directory.
 use Rattle.std.specs.Prelude.{◌≡◌, ℕ, zero, suc, ◌+◌, ◌≤◌, List, [], ◌∷◌, length, take, drop}
 use Rattle.std.specs.List.{flat_map, All}
-use Rattle.dg_graph.specs.declared.limits.TheConstants.{NAME_BYTES_MAX}
+use Rattle.dg_text.specs.declared.limits.TheConstants.{NAME_BYTES_MAX}
 use Rattle.dg_index.specs.FileOfHistory.{name_bytes}
 use Rattle.dg_index.specs.ImageText.{two_at}
 

@@ -1,7 +1,7 @@
 //! The new names of a batch, as they are to be written.
 ghost use Rattle.std.specs.Prelude.{◌≡◌, ◌≤◌, ◌∷◌, ◌++◌, [], length, OnOk, OnErr};
 ghost use Rattle.std.specs.List.{flat_map};
-ghost use Rattle.dg_graph.specs.declared.limits.TheConstants.{NAME_BYTES_MAX};
+ghost use Rattle.dg_text.specs.declared.limits.TheConstants.{NAME_BYTES_MAX};
 ghost use Rattle.dg_index.specs.FileOfHistory.{name_bytes};
 
 use std::alloc::{AllocError, Global};

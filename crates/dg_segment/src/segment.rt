@@ -1,6 +1,6 @@
 //! A batch as its segment is to be written: names, lists, deltas and piece.
 ghost use Rattle.std.specs.Prelude.{◌≡◌, ◌+◌, ◌-◌, ◌<◌, ◌≤◌, ◌^◌, ◌∷◌, ◌++◌, ◌↔◌, [], length, map, min, IfOk, IsTrue, OnOk, OnErr};
-ghost use Rattle.dg_graph.specs.declared.limits.TheConstants.{NAME_BYTES_MAX};
+ghost use Rattle.dg_text.specs.declared.limits.TheConstants.{NAME_BYTES_MAX};
 ghost use Rattle.dg_index.specs.FileOfHistory.{blobs, bytes_of, delta_blobs, directory, head_of, list_blobs, segment_bytes};
 ghost use Rattle.dg_index.specs.OpenedIndex.{directory_of, list_row, record_row};
 ghost use Rattle.dg_segment.specs.DirectoryParts.{batch_text, records_text};

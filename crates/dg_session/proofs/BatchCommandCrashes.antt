@@ -14,7 +14,7 @@ use Rattle.dg_disk.specs.Calls.{LeftByCrash, ReadsDisk}
 use Rattle.dg_disk.specs.declared.disk.Disk.{Ghosts}
 use Rattle.dg_graph.specs.declared.element.Element.{Element}
 use Rattle.dg_graph.specs.declared.event.Event.{Event}
-use Rattle.dg_graph.specs.Lines.{ScriptLine}
+use Rattle.dg_text.specs.Lines.{ScriptLine}
 use Rattle.dg_graph.specs.Replay.{replay_from}
 use Rattle.dg_history.specs.History.{History, last_time_from, with_batch}
 use Rattle.dg_history.specs.LegalHistory.{IsLegal}

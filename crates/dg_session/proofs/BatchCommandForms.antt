@@ -2,8 +2,8 @@
 use Rattle.std.proofs.Common.{◌≡◌, ℕ, ◌≤◌, true, false, List, Option, Result, map, refl}
 use Rattle.std.specs.Prelude.{◌&&◌}
 use Rattle.dg_graph.specs.declared.element.Element.{Element}
-use Rattle.dg_graph.specs.Lines.{ScriptLine}
-use Rattle.dg_history.specs.ChangeGrammar.{ChangeByText, change_by_text_in}
+use Rattle.dg_text.specs.Lines.{ScriptLine}
+use Rattle.dg_changes.specs.ChangeGrammar.{ChangeByText, change_by_text_in}
 use Rattle.dg_history.specs.History.{Batch, History}
 use Rattle.dg_history.specs.declared.limits.TheConstants.{BATCH_LINES_MAX}
 use Rattle.dg_machine.specs.declared.command.Command.{Command}
@@ -11,7 +11,7 @@ use Rattle.dg_machine.specs.declared.command.Command.TheVariants as command
 use Rattle.dg_machine.specs.declared.reply.Head.{Head}
 use Rattle.dg_machine.specs.declared.reply.Head.TheVariants as head
 use Rattle.dg_machine.specs.Answer.{Answered, accepted, graph_with, is_behind_reads, is_refusal, with_new}
-use Rattle.dg_history.specs.GeneratedChanges.{batch_of_changes, generated}
+use Rattle.dg_changes.specs.GeneratedChanges.{batch_of_changes, generated}
 use Rattle.dg_machine.specs.MachineState.{MachineState, history_in}
 use Rattle.dg_machine.specs.Needs.{is_writing, needs}
 use Rattle.dg_machine.specs.Planning.{IsPlanned, no_plan}

@@ -19,18 +19,18 @@ use Rattle.dg_file.specs.Images.{GainsBatch, GainsBatchOrNot}
 use Rattle.dg_graph.specs.declared.element.Element.{Element}
 use Rattle.dg_graph.specs.declared.event.Change.{Change}
 use Rattle.dg_graph.specs.declared.event.Event.{Event}
-use Rattle.dg_graph.specs.declared.limits.TheConstants.{NAMES_MAX}
+use Rattle.dg_text.specs.declared.limits.TheConstants.{NAMES_MAX}
 use Rattle.dg_history.specs.declared.limits.TheConstants.{BATCH_LINES_MAX, EVENTS_MAX}
 use Rattle.dg_history.specs.declared.params.Params.{Params}
 use Rattle.dg_graph.specs.CompletedChanges.{completed, on_value}
-use Rattle.dg_graph.specs.Lines.{ScriptLine}
+use Rattle.dg_text.specs.Lines.{ScriptLine}
 use Rattle.dg_graph.specs.Replay.{replay, replay_from}
 use Rattle.dg_graph.proofs.Completions.{all_come}
 use Rattle.dg_graph.proofs.ExactEvents.{replay_append}
 use Rattle.dg_history.specs.EventTimes.{RisesFrom}
 use Rattle.dg_history.proofs.EventTimes.{rises_come}
-use Rattle.dg_history.specs.Batch.{changes_after, names_after}
-use Rattle.dg_history.specs.ChangeGrammar.{ChangeByText, change_by_text_in}
+use Rattle.dg_changes.specs.Batch.{changes_after, names_after}
+use Rattle.dg_changes.specs.ChangeGrammar.{ChangeByText, change_by_text_in}
 use Rattle.dg_index.specs.FileOfHistory.{Segment, segment_of, size}
 use Rattle.dg_index.specs.Hierarchy.{leaves}
 use Rattle.dg_index.specs.IndexGrowth.{index_with, needed_for}
@@ -52,7 +52,7 @@ use Rattle.dg_machine.specs.declared.reply.Reply.{Reply}
 use Rattle.dg_machine.specs.Answer.{Answered, answer, headed, is_behind_reads, refuse}
 use Rattle.dg_machine.specs.CutImage.{IsCut, As_before, As_after}
 use Rattle.dg_machine.specs.MachineState.{MachineState, elements, history_in}
-use Rattle.dg_history.specs.GeneratedChanges.{batch_of_changes, generated}
+use Rattle.dg_changes.specs.GeneratedChanges.{batch_of_changes, generated}
 use Rattle.dg_machine.specs.Needs.{needs, refused}
 use Rattle.dg_machine.specs.Planning.{no_plan}
 use Rattle.dg_machine.specs.Run.{Step}

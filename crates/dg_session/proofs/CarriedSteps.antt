@@ -9,7 +9,7 @@ use Rattle.dg_batch.specs.declared.stop.Stop.TheVariants as stop
 use Rattle.dg_disk.specs.Calls.{Fails, LeftByCrash, ReadsDisk, StaysOnDevice}
 use Rattle.dg_disk.proofs.FrameLemmas as frames
 use Rattle.dg_disk.specs.declared.disk.Disk as disk
-use Rattle.dg_graph.specs.Lines.{ScriptLine}
+use Rattle.dg_text.specs.Lines.{ScriptLine}
 use Rattle.dg_io.specs.declared.source.Source as source
 use Rattle.dg_io.specs.LinesState.{LinesState}
 use Rattle.dg_machine.proofs.Refusals.{store_read_refuses}

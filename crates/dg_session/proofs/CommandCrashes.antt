@@ -8,7 +8,7 @@ use Rattle.dg_disk.proofs.CrashReads.{told_reads}
 use Rattle.dg_disk.proofs.CrashTold.{told_widens}
 use Rattle.dg_disk.specs.Calls.{LeftByCrash, ReadsDisk}
 use Rattle.dg_disk.specs.declared.disk.Disk.{Ghosts}
-use Rattle.dg_graph.specs.Lines.{ScriptLine}
+use Rattle.dg_text.specs.Lines.{ScriptLine}
 use Rattle.dg_index.specs.ImageOfHistory.{StandsAs}
 use Rattle.dg_machine.specs.declared.command.Command.{Command}
 use Rattle.dg_machine.specs.declared.reply.Reply.{Reply}

@@ -5,7 +5,7 @@ use Rattle.std.specs.List.{sum}
 use Rattle.dg_fold.specs.BytesRead.{TakesAtMost}
 use Rattle.dg_graph.specs.declared.element.Columns.{Columns}
 use Rattle.dg_graph.specs.declared.element.Element.{Element}
-use Rattle.dg_graph.specs.Lines.{ScriptLine}
+use Rattle.dg_text.specs.Lines.{ScriptLine}
 use Rattle.dg_handles.specs.Handles.{overlays_on}
 use Rattle.dg_machine.specs.declared.command.Command.TheVariants as command
 use Rattle.dg_machine.specs.declared.reply.BodyLine.{BodyLine}

@@ -10,7 +10,7 @@ use Rattle.dg_batch.specs.declared.stop.Stop.TheVariants as stop
 use Rattle.dg_cuts.specs.TakenLines.{CutsWithin, TakesBehind}
 use Rattle.dg_disk.specs.Calls.{FailsToWrite, LeftByCrash, ReadsDisk, StaysOnDevice, UsesDisk}
 use Rattle.dg_disk.specs.declared.disk.Disk as disk
-use Rattle.dg_graph.specs.Lines.{ScriptLine}
+use Rattle.dg_text.specs.Lines.{ScriptLine}
 use Rattle.dg_io.specs.Calls.{FailsToRead}
 use Rattle.dg_io.specs.declared.source.Source as source
 use Rattle.dg_io.specs.LinesState.{LinesState}

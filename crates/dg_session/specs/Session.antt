@@ -2,8 +2,8 @@
 use Rattle.std.specs.Prelude.{◌≡◌, ◌⊎◌, ℕ, ◌+◌, ◌*◌, Bool, true, false, ◌&&◌, ◌||◌, not, List, [], ◌∷◌, ◌++◌, Option, Some, None, Result, Ok, Err, IfSome, is_some, length, nat_lt}
 use Rattle.std.specs.List.{All, list_any}
 use Rattle.dg_graph.specs.declared.element.Column.{Column}
-use Rattle.dg_graph.specs.declared.limits.TheConstants.{NAMES_MAX}
-use Rattle.dg_graph.specs.Lines.{ScriptLine}
+use Rattle.dg_text.specs.declared.limits.TheConstants.{NAMES_MAX}
+use Rattle.dg_text.specs.Lines.{ScriptLine}
 use Rattle.dg_history.specs.declared.node.Key.{Key}
 use Rattle.dg_history.specs.declared.node.NodeId.{NodeId}
 use Rattle.dg_history.specs.History.{History, are_parameters, events_of, span_of, in_range}

@@ -3,8 +3,8 @@ use Rattle.std.proofs.Common.{◌≡◌, ℕ, ◌+◌, ◌≤◌, true, List, []
 use Rattle.std.specs.Prelude.{◌==◌, ◌&&◌, nat_le}
 use Rattle.std.proofs.lemmas.Bool.{leb-true, and_parts}
 use Rattle.std.proofs.lemmas.List.Sums.{sum_by_push}
-use Rattle.dg_graph.specs.declared.limits.TheConstants.{NAMES_MAX}
-use Rattle.dg_graph.specs.Names.{are_new}
+use Rattle.dg_text.specs.declared.limits.TheConstants.{NAMES_MAX}
+use Rattle.dg_text.specs.Names.{are_new}
 use Rattle.dg_history.specs.declared.limits.TheConstants.{BATCH_LINES_MAX, EVENTS_MAX}
 use Rattle.dg_index.specs.ImageText.{eight_at}
 use Rattle.dg_index.specs.OpenedIndex.{Opened, Directory, earliest_in, event_total, may_be_named, may_follow, rows_in}

@@ -7,7 +7,7 @@ use Rattle.dg_columns.specs.ColumnLaws.{EventsAreReadBack, EventsAreMergedBack}
 use Rattle.dg_columns.specs.Ranges.{EventsFit}
 use Rattle.dg_graph.specs.declared.element.Column.{Column}
 use Rattle.dg_graph.specs.declared.event.Event.{Event}
-use Rattle.dg_graph.specs.declared.limits.TheConstants.{NAMES_MAX}
+use Rattle.dg_text.specs.declared.limits.TheConstants.{NAMES_MAX}
 use Rattle.dg_graph.specs.Columns.{events_column}
 use Rattle.dg_graph.specs.Replay.{replay}
 use Rattle.dg_history.specs.declared.node.Key.TheVariants as key

@@ -17,7 +17,7 @@ use Rattle.dg_graph.specs.declared.element.Column.{Column}
 use Rattle.dg_graph.specs.declared.element.Column.TheVariants as column
 use Rattle.dg_graph.specs.declared.element.Element.{Element}
 use Rattle.dg_graph.specs.declared.event.Event.{Event}
-use Rattle.dg_graph.specs.declared.limits.TheConstants.{NAMES_MAX}
+use Rattle.dg_text.specs.declared.limits.TheConstants.{NAMES_MAX}
 use Rattle.dg_graph.specs.declared.placed.Placed.{Placed}
 use Rattle.dg_graph.specs.ColumnGrammar.{events_in as read_as_events}
 use Rattle.dg_graph.specs.ColumnMerge.{merged}

@@ -11,10 +11,10 @@ ghost use Rattle.dg_start.specs.Refusals.{RefusesEvents};
 use crate::event_source::EventSource;
 use crate::fault::StartFault;
 use crate::keys::has_key;
+use dg_current::Now;
 use dg_graph::Event;
 use dg_index::Ends;
 use dg_names::Names;
-use dg_current::Now;
 use dg_set::Set;
 use std::alloc::{AllocError, Global};
 

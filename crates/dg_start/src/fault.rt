@@ -3,10 +3,10 @@
 ghost use Rattle.std.specs.Prelude.{◌≡◌};
 ghost use Rattle.dg_start.specs.declared.fault.StartFault.TheVariants.{Memory};
 
+use dg_current::FromFault;
 use dg_file::FetchFault;
 use dg_graph::Column;
 use dg_history::Key;
-use dg_current::FromFault;
 use dg_retrieval::RetrievalFault;
 use std::alloc::AllocError;
 use std::fmt;

@@ -2,7 +2,7 @@
 
 ghost use Rattle.std.specs.Prelude.{◌≡◌};
 ghost use Rattle.dg_graph.specs.Completion.{has_key};
-ghost use Rattle.dg_graph.specs.Names.{is_key, name_text};
+ghost use Rattle.dg_text.specs.Names.{is_key, name_text};
 
 use dg_graph::Body;
 use dg_names::{Names, is_key};

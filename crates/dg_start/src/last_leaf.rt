@@ -12,13 +12,13 @@ ghost use Rattle.dg_start.specs.Refusals.{RefusesPlan};
 ghost use Rattle.dg_start.specs.SessionStart.{first_recent, last_leaf, lists_in};
 
 use crate::fault::StartFault;
+use dg_catalogue::Shape;
 use dg_disk::Disk;
 use dg_file::Index;
 use dg_history::{NodeId, Params};
 use dg_planner::Planner;
 use dg_retrieval::{ALL_COLUMNS, plan_set};
 use dg_set::Set;
-use dg_catalogue::Shape;
 use std::alloc::{AllocError, Global};
 use std::thread::Threads;
 

@@ -7,7 +7,7 @@ ghost use Rattle.dg_columns.specs.Ranges.{BodyFits};
 ghost use Rattle.dg_disk.specs.Calls.{Fails, ReadsDisk};
 ghost use Rattle.dg_file.specs.Images.{IsOpenedAs};
 ghost use Rattle.dg_fold.specs.BytesRead.{asked_length, kept_in};
-ghost use Rattle.dg_graph.specs.declared.limits.TheConstants.{NAMES_MAX};
+ghost use Rattle.dg_text.specs.declared.limits.TheConstants.{NAMES_MAX};
 ghost use Rattle.dg_graph.specs.declared.placed.Placed.{Placed};
 ghost use Rattle.dg_history.specs.Keys.{same_key};
 ghost use Rattle.dg_plan.specs.HistoryGraph.{all_columns};

@@ -1,10 +1,10 @@
 //! What is kept beside an index: names, current graph and recent events.
 ghost use Rattle.std.specs.Prelude.{◌≡◌, [], None};
 
+use dg_current::Now;
 use dg_file::Index;
 use dg_graph::Event;
 use dg_names::Names;
-use dg_current::Now;
 use std::alloc::Global;
 
 /// An index, if there is one, and what is kept in memory of the history that its file holds.

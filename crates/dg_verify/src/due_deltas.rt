@@ -14,10 +14,10 @@ ghost use Rattle.dg_index.specs.IndexRecords.{deltas_due, record_among};
 
 use crate::times::{first_time, last_time};
 use dg_build::{BuildFault, Segment, build};
+use dg_catalogue::{keys_due, leaves};
 use dg_graph::Event;
 use dg_history::{Key, Params};
 use dg_set::Set;
-use dg_catalogue::{keys_due, leaves};
 use std::alloc::{AllocError, Global};
 
 /// The tops and downs that events determine: their keys, and a segment that has their columns in the order of the keys.

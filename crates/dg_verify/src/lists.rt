@@ -13,12 +13,12 @@ use crate::own_events::OwnEvents;
 use crate::records::read_events;
 use crate::stop::Stop;
 use crate::times::are_ends;
+use dg_catalogue::leaves;
 use dg_disk::Disk;
 use dg_file::Index;
 use dg_graph::{Column, Event};
 use dg_history::Key;
 use dg_names::Names;
-use dg_catalogue::leaves;
 use std::alloc::Global;
 
 // Whether the index tells of the list the times of the first and of the last of these events.

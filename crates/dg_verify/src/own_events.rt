@@ -9,10 +9,10 @@ ghost use Rattle.dg_graph.specs.Effect.{forwards};
 ghost use Rattle.dg_sound.specs.OwnEvents.{if_right, with_record};
 ghost use Rattle.dg_verify.specs.EventTests.{IsRead, first_unfit, followed, key_at, tested};
 
+use dg_current::Now;
 use dg_graph::Event;
 use dg_history::Key;
 use dg_names::Names;
-use dg_current::Now;
 use dg_start::has_key;
 use std::alloc::{AllocError, Global};
 

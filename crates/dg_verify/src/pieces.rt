@@ -16,6 +16,7 @@ use crate::own_events::OwnEvents;
 use crate::records::{compare_columns, read_events};
 use crate::stop::Stop;
 use crate::times::are_ends;
+use dg_catalogue::leaves;
 use dg_columns::write_events;
 use dg_disk::Disk;
 use dg_file::Index;
@@ -23,7 +24,6 @@ use dg_graph::{Column, Event};
 use dg_history::Key;
 use dg_index::BatchEntry;
 use dg_names::Names;
-use dg_catalogue::leaves;
 use std::alloc::Global;
 
 // So many of the events, from this one on, as far as there are.

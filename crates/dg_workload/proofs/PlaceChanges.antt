@@ -2,9 +2,9 @@
 use Rattle.std.proofs.Common.{◌≡◌, ℕ, suc, ◌≤◌, List, [], ◌∷◌, ◌++◌, Option, Some, length, map, take, sym, ap, ◌∙◌, arith, append_assoc}
 use Rattle.std.proofs.lemmas.List.{map-append, length-take, take-take}
 use Rattle.dg_graph.specs.declared.event.Change.{Change}
-use Rattle.dg_history.specs.Batch.{changes_after, names_after}
-use Rattle.dg_history.specs.ChangeGrammar.{change_with, named}
-use Rattle.dg_history.specs.GeneratedChanges.{generated_from}
+use Rattle.dg_changes.specs.Batch.{changes_after, names_after}
+use Rattle.dg_changes.specs.ChangeGrammar.{change_with, named}
+use Rattle.dg_changes.specs.GeneratedChanges.{generated_from}
 use Rattle.dg_workload.specs.Position.{Position, change_at, next_position}
 
 -- the change at this position is the first of those that are left

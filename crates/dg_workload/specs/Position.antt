@@ -1,7 +1,7 @@
 -- Where the generator of a seed stands, and the change that comes next.
 use Rattle.std.specs.Prelude.{ℕ, ◌+◌}
-use Rattle.dg_history.specs.ChangeGrammar.{ChangeByText}
-use Rattle.dg_history.specs.GeneratedChanges.{generated_change, next_number}
+use Rattle.dg_changes.specs.ChangeGrammar.{ChangeByText}
+use Rattle.dg_changes.specs.GeneratedChanges.{generated_change, next_number}
 
 -- before the change of this index, behind this number
 pub record Position : Type 0 where

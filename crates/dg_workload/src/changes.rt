@@ -1,12 +1,13 @@
 //! The first changes of a seed, as many as are asked for.
 ghost use Rattle.std.specs.Prelude.{◌≡◌, ◌+◌, ◌*◌, ◌≤◌, IfOk, OnOk, Some, length, map, take};
-ghost use Rattle.dg_history.specs.Batch.{changes_after, names_after};
-ghost use Rattle.dg_history.specs.GeneratedChanges.{generated};
+ghost use Rattle.dg_changes.specs.Batch.{changes_after, names_after};
+ghost use Rattle.dg_changes.specs.GeneratedChanges.{generated};
 
 use crate::generator::Generator;
-use dg_graph::{Change, NAMES_MAX};
+use dg_graph::Change;
 use dg_history::BATCH_LINES_MAX;
 use dg_names::Names;
+use dg_text::NAMES_MAX;
 use std::alloc::{AllocError, Global};
 
 /// The first `count` changes of the seed, by the numbers of their texts in the names, which get those that

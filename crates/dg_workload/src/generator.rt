@@ -1,15 +1,16 @@
 //! The changes of a seed, one after the other.
 ghost use Rattle.std.specs.Prelude.{◌≡◌, ◌+◌, ◌/◌, ◌^◌, ◌<◌, ◌≤◌, ◌⊎◌, IfOk, OnOk, OnErr, length, take};
-ghost use Rattle.dg_history.specs.ChangeGrammar.{change_with, named};
-ghost use Rattle.dg_history.specs.GeneratedChanges.{next_number, part_of};
+ghost use Rattle.dg_changes.specs.ChangeGrammar.{change_with, named};
+ghost use Rattle.dg_changes.specs.GeneratedChanges.{next_number, part_of};
 ghost use Rattle.dg_workload.specs.Position.{change_at, first_position, next_position};
 ghost use Rattle.dg_workload.specs.Request.{with_request_key};
 
 use crate::request::requested;
 use crate::text_numbers::numbered;
-use dg_graph::{Change, NAMES_MAX};
+use dg_graph::Change;
 use dg_history::BATCH_LINES_MAX;
 use dg_names::Names;
+use dg_text::NAMES_MAX;
 use std::alloc::AllocError;
 use std::marker::Model;
 

@@ -10,7 +10,8 @@ mod text_numbers;
 mod texts;
 
 pub use changes::generated_changes;
-pub use dg_graph::{Change, NAMES_MAX, What};
+pub use dg_graph::{Change, What};
 pub use dg_history::BATCH_LINES_MAX;
 pub use dg_names::Names;
+pub use dg_text::NAMES_MAX;
 pub use generator::Generator;

@@ -1,8 +1,8 @@
 //! What the changes ask for, with the texts of keys and values.
 
 ghost use Rattle.std.specs.Prelude.{◌≡◌, ◌+◌, ◌*◌, ◌%◌, ◌^◌, ◌<◌, codes};
-ghost use Rattle.dg_history.specs.ChangeGrammar.{Sets_node};
-ghost use Rattle.dg_history.specs.GeneratedChanges.{generated_what, lettered};
+ghost use Rattle.dg_changes.specs.ChangeGrammar.{Sets_node};
+ghost use Rattle.dg_changes.specs.GeneratedChanges.{generated_what, lettered};
 ghost use Rattle.dg_workload.specs.Request.{request_by_text};
 
 use dg_graph::What;

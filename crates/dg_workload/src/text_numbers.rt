@@ -1,14 +1,15 @@
 //! The numbers of the texts in the list of names.
 
 ghost use Rattle.std.specs.Prelude.{◌≡◌, ◌+◌, ◌<◌, ◌≤◌, ◌⊎◌, IfOk, OnOk, OnErr, length, take};
-ghost use Rattle.dg_graph.specs.Names.{added, number_in};
-ghost use Rattle.dg_history.specs.ChangeGrammar.{named, what_in};
+ghost use Rattle.dg_text.specs.Names.{added, number_in};
+ghost use Rattle.dg_changes.specs.ChangeGrammar.{named, what_in};
 ghost use Rattle.dg_workload.specs.Request.{key_text, value_text, request_by_text, with_request_key};
 
 use crate::request::{Key, Request};
 use crate::texts::{ValueText, text_of_key};
-use dg_graph::{NAME_BYTES_MAX, NAMES_MAX, What};
+use dg_graph::What;
 use dg_names::Names;
+use dg_text::{NAME_BYTES_MAX, NAMES_MAX};
 use std::alloc::AllocError;
 
 /// What is asked for, by the numbers of its texts in the names, which get those that they lack, the key

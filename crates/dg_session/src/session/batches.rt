@@ -7,7 +7,7 @@ ghost use Rattle.dg_io.specs.Calls.{TakesFrom};
 ghost use Rattle.dg_cuts.specs.TakenLines.{CutsWithin, TakesBehind};
 ghost use Rattle.dg_io.specs.LinesState.{NeedsByte};
 ghost use Rattle.dg_history.specs.declared.limits.TheConstants.{BATCH_LINES_MAX};
-ghost use Rattle.dg_graph.specs.Lines.{ScriptLine};
+ghost use Rattle.dg_text.specs.Lines.{ScriptLine};
 ghost use Rattle.dg_machine.specs.Answer.{headed};
 ghost use Rattle.dg_machine.specs.Needs.{needs};
 ghost use Rattle.dg_session.specs.Calls.{HaltsByCause, ReadsFile, TreatsDisk};
@@ -21,10 +21,10 @@ use dg_ask::span;
 use dg_batch::{Halt, Stop, add_changes, generated_batch, read_batch};
 use dg_disk::Disk;
 use dg_file::Index;
-use dg_graph::NAMES_MAX;
 use dg_history::{Params, are_parameters};
 use dg_io::{Lines, Source};
 use dg_machine::{Command, Head, Refusal, Reply};
+use dg_text::NAMES_MAX;
 use std::thread::Threads;
 
 // A line may bring the text of a key and that of a value.

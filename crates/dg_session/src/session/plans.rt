@@ -5,7 +5,7 @@ ghost use Rattle.dg_io.specs.Calls.{FailsToRead, TakesFrom};
 ghost use Rattle.dg_cuts.specs.TakenLines.{CutsWithin, TakesBehind};
 ghost use Rattle.dg_io.specs.LinesState.{NeedsByte};
 ghost use Rattle.dg_history.specs.declared.limits.TheConstants.{BATCH_LINES_MAX};
-ghost use Rattle.dg_graph.specs.Lines.{ScriptLine};
+ghost use Rattle.dg_text.specs.Lines.{ScriptLine};
 ghost use Rattle.dg_machine.specs.Answer.{headed};
 ghost use Rattle.dg_history.specs.History.{in_range};
 ghost use Rattle.dg_ask.specs.HeldIndex.{span_held};

@@ -1,6 +1,6 @@
 use Rattle.std.proofs.Common.{◌≡◌, ◌-◌, ◌+◌, ◌*◌, ◌≤◌, vec_len, length, take}
 use Rattle.dg_io.specs.LinesState.{NeedsByte}
-use Rattle.dg_graph.specs.declared.limits.TheConstants.{NAMES_MAX}
+use Rattle.dg_text.specs.declared.limits.TheConstants.{NAMES_MAX}
 use Rattle.dg_append.specs.declared.front.Front.TheVariants.{Whole}
 use Rattle.dg_io.specs.Calls.{TakesFrom}
 use Rattle.dg_batch.proofs.BatchLineCollection.{Gathering}

@@ -2,7 +2,7 @@ use Rattle.std.proofs.Common.{List, ℕ, ◌++◌, length, ap, ◌∙◌, arith,
 use Rattle.dg_cuts.specs.WholeEntries.{up_to_feed}
 use Rattle.dg_cuts.proofs.WholeEntriesFront.{whole_front}
 use Rattle.dg_cuts.proofs.WholeLines.{and_others, whole_lines}
-use Rattle.dg_graph.specs.Lines.{lines_of}
+use Rattle.dg_text.specs.Lines.{lines_of}
 use Rattle.dg_machine.specs.Script.{entries_of}
 use Rattle.dg_cuts.proofs.laws.law_whole_entries_are_a_front.Goals as goal
 

@@ -1,4 +1,4 @@
-use Rattle.dg_history.specs.ChangeGrammar.{Plain, id_of}
+use Rattle.dg_changes.specs.ChangeGrammar.{Plain, id_of}
 use Rattle.dg_line.proofs.VerbReaders.{one_made}
 use Rattle.dg_line.proofs.change.only_id.Goals as goal
 

@@ -1,5 +1,5 @@
 use Rattle.dg_machine.specs.declared.command.Command.TheVariants as command
-use Rattle.dg_history.specs.ChangeGrammar.{id_of}
+use Rattle.dg_changes.specs.ChangeGrammar.{id_of}
 use Rattle.dg_machine.specs.CommandGrammar.{count_of}
 use Rattle.dg_line.proofs.VerbReaders.{two_step}
 use Rattle.dg_line.proofs.command.workload.Goals as goal

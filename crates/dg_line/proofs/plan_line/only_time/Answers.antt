@@ -1,4 +1,4 @@
-use Rattle.dg_history.specs.ChangeGrammar.{time_of}
+use Rattle.dg_changes.specs.ChangeGrammar.{time_of}
 use Rattle.dg_line.proofs.VerbReaders.{one_made}
 use Rattle.dg_line.proofs.plan_line.only_time.Goals as goal
 

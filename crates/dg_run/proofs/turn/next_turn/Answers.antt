@@ -4,7 +4,7 @@ use Rattle.dg_disk.specs.Calls.{LeftByCrash}
 use Rattle.dg_io.specs.LinesState.{told}
 use Rattle.dg_cuts.proofs.TakenEntries.{cut_behind, cut_between, took_behind}
 use Rattle.dg_cuts.proofs.TakenLines.{lines_by}
-use Rattle.dg_graph.specs.Lines.{Long, ScriptLine, Text}
+use Rattle.dg_text.specs.Lines.{Long, ScriptLine, Text}
 use Rattle.dg_io.proofs.FrameLemmas.{advances_both}
 use Rattle.dg_io.proofs.GivenLines.{gave_line}
 use Rattle.dg_io.specs.declared.lines.Line.TheVariants as line

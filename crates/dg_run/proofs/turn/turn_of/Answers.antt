@@ -3,7 +3,7 @@ use Rattle.dg_batch.specs.declared.stop.Stop.{Stop}
 use Rattle.dg_cuts.proofs.TakenEntries.{cut_command, took_line}
 use Rattle.dg_cuts.proofs.TakenLines.{lines_by}
 use Rattle.dg_disk.specs.Calls.{LeftByCrash}
-use Rattle.dg_graph.specs.Lines.{Text}
+use Rattle.dg_text.specs.Lines.{Text}
 use Rattle.dg_machine.specs.Script as script
 use Rattle.dg_session.specs.Reads.{ReadsToStop}
 use Rattle.dg_run.specs.Calls.{TakesEntries}

@@ -1,6 +1,6 @@
 use Rattle.std.proofs.Common.{◌≡◌, ℕ, zero, suc, List, [], ◌∷◌, ◌∙◌, sym, ap, refl, None, slice_get}
 use Rattle.std.specs.Option.{option_copied}
-use Rattle.dg_graph.specs.Names.{is_key, name_text}
+use Rattle.dg_text.specs.Names.{is_key, name_text}
 use Rattle.dg_start.proofs.keys.is_key_number.Goals as goal
 
 no_text : (names : List (List ℕ)) (n : ℕ) → slice_get names n ≡ None → name_text names n ≡ []

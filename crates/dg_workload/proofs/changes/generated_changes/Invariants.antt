@@ -1,7 +1,7 @@
 use Rattle.std.proofs.Common.{◌≡◌, ◌+◌, ◌-◌, ◌*◌, ◌≤◌, ◌++◌, Some, length, map, take}
-use Rattle.dg_graph.specs.declared.limits.TheConstants.{NAMES_MAX}
-use Rattle.dg_history.specs.Batch.{changes_after, names_after}
-use Rattle.dg_history.specs.GeneratedChanges.{generated, generated_from}
+use Rattle.dg_text.specs.declared.limits.TheConstants.{NAMES_MAX}
+use Rattle.dg_changes.specs.Batch.{changes_after, names_after}
+use Rattle.dg_changes.specs.GeneratedChanges.{generated, generated_from}
 use Rattle.dg_workload.proofs.changes.generated_changes.Given as goal
 
 -- What is generated and what is left to generate come to the whole.

@@ -1,7 +1,7 @@
 use Rattle.std.proofs.Common.{◌≡◌, ℕ, ◌+◌, ◌-◌, ◌<◌, ◌≤◌, Bool, true, ◌⊎◌, inl, inr, if◌then◌else◌, List, ◌∷◌, ◌++◌, length, drop, slice_range, sym, ap, ◌∙◌, arith}
 use Rattle.std.proofs.lemmas.List.{length-take-le, length-drop}
-use Rattle.dg_graph.specs.declared.limits.TheConstants.{LINE_BYTES_MAX}
-use Rattle.dg_graph.specs.Lines.{Long, lines_of}
+use Rattle.dg_text.specs.declared.limits.TheConstants.{LINE_BYTES_MAX}
+use Rattle.dg_text.specs.Lines.{Long, lines_of}
 use Rattle.dg_io.specs.LinesState.{LinesState, ahead, lines_on, NeedsByte}
 use Rattle.dg_io.specs.Feed.{past_feed}
 use Rattle.dg_io.proofs.LinesStateLemmas.{drops_long}

@@ -1,6 +1,6 @@
 use Rattle.std.proofs.Common.{◌≡◌, ℕ, Bool, cond, List, [], length, sym, ap, ◌∙◌, arith}
 use Rattle.std.proofs.lemmas.List.Splits.{length-slice_split}
-use Rattle.dg_graph.specs.Words.{words}
+use Rattle.dg_text.specs.Words.{words}
 use Rattle.dg_line.specs.Space.{is_space}
 use Rattle.dg_line.proofs.words.Words.end.Goals as goal
 

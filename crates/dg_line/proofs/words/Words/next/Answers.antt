@@ -1,6 +1,6 @@
 use Rattle.std.proofs.Common.{◌≡◌, ℕ, ◌+◌, Bool, cond, List, [], ◌∷◌, ◌-◌, length, take, drop, sym, ◌∙◌, ap}
 use Rattle.std.proofs.lemmas.List.{take_rest}
-use Rattle.dg_graph.specs.Words.{words}
+use Rattle.dg_text.specs.Words.{words}
 use Rattle.dg_line.proofs.Space.{first_word, last_word}
 use Rattle.dg_line.proofs.words.Words.next.Goals as goal
 

@@ -1,5 +1,5 @@
 use Rattle.std.proofs.Common.{Bool, cond, List, ℕ, [], sym, ap, ◌∙◌}
-use Rattle.dg_graph.specs.Words.{words}
+use Rattle.dg_text.specs.Words.{words}
 use Rattle.dg_line.specs.Space.{rest_of}
 use Rattle.dg_line.proofs.Space.{whole_rest}
 use Rattle.dg_line.proofs.words.Words.rest.Goals as goal

@@ -1,5 +1,5 @@
 use Rattle.std.proofs.Common.{◌≡◌, List, [], ◌∷◌, ◌++◌, ℕ, Some, None, map, slice_get, subst, sym, ◌∙◌}
-use Rattle.dg_graph.specs.Names.{number_of}
+use Rattle.dg_text.specs.Names.{number_of}
 use Rattle.dg_names.specs.NameLimits.{AreFew, AreShort}
 use Rattle.dg_names.proofs.NameLimitNumbers.{grown, grown_index, fits_grown, added_last, key_stands, stays, distinct-map, number_here}
 use Rattle.dg_names.proofs.names.Names.add.Goals as goal

@@ -1,7 +1,7 @@
 use Rattle.std.proofs.Common.{◌≡◌, None, Some, sym, subst, ◌∙◌}
 use Rattle.std.specs.Option.{IfNone}
 use Rattle.std.specs.List.{Contains}
-use Rattle.dg_graph.specs.Names.{number_of}
+use Rattle.dg_text.specs.Names.{number_of}
 use Rattle.dg_names.proofs.NameLimitNumbers.{number-map, number_stands, no_number}
 use Rattle.dg_names.proofs.names.Names.number.Goals as goal
 

@@ -1,5 +1,5 @@
 use Rattle.std.proofs.Common.{List, ℕ, ◌≤◌, length, subst, sym}
-use Rattle.dg_graph.specs.declared.limits.TheConstants.{NAME_BYTES_MAX}
+use Rattle.dg_text.specs.declared.limits.TheConstants.{NAME_BYTES_MAX}
 use Rattle.dg_names.proofs.NameLimitNumbers.{short_key}
 use Rattle.dg_names.proofs.names.Names.text.Goals as goal
 

@@ -1,7 +1,7 @@
 -- How the bytes of a script are cut into lines.
 use Rattle.std.specs.Prelude.{ℕ, List, map, length, nat_le, if◌then◌else◌}
 use Rattle.std.specs.Str.Lines.{lines}
-use Rattle.dg_graph.specs.declared.limits.TheConstants.{LINE_BYTES_MAX}
+use Rattle.dg_text.specs.declared.limits.TheConstants.{LINE_BYTES_MAX}
 
 -- a line of the script: its bytes, or a line of more bytes than a line may have
 pub data ScriptLine : Type 0 where

@@ -2,7 +2,7 @@
 use Rattle.std.specs.Prelude.{ℕ, Bool, true, ◌&&◌, not, List, [], ◌∷◌, ◌++◌, Option, Some, None, is_some, length, position, if◌then◌else◌, nat_le, nat_lt, slice_index_or, ◌==◌, ◌||◌}
 use Rattle.std.specs.List.{list_any, list_all}
 use Rattle.std.specs.Str.{bytes_eq}
-use Rattle.dg_graph.specs.declared.limits.TheConstants.{KEY_BYTES_MAX, NAME_BYTES_MAX}
+use Rattle.dg_text.specs.declared.limits.TheConstants.{KEY_BYTES_MAX, NAME_BYTES_MAX}
 
 -- the number of a text: the first index in the list that has it
 abbrev pub number_of : List (List ℕ) → List ℕ → Option ℕ

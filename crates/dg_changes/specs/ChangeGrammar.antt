@@ -5,11 +5,11 @@ use Rattle.dg_graph.specs.declared.event.Change.{Change}
 use Rattle.dg_graph.specs.declared.event.What.{What}
 use Rattle.dg_graph.specs.declared.event.What.TheVariants.{AddNode, RemoveNode, AddEdge, RemoveEdge, SetNode, UnsetNode, SetEdge, UnsetEdge}
 use Rattle.dg_graph.specs.declared.limits.TheConstants.{TIME_MAX}
-use Rattle.dg_graph.specs.Lines.{ScriptLine, Text, Long}
+use Rattle.dg_text.specs.Lines.{ScriptLine, Text, Long}
 use Rattle.std.specs.List.{join_with_byte}
-use Rattle.dg_graph.specs.Names.{added, number_in, is_key, is_name}
-use Rattle.dg_graph.specs.Verbs.{Verb, verb, is_word, read_by, one, two_words, four_words}
-use Rattle.dg_graph.specs.Words.{words, number}
+use Rattle.dg_text.specs.Names.{added, number_in, is_key, is_name}
+use Rattle.dg_text.specs.Verbs.{Verb, verb, is_word, read_by, one, two_words, four_words}
+use Rattle.dg_text.specs.Words.{words, number}
 
 abbrev pub time_of : List ℕ → Option ℕ
 time_of word = number 0 TIME_MAX word

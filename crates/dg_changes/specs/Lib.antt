@@ -1,0 +1,3 @@
+pub mod ChangeGrammar
+pub mod Batch
+pub mod GeneratedChanges
