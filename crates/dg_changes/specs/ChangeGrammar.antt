@@ -3,7 +3,7 @@ use Rattle.std.specs.Prelude.{ℕ, Bool, true, false, List, [], ◌∷◌, Optio
 use Rattle.std.specs.Option.{option_map}
 use Rattle.dg_graph.specs.declared.event.Change.{Change}
 use Rattle.dg_graph.specs.declared.event.What.{What}
-use Rattle.dg_graph.specs.declared.event.What.TheVariants.{AddNode, RemoveNode, AddEdge, RemoveEdge, SetNode, UnsetNode, SetEdge, UnsetEdge}
+use Rattle.dg_graph.specs.declared.event.What.TheVariants.{AddNode, RemoveNode, AddEdge, RemoveEdge, SetNode, UnsetNode, SetEdge, UnsetEdge, Message}
 use Rattle.dg_graph.specs.declared.limits.TheConstants.{TIME_MAX}
 use Rattle.dg_text.specs.Lines.{ScriptLine, Text, Long}
 use Rattle.std.specs.List.{join_with_byte}
@@ -23,13 +23,14 @@ abbrev pub direction_of : List ℕ → Option Bool
 direction_of word = if is_word word (codes "dir") then Some true else (if is_word word (codes "undir") then Some false else None)
 
 -- What a line of a batch asks for, with the texts of keys and values: a change of nodes and edges, or a
--- value of a key at a node or an edge, set or taken away.
+-- value of a key at a node or an edge, set or taken away; or a message with its value.
 pub data WhatByText : Type 0 where
   Plain : What → WhatByText
   Sets_node : ℕ → List ℕ → List ℕ → WhatByText
   Unsets_node : ℕ → List ℕ → WhatByText
   Sets_edge : ℕ → List ℕ → List ℕ → WhatByText
   Unsets_edge : ℕ → List ℕ → WhatByText
+  Sends : ℕ → ℕ → List ℕ → WhatByText
 
 -- a line of a batch: an instant, and what it asks for
 pub record ChangeByText : Type 0 where
@@ -60,6 +61,13 @@ setting_of make rest = None
 -- `ID KEY`
 abbrev pub unset_of : (ℕ → List ℕ → WhatByText) → List (List ℕ) → Option WhatByText
 unset_of make words = two_words id_of key_text_of (λ n k. make n k) words
+
+-- `SRC DST VALUE`, where VALUE is the rest of the line
+abbrev pub sending_of : List (List ℕ) → Option WhatByText
+sending_of (src ∷ dst ∷ word ∷ more) =
+    option_and_then (λ a. option_and_then (λ b.
+    option_map (λ v. Sends a b v) (value_text_of (join_with_byte 32 (word ∷ more)))) (id_of dst)) (id_of src)
+sending_of rest = None
 
 -- the kinds of change, by the word after the instant
 abbrev pub change_verbs : List (Verb WhatByText)
@@ -99,6 +107,7 @@ what_in names (Sets_node id key value) = SetNode id (number_in names key) (numbe
 what_in names (Unsets_node id key) = UnsetNode id (number_in names key)
 what_in names (Sets_edge id key value) = SetEdge id (number_in names key) (number_in names value)
 what_in names (Unsets_edge id key) = UnsetEdge id (number_in names key)
+what_in names (Sends src dst value) = Message src dst (number_in names value)
 
 -- the list of names with the texts of the change: its key before its value
 abbrev pub named : List (List ℕ) → WhatByText → List (List ℕ)
@@ -107,6 +116,7 @@ named names (Sets_node id key value) = added (added names key) value
 named names (Unsets_node id key) = added names key
 named names (Sets_edge id key value) = added (added names key) value
 named names (Unsets_edge id key) = added names key
+named names (Sends src dst value) = added names value
 
 abbrev pub change_with : List (List ℕ) → ChangeByText → Change
 change_with names change = record { time = change.time; what = what_in (named names change.asked) change.asked }

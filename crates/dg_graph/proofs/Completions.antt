@@ -78,6 +78,7 @@ IsCompletion (what.SetNode id key value) set b = (body.NodeAttr id key (node_val
 IsCompletion (what.UnsetNode id key) set b = IsValueRemoval (body.NodeAttr id key) (node_value set id key) b × (has_node set id ≡ true)
 IsCompletion (what.SetEdge id key value) set b = (body.EdgeAttr id key (edge_value set id key) (Some value) ≡ b) × (is_some (edge_of set id) ≡ true)
 IsCompletion (what.UnsetEdge id key) set b = IsValueRemoval (body.EdgeAttr id key) (edge_value set id key) b × (is_some (edge_of set id) ≡ true)
+IsCompletion (what.Message src dst value) set b = (body.Message src dst value ≡ b) × ((has_node set src && has_node set dst) ≡ true)
 
 -- a test with a reason on one side
 unless : (t : Bool) (reason : ℕ) (r : Result Body ℕ) (b : Body) → cond t (Err reason) r ≡ Ok b → (r ≡ Ok b) × (t ≡ false)
@@ -96,6 +97,7 @@ edge_removed needed None b h = cc
 edge_removed needed (Some (element.Node id)) b h = cc
 edge_removed needed (Some (element.NodeAttr id key value)) b h = cc
 edge_removed needed (Some (element.EdgeAttr id key value)) b h = cc
+edge_removed needed (Some (element.Message src dst value)) b h = cc
 edge_removed true (Some (element.Edge id src dst directed)) b h = cc
 edge_removed false (Some (element.Edge id src dst directed)) b h =
     record { id = id; src = src; dst = dst; directed = directed; is = cc; found_is = refl; free = refl }
@@ -131,6 +133,9 @@ completion (what.SetEdge id key value) set b h =
 completion (what.UnsetEdge id key) set b h =
     let t = where_so (is_some (edge_of set id)) _ _ b h in
     (value_removed (body.EdgeAttr id key) (edge_value set id key) b t.0, t.1)
+completion (what.Message src dst value) set b h =
+    let t = where_so (has_node set src && has_node set dst) _ (Ok (body.Message src dst value)) b h in
+    (ok_is (body.Message src dst value) b t.0, t.1)
 
 -- ---- it is a change
 
@@ -182,6 +187,7 @@ comes_to w set b h = by w (completion w set b h)
         so (body.EdgeAttr id key (edge_value set id key) (Some value)) c.0 (and_from (is_some (edge_of set id)) _ c.1 (value_set (edge_value set id key) value))
     by (what.UnsetEdge id key) c =
         so (body.EdgeAttr id key (Some c.0.value) None) c.0.is (and_from (is_some (edge_of set id)) _ c.1 (value_taken (edge_value set id key) c.0.value c.0.found_is))
+    by (what.Message src dst value) c = so (body.Message src dst value) c.0 c.1
 
 -- ---- what a list of changes comes to
 

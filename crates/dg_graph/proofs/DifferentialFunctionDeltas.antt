@@ -1,10 +1,10 @@
 -- Exact deltas between sets, and interior nodes by them.
-use Rattle.std.proofs.Common.{◌≡◌, Bool, true, false, cond, not, ◌&&◌, ◌||◌, List, [], ◌∷◌, map, refl, sym, ap, ◌∙◌}
+use Rattle.std.proofs.Common.{◌≡◌, ℕ, Bool, true, false, cond, not, ◌&&◌, ◌||◌, List, [], ◌∷◌, map, refl, sym, ap, ◌∙◌}
 use Rattle.std.specs.List.{list_any, list_all}
 use Rattle.dg_graph.specs.declared.element.Element.{Element}
 use Rattle.dg_graph.specs.declared.function.Function.{Function}
-use Rattle.dg_graph.specs.declared.function.Function.TheVariants.{Intersection, Union, Balanced}
-use Rattle.dg_graph.specs.DifferentialFunction.{part, in_combined, in_last, all_of, combined, halved_last, inward}
+use Rattle.dg_graph.specs.declared.function.Function.TheVariants.{Intersection, Union, Balanced, Skewed}
+use Rattle.dg_graph.specs.DifferentialFunction.{part, in_combined, in_last, in_skewed, all_of, combined, parted_last, inward}
 use Rattle.dg_graph.specs.Composition.{Delta, between, chained}
 use Rattle.dg_graph.specs.Elements.{IsSet, has}
 use Rattle.dg_graph.specs.Sets.{unioned, without_all}
@@ -90,14 +90,15 @@ last_of_any set (other ∷ sets) x e = or_true (has set x) _ (last_of_any other 
     or_true true b e = refl
     or_true false b e = e
 
+first_or_last : (set : List Element) (sets : List (List Element)) (x : Element) (b : Bool) → cond b (in_last (set ∷ sets) x) (has set x) ≡ true → list_any (λ (set : List Element). has set x) (set ∷ sets) ≡ true
+first_or_last set sets x true e = last_of_any set sets x e
+first_or_last set sets x false e = ap (λ b. b || list_any (λ (set : List Element). has set x) sets) e
+
 in_some : (f : Function) (set : List Element) (sets : List (List Element)) (x : Element) → in_combined f (set ∷ sets) x ≡ true → list_any (λ (set : List Element). has set x) (set ∷ sets) ≡ true
 in_some Intersection set sets x e = one_of_all sets x (has set x) e
 in_some Union set sets x e = e
-in_some Balanced set sets x e = by (part x 128) e
-  where
-    by : (b : Bool) → cond b (in_last (set ∷ sets) x) (has set x) ≡ true → list_any (λ (set : List Element). has set x) (set ∷ sets) ≡ true
-    by true e = last_of_any set sets x e
-    by false e = ap (λ b. b || list_any (λ (set : List Element). has set x) sets) e
+in_some Balanced set sets x e = first_or_last set sets x (part x 128) e
+in_some (Skewed r) set sets x e = first_or_last set sets x (part x r) e
 
 implied : (a b : Bool) → (a ≡ true → b ≡ true) → (a && b) ≡ a
 implied true b f = f refl
@@ -145,13 +146,13 @@ any_gained s (r ∷ rest) x =
     by false false true = refl
     by false false false = refl
 
-last_lost : (s t : List Element) (ts : List (List Element)) (x : Element) → has (halved_last (to_all s (t ∷ ts))).minus x ≡ (part x 128 && (has s x && not (in_last (t ∷ ts) x)))
-last_lost s t [] x = has-filter (λ x. part x 128) (without_all s t) x ∙ ap (λ b. part x 128 && b) (has-without_all s t x)
-last_lost s t (u ∷ ts) x = last_lost s u ts x
+last_lost : (r : ℕ) (s t : List Element) (ts : List (List Element)) (x : Element) → has (parted_last r (to_all s (t ∷ ts))).minus x ≡ (part x r && (has s x && not (in_last (t ∷ ts) x)))
+last_lost r s t [] x = has-filter (λ x. part x r) (without_all s t) x ∙ ap (λ b. part x r && b) (has-without_all s t x)
+last_lost r s t (u ∷ ts) x = last_lost r s u ts x
 
-last_gained : (s t : List Element) (ts : List (List Element)) (x : Element) → has (halved_last (to_all s (t ∷ ts))).plus x ≡ (part x 128 && (in_last (t ∷ ts) x && not (has s x)))
-last_gained s t [] x = has-filter (λ x. part x 128) (without_all t s) x ∙ ap (λ b. part x 128 && b) (has-without_all t s x)
-last_gained s t (u ∷ ts) x = last_gained s u ts x
+last_gained : (r : ℕ) (s t : List Element) (ts : List (List Element)) (x : Element) → has (parted_last r (to_all s (t ∷ ts))).plus x ≡ (part x r && (in_last (t ∷ ts) x && not (has s x)))
+last_gained r s t [] x = has-filter (λ x. part x r) (without_all t s) x ∙ ap (λ b. part x r && b) (has-without_all t s x)
+last_gained r s t (u ∷ ts) x = last_gained r s u ts x
 
 -- sets of the deltas
 all_lost : (s : List Element) (rest : List (List Element)) → IsSet s → AreSets (map (λ (d : Delta). d.minus) (to_all s rest))
@@ -162,13 +163,13 @@ all_gained : (s : List Element) (rest : List (List Element)) → AreSets rest �
 all_gained s [] is = tt
 all_gained s (r ∷ rest) is = (IsSet-without_all r s is.0, all_gained s rest is.1)
 
-halved_minus : (s t : List Element) (ts : List (List Element)) → IsSet s → IsSet (halved_last (to_all s (t ∷ ts))).minus
-halved_minus s t [] is = IsSet-filter (λ x. part x 128) (without_all s t) (IsSet-without_all s t is)
-halved_minus s t (u ∷ ts) is = halved_minus s u ts is
+parted_minus : (r : ℕ) (s t : List Element) (ts : List (List Element)) → IsSet s → IsSet (parted_last r (to_all s (t ∷ ts))).minus
+parted_minus r s t [] is = IsSet-filter (λ x. part x r) (without_all s t) (IsSet-without_all s t is)
+parted_minus r s t (u ∷ ts) is = parted_minus r s u ts is
 
-halved_plus : (s t : List Element) (ts : List (List Element)) → AreSets (t ∷ ts) → IsSet (halved_last (to_all s (t ∷ ts))).plus
-halved_plus s t [] is = IsSet-filter (λ x. part x 128) (without_all t s) (IsSet-without_all t s is.0)
-halved_plus s t (u ∷ ts) is = halved_plus s u ts is.1
+parted_plus : (r : ℕ) (s t : List Element) (ts : List (List Element)) → AreSets (t ∷ ts) → IsSet (parted_last r (to_all s (t ∷ ts))).plus
+parted_plus r s t [] is = IsSet-filter (λ x. part x r) (without_all t s) (IsSet-without_all t s is.0)
+parted_plus r s t (u ∷ ts) is = parted_plus r s u ts is.1
 
 not_in_first : (f : Function) (s : List Element) (sets : List (List Element)) (x : Element) → has (without_all s (combined f (s ∷ sets))) x ≡ (has s x && not (in_combined f (s ∷ sets) x))
 not_in_first f s sets x = has-without_all s (combined f (s ∷ sets)) x ∙ ap (λ b. has s x && not b) (has-combined f s sets x)
@@ -178,6 +179,28 @@ new_in_inner f s sets x = has-without_all (combined f (s ∷ sets)) s x ∙ ap (
 
 equal_by : (a b c : List Element) → IsSet a → IsSet b → ((x : Element) → has a x ≡ has b x) → b ≡ c → a ≡ c
 equal_by a b c sa sb is e = same_members a b sa sb is ∙ e
+
+-- a function that takes so many of 256 from the last child
+parted_inward : (f : Function) (r : ℕ) → ((sets : List (List Element)) (x : Element) → in_combined f sets x ≡ in_skewed r sets x) → (s t : List Element) (ts : List (List Element)) → IsSet s → AreSets (t ∷ ts)
+    → parted_last r (to_all s (t ∷ ts)) ≡ between s (combined f (s ∷ t ∷ ts))
+parted_inward f r by s t ts is all =
+    let c : List Element = combined f (s ∷ t ∷ ts) in
+    let d : Delta = parted_last r (to_all s (t ∷ ts)) in
+    let minus : d.minus ≡ without_all s c = same_members d.minus (without_all s c) (parted_minus r s t ts is) (IsSet-without_all s c is)
+    (λ x. last_lost r s t ts x ∙ lost (part x r) (has s x) (in_last (t ∷ ts) x) ∙ sym (not_in_first f s (t ∷ ts) x ∙ ap (λ b. has s x && not b) (by (s ∷ t ∷ ts) x))) in
+    let plus : d.plus ≡ without_all c s = same_members d.plus (without_all c s) (parted_plus r s t ts all) (IsSet-without_all c s (IsSet-combined f (s ∷ t ∷ ts) (is, all)))
+    (λ x. last_gained r s t ts x ∙ gained (part x r) (has s x) (in_last (t ∷ ts) x) ∙ sym (new_in_inner f s (t ∷ ts) x ∙ ap (λ b. b && not (has s x)) (by (s ∷ t ∷ ts) x))) in
+    λ i. record { minus = minus i; plus = plus i }
+  where
+    lost : (p a l : Bool) → (p && (a && not l)) ≡ (a && not (cond p l a))
+    lost true a l = refl
+    lost false true l = refl
+    lost false false l = refl
+
+    gained : (p a l : Bool) → (p && (l && not a)) ≡ (cond p l a && not a)
+    gained true a l = refl
+    gained false true l = refl
+    gained false false l = refl
 
 pub inward_is : (f : Function) (s t : List Element) (ts : List (List Element)) → IsSet s → AreSets (t ∷ ts) → inward f (to_all s (t ∷ ts)) ≡ between s (combined f (s ∷ t ∷ ts))
 inward_is Intersection s t ts is all =
@@ -216,21 +239,5 @@ inward_is Union s t ts is all =
     no : (a b : Bool) → false ≡ (a && not (a || b))
     no true b = refl
     no false b = refl
-inward_is Balanced s t ts is all =
-    let c : List Element = combined Balanced (s ∷ t ∷ ts) in
-    let d : Delta = halved_last (to_all s (t ∷ ts)) in
-    let minus : d.minus ≡ without_all s c = same_members d.minus (without_all s c) (halved_minus s t ts is) (IsSet-without_all s c is)
-    (λ x. last_lost s t ts x ∙ lost (part x 128) (has s x) (in_last (t ∷ ts) x) ∙ sym (not_in_first Balanced s (t ∷ ts) x)) in
-    let plus : d.plus ≡ without_all c s = same_members d.plus (without_all c s) (halved_plus s t ts all) (IsSet-without_all c s (IsSet-combined Balanced (s ∷ t ∷ ts) (is, all)))
-    (λ x. last_gained s t ts x ∙ gained (part x 128) (has s x) (in_last (t ∷ ts) x) ∙ sym (new_in_inner Balanced s (t ∷ ts) x)) in
-    λ i. record { minus = minus i; plus = plus i }
-  where
-    lost : (p a l : Bool) → (p && (a && not l)) ≡ (a && not (cond p l a))
-    lost true a l = refl
-    lost false true l = refl
-    lost false false l = refl
-
-    gained : (p a l : Bool) → (p && (l && not a)) ≡ (cond p l a && not a)
-    gained true a l = refl
-    gained false true l = refl
-    gained false false l = refl
+inward_is Balanced s t ts is all = parted_inward Balanced 128 (λ sets x. refl) s t ts is all
+inward_is (Skewed r) s t ts is all = parted_inward (Skewed r) r (λ sets x. refl) s t ts is all

@@ -41,6 +41,29 @@ cut_short = refl
 wrong_kind : events_in column.Structure 2 (0 ∷ 0 ∷ 0 ∷ 1 ∷ 0 ∷ 0 ∷ 0 ∷ 0 ∷ 0 ∷ 0 ∷ 0 ∷ 0 ∷ 0 ∷ 9 ∷ 5 ∷ []) ≡ Err 14
 wrong_kind = refl
 
+-- a message from 1 to 2 with the name 0, at 20
+message : List Event
+message = record { time = 20; body = body.Message 1 2 0 } ∷ []
+
+message_column : events_column column.Transient message
+    ≡ 0 ∷ 0 ∷ 0 ∷ 1 ∷ 0 ∷ 0 ∷ 0 ∷ 0 ∷ 0 ∷ 0 ∷ 0 ∷ 0 ∷ 0 ∷ 20 ∷ 0 ∷ 0 ∷ 0 ∷ 0 ∷ 0 ∷ 0 ∷ 0 ∷ 1 ∷ 0 ∷ 0 ∷ 0 ∷ 0 ∷ 0 ∷ 0 ∷ 0 ∷ 2 ∷ 0 ∷ 0 ∷ 0 ∷ 0 ∷ []
+unfolding message
+message_column = refl
+
+message_back : events_in column.Transient 1 (events_column column.Transient message) ≡ Ok (placed_in column.Transient message)
+unfolding message
+message_back = refl
+
+message_of_no_name : events_in column.Transient 0 (events_column column.Transient message) ≡ Err 30
+unfolding message
+message_of_no_name = refl
+
+no_message_in_a_delta : delta_in column.Transient 1 (0 ∷ 0 ∷ 0 ∷ 0 ∷ 0 ∷ 0 ∷ 0 ∷ 1 ∷ []) ≡ Err 0
+no_message_in_a_delta = refl
+
+one_byte_of_a_delta : delta_in column.Transient 1 (7 ∷ []) ≡ Err 0
+one_byte_of_a_delta = refl
+
 change : Delta
 change = record { minus = element.Edge 5 1 2 true ∷ []; plus = element.Node 1 ∷ element.Node 2 ∷ [] }
 

@@ -14,7 +14,7 @@ use Rattle.std.proofs.lemmas.Cmp.{on_total, nat_list_cmp_total, tied_itself, ali
 use Rattle.std.proofs.lemmas.Bool.{true≢false, or_left, or_from}
 use Rattle.std.proofs.lemmas.Map.Views.{any-filter_same}
 use Rattle.dg_graph.specs.declared.element.Element.{Element}
-use Rattle.dg_graph.specs.declared.element.Element.TheVariants.{Node, Edge, NodeAttr, EdgeAttr}
+use Rattle.dg_graph.specs.declared.element.Element.TheVariants.{Node, Edge, NodeAttr, EdgeAttr, Message}
 use Rattle.dg_graph.specs.Sets.{unioned, met, without_all}
 use Rattle.dg_graph.specs.Elements.{bit, spelled, element_cmp, same, before, IsBelowFirst, IsSet, has, put, take_out}
 
@@ -34,6 +34,7 @@ spelled_exact (Node id) (Node id2) e = cc
 spelled_exact (Node id) (Edge id2 src dst directed) e = cc
 spelled_exact (Node id) (NodeAttr id2 key value) e = cc
 spelled_exact (Node id) (EdgeAttr id2 key value) e = cc
+spelled_exact (Node id) (Message src2 dst2 value2) e = cc
 spelled_exact (Edge id src dst directed) (Node id2) e = cc
 spelled_exact (Edge id src dst directed) (Edge id2 src2 dst2 directed2) e =
     let tied : bit directed ≡ bit directed2 = cc in
@@ -41,14 +42,22 @@ spelled_exact (Edge id src dst directed) (Edge id2 src2 dst2 directed2) e =
     cc
 spelled_exact (Edge id src dst directed) (NodeAttr id2 key value) e = cc
 spelled_exact (Edge id src dst directed) (EdgeAttr id2 key value) e = cc
+spelled_exact (Edge id src dst directed) (Message src2 dst2 value2) e = cc
 spelled_exact (NodeAttr id key value) (Node id2) e = cc
 spelled_exact (NodeAttr id key value) (Edge id2 src dst directed) e = cc
 spelled_exact (NodeAttr id key value) (NodeAttr id2 key2 value2) e = cc
 spelled_exact (NodeAttr id key value) (EdgeAttr id2 key2 value2) e = cc
+spelled_exact (NodeAttr id key value) (Message src2 dst2 value2) e = cc
 spelled_exact (EdgeAttr id key value) (Node id2) e = cc
 spelled_exact (EdgeAttr id key value) (Edge id2 src dst directed) e = cc
 spelled_exact (EdgeAttr id key value) (NodeAttr id2 key2 value2) e = cc
 spelled_exact (EdgeAttr id key value) (EdgeAttr id2 key2 value2) e = cc
+spelled_exact (EdgeAttr id key value) (Message src2 dst2 value2) e = cc
+spelled_exact (Message src dst value) (Node id2) e = cc
+spelled_exact (Message src dst value) (Edge id2 src2 dst2 directed2) e = cc
+spelled_exact (Message src dst value) (NodeAttr id2 key2 value2) e = cc
+spelled_exact (Message src dst value) (EdgeAttr id2 key2 value2) e = cc
+spelled_exact (Message src dst value) (Message src2 dst2 value2) e = cc
 
 -- only equal elements tie
 pub tied_exact : (x y : Element) → element_cmp x y ≡ Equal → x ≡ y

@@ -1,6 +1,6 @@
 -- What the bytes of a column are read as, or the offset of the first field that does not fit in the
 -- bytes or breaks a rule together with the fields before it.
-use Rattle.std.specs.Prelude.{ℕ, zero, suc, ◌+◌, ◌-◌, ◌==◌, ◌&&◌, Bool, true, not, List, [], ◌∷◌, Option, Some, None, Result, Ok, Err, if◌then◌else◌, length, take, drop, nat_lt, nat_le}
+use Rattle.std.specs.Prelude.{ℕ, zero, suc, ◌+◌, ◌-◌, ◌==◌, ◌&&◌, Bool, true, false, not, List, [], ◌∷◌, Option, Some, None, Result, Ok, Err, if◌then◌else◌, length, take, drop, nat_lt, nat_le}
 use Rattle.std.specs.Int.{from_be_bytes, w8, w16, w32, w64}
 use mir.Syntax.{Width}
 use Rattle.dg_graph.specs.declared.element.Column.{Column}
@@ -74,6 +74,10 @@ body_at column.Structure names bytes at =
     and_read (one_byte (λ n. nat_le 1 n && nat_le n 4) bytes at) (λ kind. structure_body kind bytes (at + 1))
 body_at column.NodeAttr names bytes at = value_fields (λ id key old new. body.NodeAttr id key old new) names bytes at
 body_at column.EdgeAttr names bytes at = value_fields (λ id key old new. body.EdgeAttr id key old new) names bytes at
+body_at column.Transient names bytes at =
+    and_read (eight_bytes any_number bytes at) (λ src.
+    and_read (eight_bytes any_number bytes (at + 8)) (λ dst.
+    and_read (four_bytes (λ n. nat_lt n names) bytes (at + 16)) (λ value. Ok (body.Message src dst value))))
 
 -- the bytes that a body takes
 abbrev pub body_size : Body → ℕ
@@ -83,6 +87,7 @@ body_size (body.EdgeAdded id src dst directed) = 26
 body_size (body.EdgeRemoved id src dst directed) = 26
 body_size (body.NodeAttr id key old new) = 20
 body_size (body.EdgeAttr id key old new) = 20
+body_size (body.Message src dst value) = 20
 
 -- the end: no byte stands behind the last field
 abbrev pub end_at : {A : Type 0} → A → List ℕ → ℕ → Result A ℕ
@@ -119,6 +124,7 @@ element_at column.Structure names bytes at =
     else edge_fields (λ id src dst directed. element.Edge id src dst directed) bytes (at + 1))
 element_at column.NodeAttr names bytes at = value_element (λ id key value. element.NodeAttr id key value) names bytes at
 element_at column.EdgeAttr names bytes at = value_element (λ id key value. element.EdgeAttr id key value) names bytes at
+element_at column.Transient names bytes at = Err at
 
 -- the bytes that an element takes
 abbrev pub element_size : Element → ℕ
@@ -126,6 +132,7 @@ element_size (element.Node id) = 9
 element_size (element.Edge id src dst directed) = 26
 element_size (element.NodeAttr id key value) = 16
 element_size (element.EdgeAttr id key value) = 16
+element_size (element.Message src dst value) = 20
 
 -- the element comes after the one before it, if there is one
 abbrev pub rises_from : Option Element → Element → Bool
@@ -142,12 +149,28 @@ elements_at (suc k) col names bytes others at last =
     then and_read (elements_at k col names bytes others (at + element_size x) (Some x)) (λ more. Ok (x ∷ more.0, more.1))
     else Err at)
 
--- what the bytes of a delta's column are read as, with so many names; or the offset of the damage
-abbrev pub delta_in : Column → ℕ → List ℕ → Result Delta ℕ
-delta_in col names [] = Ok (record { minus = []; plus = [] })
-delta_in col names (b ∷ bytes) =
+-- a delta may have elements in the column: messages are in none
+abbrev pub may_change : Column → Bool
+may_change column.Structure = true
+may_change column.NodeAttr = true
+may_change column.EdgeAttr = true
+may_change column.Transient = false
+
+-- what the bytes are read as where a delta may have elements in the column
+abbrev pub changes_in : Column → ℕ → List ℕ → Result Delta ℕ
+changes_in col names [] = Ok (record { minus = []; plus = [] })
+changes_in col names (b ∷ bytes) =
     and_read (four_bytes any_number (b ∷ bytes) 0) (λ out.
     and_read (elements_at out col names (b ∷ bytes) [] 4 None) (λ minus.
     and_read (four_bytes (λ n. not (out == 0 && n == 0)) (b ∷ bytes) minus.1) (λ in_count.
     and_read (elements_at in_count col names (b ∷ bytes) minus.0 (minus.1 + 4) None) (λ plus.
     end_at (record { minus = minus.0; plus = plus.0 }) (b ∷ bytes) plus.1))))
+
+-- and where it has none
+abbrev pub no_changes_in : List ℕ → Result Delta ℕ
+no_changes_in [] = Ok (record { minus = []; plus = [] })
+no_changes_in (b ∷ bytes) = Err 0
+
+-- what the bytes of a delta's column are read as, with so many names; or the offset of the damage
+abbrev pub delta_in : Column → ℕ → List ℕ → Result Delta ℕ
+delta_in col names bytes = if may_change col then changes_in col names bytes else no_changes_in bytes

@@ -1,4 +1,4 @@
--- How the events of the three columns come together to the events of their list or piece.
+-- How the events of the four columns come together to the events of their list or piece.
 use Rattle.std.specs.Prelude.{ℕ, zero, suc, ◌+◌, Bool, true, ◌&&◌, ◌==◌, List, [], ◌∷◌, ◌++◌, Option, Some, None, if◌then◌else◌, find, length, nat_le, option_and_then}
 use Rattle.std.specs.Option.{option_map}
 use Rattle.dg_graph.specs.declared.event.Event.{Event}
@@ -19,8 +19,8 @@ at_positions (suc k) n placed =
 abbrev pub if_never_fall : List Event → Option (List Event)
 if_never_fall events = if never_fall 0 events then Some events else None
 
--- The events of the three columns in the order of their positions: where there are `len` of them, at
+-- The events of the four columns in the order of their positions: where there are `len` of them, at
 -- the positions from 0 to `len - 1`, each once, and their times do not fall.
-abbrev pub merged : List Placed → List Placed → List Placed → ℕ → Option (List Event)
-merged a b c len =
-    if length (a ++ b ++ c) == len then option_and_then if_never_fall (at_positions len 0 (a ++ b ++ c)) else None
+abbrev pub merged : List Placed → List Placed → List Placed → List Placed → ℕ → Option (List Event)
+merged a b c d len =
+    if length (a ++ b ++ c ++ d) == len then option_and_then if_never_fall (at_positions len 0 (a ++ b ++ c ++ d)) else None

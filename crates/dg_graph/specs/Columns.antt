@@ -27,6 +27,7 @@ abbrev pub same_column : Column → Column → Bool
 same_column column.Structure column.Structure = true
 same_column column.NodeAttr column.NodeAttr = true
 same_column column.EdgeAttr column.EdgeAttr = true
+same_column column.Transient column.Transient = true
 same_column a b = false
 
 -- an element in its column
@@ -35,6 +36,7 @@ element_bytes (element.Node id) = 1 ∷ eight id
 element_bytes (element.Edge id src dst directed) = 2 ∷ (eight id ++ (eight src ++ (eight dst ++ bit directed ∷ [])))
 element_bytes (element.NodeAttr id key value) = eight id ++ (four key ++ four value)
 element_bytes (element.EdgeAttr id key value) = eight id ++ (four key ++ four value)
+element_bytes (element.Message src dst value) = eight src ++ (eight dst ++ four value)
 
 -- a count and the elements
 abbrev pub part_bytes : List Element → List ℕ
@@ -61,6 +63,7 @@ column_of_body (body.EdgeAdded id src dst directed) = column.Structure
 column_of_body (body.EdgeRemoved id src dst directed) = column.Structure
 column_of_body (body.NodeAttr id key old new) = column.NodeAttr
 column_of_body (body.EdgeAttr id key old new) = column.EdgeAttr
+column_of_body (body.Message src dst value) = column.Transient
 
 -- a value's name, one more than its number, or 0 for none
 abbrev pub value_bytes : Option ℕ → List ℕ
@@ -75,6 +78,7 @@ body_bytes (body.EdgeAdded id src dst directed) = 3 ∷ (eight id ++ (eight src 
 body_bytes (body.EdgeRemoved id src dst directed) = 4 ∷ (eight id ++ (eight src ++ (eight dst ++ bit directed ∷ [])))
 body_bytes (body.NodeAttr id key old new) = eight id ++ (four key ++ (value_bytes old ++ value_bytes new))
 body_bytes (body.EdgeAttr id key old new) = eight id ++ (four key ++ (value_bytes old ++ value_bytes new))
+body_bytes (body.Message src dst value) = eight src ++ (eight dst ++ four value)
 
 -- the events with their positions, from n on
 abbrev pub placed_from : ℕ → List Event → List Placed

@@ -8,7 +8,7 @@ use Rattle.dg_graph.specs.declared.element.Element.TheVariants as element
 use Rattle.dg_graph.specs.declared.event.Body.{Body}
 use Rattle.dg_graph.specs.declared.event.Body.TheVariants as body
 use Rattle.dg_graph.specs.declared.event.What.{What}
-use Rattle.dg_graph.specs.declared.event.What.TheVariants.{AddNode, RemoveNode, AddEdge, RemoveEdge, SetNode, UnsetNode, SetEdge, UnsetEdge}
+use Rattle.dg_graph.specs.declared.event.What.TheVariants.{AddNode, RemoveNode, AddEdge, RemoveEdge, SetNode, UnsetNode, SetEdge, UnsetEdge, Message}
 use Rattle.dg_graph.specs.declared.event.TheConstants.{REASON_NODE_EXISTS, REASON_NO_NODE, REASON_NODE_IN_USE, REASON_EDGE_EXISTS, REASON_NO_EDGE, REASON_EDGE_IN_USE, REASON_NO_END, REASON_NO_ATTRIBUTE}
 use Rattle.dg_graph.specs.Elements.{has, same}
 use Rattle.dg_text.specs.Names.{is_key, name_text}
@@ -30,6 +30,7 @@ needs_node id (element.Node n) = false
 needs_node id (element.Edge n src dst directed) = src == id || dst == id
 needs_node id (element.NodeAttr n key value) = n == id
 needs_node id (element.EdgeAttr n key value) = false
+needs_node id (element.Message src dst value) = false
 
 -- the element needs this edge: an attribute of it
 abbrev pub needs_edge : ℕ → Element → Bool
@@ -56,6 +57,7 @@ value_in (element.Node id) = None
 value_in (element.Edge id src dst directed) = None
 value_in (element.NodeAttr id key value) = Some value
 value_in (element.EdgeAttr id key value) = Some value
+value_in (element.Message src dst value) = None
 
 -- the value of the key at the node, and at the edge
 abbrev pub node_value : List Element → ℕ → ℕ → Option ℕ
@@ -87,6 +89,8 @@ complete (SetEdge id key value) set =
     if is_some (edge_of set id) then Ok (body.EdgeAttr id key (edge_value set id key) (Some value)) else Err REASON_NO_EDGE
 complete (UnsetEdge id key) set =
     if is_some (edge_of set id) then value_removal (λ old new. body.EdgeAttr id key old new) (edge_value set id key) else Err REASON_NO_EDGE
+complete (Message src dst value) set =
+    if has_node set src && has_node set dst then Ok (body.Message src dst value) else Err REASON_NO_END
 
 -- the element that was found is this one
 abbrev pub is_found : Option Element → Element → Bool
@@ -105,6 +109,7 @@ has_key names (body.EdgeAdded id src dst directed) = true
 has_key names (body.EdgeRemoved id src dst directed) = true
 has_key names (body.NodeAttr id key old new) = is_key (name_text names key)
 has_key names (body.EdgeAttr id key old new) = is_key (name_text names key)
+has_key names (body.Message src dst value) = true
 
 -- whether this is what some change comes to after the set, whatever the key's text
 abbrev pub is_change_of : List Element → Body → Bool
@@ -115,6 +120,7 @@ is_change_of set (body.EdgeRemoved id src dst directed) =
     is_found (edge_of set id) (element.Edge id src dst directed) && not (list_any (needs_edge id) set)
 is_change_of set (body.NodeAttr id key old new) = has_node set id && is_value_change (node_value set id key) old new
 is_change_of set (body.EdgeAttr id key old new) = is_some (edge_of set id) && is_value_change (edge_value set id key) old new
+is_change_of set (body.Message src dst value) = has_node set src && has_node set dst
 
 -- whether some change comes to this after the set, in a history with these names
 abbrev pub completes : List (List ℕ) → List Element → Body → Bool

@@ -20,6 +20,7 @@ removed_by (body.EdgeAdded id src dst directed) = None
 removed_by (body.EdgeRemoved id src dst directed) = Some (element.Edge id src dst directed)
 removed_by (body.NodeAttr id key old new) = moved (element.NodeAttr id key) old new
 removed_by (body.EdgeAttr id key old new) = moved (element.EdgeAttr id key) old new
+removed_by (body.Message src dst value) = None
 
 -- the element that the event adds
 abbrev pub added_by : Body → Option Element
@@ -29,6 +30,7 @@ added_by (body.EdgeAdded id src dst directed) = Some (element.Edge id src dst di
 added_by (body.EdgeRemoved id src dst directed) = None
 added_by (body.NodeAttr id key old new) = moved (element.NodeAttr id key) new old
 added_by (body.EdgeAttr id key old new) = moved (element.EdgeAttr id key) new old
+added_by (body.Message src dst value) = None
 
 -- the set after the event: without what it removes, and with what it adds
 abbrev pub forwards : List Element → Event → List Element

@@ -8,7 +8,7 @@ use Rattle.std.specs.Ordering.{nat_cmp, is_lt, is_eq}
 use Rattle.std.specs.List.{list_any}
 use Rattle.std.specs.Cmp.Lexicographic.{slice_cmp}
 use Rattle.dg_graph.specs.declared.element.Element.{Element}
-use Rattle.dg_graph.specs.declared.element.Element.TheVariants.{Node, Edge, NodeAttr, EdgeAttr}
+use Rattle.dg_graph.specs.declared.element.Element.TheVariants.{Node, Edge, NodeAttr, EdgeAttr, Message}
 use Rattle.dg_graph.specs.declared.element.Column.{Column}
 use Rattle.dg_graph.specs.declared.element.Column.TheVariants as column
 use Rattle.dg_graph.specs.declared.element.Columns.{Columns}
@@ -22,6 +22,7 @@ spelled (Node id) = 0 ∷ id ∷ []
 spelled (Edge id src dst directed) = 1 ∷ id ∷ src ∷ dst ∷ bit directed ∷ []
 spelled (NodeAttr id key value) = 2 ∷ id ∷ key ∷ value ∷ []
 spelled (EdgeAttr id key value) = 3 ∷ id ∷ key ∷ value ∷ []
+spelled (Message src dst value) = 4 ∷ src ∷ dst ∷ value ∷ []
 
 -- the order of elements: by kind, and then by their fields in the order written
 abbrev pub element_cmp : Element → Element → Ordering
@@ -72,12 +73,14 @@ column_of (Node id) = column.Structure
 column_of (Edge id src dst directed) = column.Structure
 column_of (NodeAttr id key value) = column.NodeAttr
 column_of (EdgeAttr id key value) = column.EdgeAttr
+column_of (Message src dst value) = column.Transient
 
 -- the column is asked for; structure always is
 abbrev pub asks : Columns → Column → Bool
 asks cols column.Structure = true
 asks cols column.NodeAttr = cols.nodes_attr
 asks cols column.EdgeAttr = cols.edges_attr
+asks cols column.Transient = cols.transient
 
 -- the elements of the set in the columns that are asked for
 abbrev pub shown : List Element → Columns → List Element

@@ -1,16 +1,18 @@
 -- Which sets of elements are graphs.
-use Rattle.std.specs.Prelude.{◌≡◌, ℕ, Bool, true, ◌&&◌, List, is_some}
+use Rattle.std.specs.Prelude.{◌≡◌, ℕ, Bool, true, false, ◌&&◌, List, is_some}
 use Rattle.dg_graph.specs.declared.element.Element.{Element}
 use Rattle.dg_graph.specs.declared.element.Element.TheVariants as element
 use Rattle.dg_graph.specs.Completion.{has_node, edge_of}
 use Rattle.dg_graph.specs.Elements.{has, IsSet}
 
--- what an element needs of the set that it is in: an edge its two ends, a value its node or edge
+-- what an element needs of the set that it is in: an edge its two ends, a value its node or edge; a message is in
+-- no graph
 abbrev pub has_needs : List Element → Element → Bool
 has_needs set (element.Node id) = true
 has_needs set (element.Edge id src dst directed) = has_node set src && has_node set dst
 has_needs set (element.NodeAttr id key value) = has_node set id
 has_needs set (element.EdgeAttr id key value) = is_some (edge_of set id)
+has_needs set (element.Message src dst value) = false
 
 -- A set is a graph where each element has what it needs, no two edges have one id, and no node or edge
 -- has two values of one key.

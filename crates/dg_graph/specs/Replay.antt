@@ -1,8 +1,13 @@
 -- The graph as of an instant: the events up to it, one after another, over the empty set.
-use Rattle.std.specs.Prelude.{ℕ, List, [], ◌∷◌, filter, nat_le}
+use Rattle.std.specs.Prelude.{ℕ, ◌==◌, List, [], ◌∷◌, ◌++◌, Option, Some, None, filter, if◌then◌else◌, nat_le}
 use Rattle.dg_graph.specs.declared.element.Element.{Element}
+use Rattle.dg_graph.specs.declared.element.Columns.{Columns}
+use Rattle.dg_graph.specs.declared.element.Element.TheVariants as element
+use Rattle.dg_graph.specs.declared.event.Body.{Body}
+use Rattle.dg_graph.specs.declared.event.Body.TheVariants as body
 use Rattle.dg_graph.specs.declared.event.Event.{Event}
 use Rattle.dg_graph.specs.Effect.{forwards}
+use Rattle.dg_graph.specs.Elements.{shown, with_one}
 
 -- the events after one another, over the set
 abbrev pub replay_from : List Element → List Event → List Element
@@ -18,3 +23,24 @@ events_until events t = filter (λ e. nat_le e.time t) events
 
 abbrev pub replay_at : List Event → ℕ → List Element
 replay_at events t = replay (events_until events t)
+
+-- ---- messages
+
+-- the message of an event, if it is one
+abbrev pub message_of : Body → Option Element
+message_of (body.NodeAdded id) = None
+message_of (body.NodeRemoved id) = None
+message_of (body.EdgeAdded id src dst directed) = None
+message_of (body.EdgeRemoved id src dst directed) = None
+message_of (body.NodeAttr id key old new) = None
+message_of (body.EdgeAttr id key old new) = None
+message_of (body.Message src dst value) = Some (element.Message src dst value)
+
+-- the messages of exactly the instant, as a set
+abbrev pub told_at : List Event → ℕ → List Element
+told_at [] t = []
+told_at (e ∷ events) t = with_one (told_at events t) (if e.time == t then message_of e.body else None)
+
+-- the graph as of the instant in the columns, and behind it the messages of the instant where they are asked for
+abbrev pub shown_at : List Event → ℕ → Columns → List Element
+shown_at events t cols = shown (replay_at events t) cols ++ (if cols.transient then told_at events t else [])

@@ -15,5 +15,5 @@ pub use event::{
     REASON_TIME, What, reasons,
 };
 pub use function::Function;
-pub use limits::{TIME_MAX, graph_limits};
+pub use limits::{SKEW_MAX, TIME_MAX, graph_limits};
 pub use placed::Placed;

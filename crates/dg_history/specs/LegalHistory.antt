@@ -1,15 +1,16 @@
 -- Which histories are legal.
-use Rattle.std.specs.Prelude.{◌≡◌, ◌≢◌, ℕ, ◌<◌, ◌≤◌, ◌^◌, Bool, true, ◌&&◌, ◌||◌, ◌==◌, not, List, [], ◌∷◌, ◌++◌, Option, Some, None, Ok, All, IfSome, length, map, take, nat_lt, slice_get, slice_index, IsTrue}
+use Rattle.std.specs.Prelude.{◌≡◌, ℕ, ◌<◌, ◌≤◌, ◌^◌, Bool, true, false, not, List, [], ◌∷◌, ◌++◌, Some, Ok, All, IfSome, length, map, IsTrue}
+use Rattle.std.specs.List.{flat_map, list_all}
 use Rattle.dg_graph.specs.declared.event.Body.{Body}
 use Rattle.dg_graph.specs.declared.event.Body.TheVariants as body
 use Rattle.dg_graph.specs.declared.event.Change.{Change}
 use Rattle.dg_graph.specs.declared.event.Event.{Event}
 use Rattle.dg_graph.specs.declared.limits.TheConstants.{TIME_MAX}
 use Rattle.dg_text.specs.declared.limits.TheConstants.{NAMES_MAX}
-use Rattle.dg_history.specs.declared.limits.TheConstants.{BATCH_LINES_MAX, EVENTS_MAX, FILE_BYTES_MAX}
+use Rattle.dg_history.specs.declared.limits.TheConstants.{BATCH_LINES_MAX, EVENTS_MAX}
 use Rattle.dg_graph.specs.CompletedChanges.{completed}
 use Rattle.dg_graph.specs.Completion.{has_key}
-use Rattle.dg_history.specs.History.{History, Batch, are_parameters, events_of, names_of, span_of, earliest_next}
+use Rattle.dg_history.specs.History.{History, Batch, are_parameters, events_of, names_of, span_of, earliest_next, is_function, is_form, narrow_batches}
 use Rattle.dg_text.specs.Names.{are_new}
 use Rattle.dg_graph.specs.Replay.{replay}
 
@@ -23,6 +24,7 @@ FitsBody names (body.NodeAttr id key old new) =
     (id < 2 ^ 64) × (key < names) × IfSome old (λ n. n < names) × IfSome new (λ n. n < names)
 FitsBody names (body.EdgeAttr id key old new) =
     (id < 2 ^ 64) × (key < names) × IfSome old (λ n. n < names) × IfSome new (λ n. n < names)
+FitsBody names (body.Message src dst value) = (src < 2 ^ 64) × (dst < 2 ^ 64) × (value < names)
 
 abbrev pub FitsEvent : ℕ → Event → Type 0
 FitsEvent names e = (e.time ≤ TIME_MAX) × FitsBody names e.body
@@ -41,8 +43,24 @@ abbrev pub AreLegalAfter : List (List ℕ) → List Event → List Batch → Typ
 AreLegalAfter names before [] = Unit {0}
 AreLegalAfter names before (b ∷ more) = IsLegalBatch names before b × AreLegalAfter names (before ++ b.events) more
 
+abbrev pub is_message : Body → Bool
+is_message (body.NodeAdded id) = false
+is_message (body.NodeRemoved id) = false
+is_message (body.EdgeAdded id src dst directed) = false
+is_message (body.EdgeRemoved id src dst directed) = false
+is_message (body.NodeAttr id key old new) = false
+is_message (body.EdgeAttr id key old new) = false
+is_message (body.Message src dst value) = true
+
+-- none of the events is a message
+abbrev pub are_silent : List Event → Bool
+are_silent events = list_all (λ (e : Event). not (is_message e.body)) events
+
 pub record IsLegal (z : History) : Type 0 where
   pub parameters : are_parameters z.params.l z.params.k ≡ true
+  pub function : is_function z.params.function ≡ true
+  pub form : is_form z.form z.params.function (length z.batches) ≡ true
+  pub silent : are_silent (flat_map (λ (b : Batch). b.events) (narrow_batches z.form z.batches)) ≡ true
   pub batches : AreLegalAfter (names_of z) [] z.batches
   pub names : are_new [] (names_of z) ≡ true
   pub few_names : length (names_of z) ≤ NAMES_MAX

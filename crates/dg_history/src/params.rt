@@ -1,8 +1,8 @@
 //! The parameters of an index, and their ranges.
 ghost use Rattle.std.specs.Prelude.{◌≡◌};
-ghost use Rattle.dg_history.specs.History.{are_parameters};
+ghost use Rattle.dg_history.specs.History.{are_parameters, is_function};
 
-use dg_graph::Function;
+use dg_graph::{Function, SKEW_MAX};
 
 /// The least leaf list size.
 pub const LEAF_MIN: u32 = 2;
@@ -32,4 +32,14 @@ pub fn are_parameters(params: Params) -> bool
     ensures { result ≡ are_parameters params.l params.k }
 {
     LEAF_MIN <= params.l && params.l <= LEAF_MAX && ARITY_MIN <= params.k && params.k <= ARITY_MAX
+}
+
+/// Whether the function's share, where it is a skewed one, is in its range.
+pub fn is_function(function: Function) -> bool
+    ensures { result ≡ is_function function }
+{
+    match function {
+        Function::Skewed(r) => r <= SKEW_MAX,
+        Function::Intersection | Function::Union | Function::Balanced => true,
+    }
 }

@@ -64,7 +64,7 @@ keys_more p number count (c ∷ batches) b =
 
 -- the records of an index with one batch more, for each of whose keys there is a row, are those of its batches
 pub kept_laid : (o : Opening) (b : BatchEntry) (rows : List Row) (offset used : ℕ) → AreKept o → length (keys_next o b.events) ≡ length rows
-    → AreKept (record { params = o.params; batches = o.batches ++ b ∷ []; records = o.records ++ laid offset (keys_next o b.events) rows; used = used })
+    → AreKept (record { params = o.params; form = o.form; batches = o.batches ++ b ∷ []; records = o.records ++ laid offset (keys_next o b.events) rows; used = used })
 unfolding keys_of_one
 kept_laid o b rows offset used kept long =
     let n : ℕ = event_total o.batches in

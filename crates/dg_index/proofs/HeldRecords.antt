@@ -1,16 +1,19 @@
 -- Which records an opened index holds, and what is kept at their keys.
-use Rattle.std.proofs.Common.{◌≡◌, ℕ, zero, suc, ◌+◌, ◌-◌, ◌<◌, true, List, [], ◌∷◌, ◌++◌, Option, Some, None, length, map, refl, sym, ap, subst, ◌∙◌, arith, append_assoc, append-nil, length-append}
+use Rattle.std.proofs.Common.{◌≡◌, ℕ, zero, suc, ◌+◌, ◌-◌, ◌<◌, true, List, [], ◌∷◌, ◌++◌, Option, Some, None, length, take, drop, map, refl, sym, ap, subst, ◌∙◌, arith, append_assoc, append-nil, length-append}
 use Rattle.std.specs.Prelude.{is_some}
 use Rattle.std.specs.Map.{lookup}
 use Rattle.std.proofs.lemmas.Bool.{eq-eqb, or_left, or_right}
-use Rattle.std.proofs.lemmas.List.{length-map}
+use Rattle.std.proofs.lemmas.List.{length-map, take-append-drop}
+use Rattle.std.proofs.lemmas.List.Concat.{flat_map-append}
 use Rattle.std.proofs.lemmas.List.Sums.{sum_by_push}
 use Rattle.dg_graph.specs.declared.element.Column.{Column}
 use Rattle.dg_graph.specs.declared.event.Event.{Event}
 use Rattle.dg_history.specs.declared.node.Key.{Key}
 use Rattle.dg_history.specs.declared.node.Key.TheVariants as key
+use Rattle.dg_history.specs.declared.form.Form.{Form}
+use Rattle.dg_history.specs.declared.form.Form.TheVariants as form
 use Rattle.dg_history.specs.declared.params.Params.{Params}
-use Rattle.dg_history.specs.History.{Batch, History, events_of}
+use Rattle.dg_history.specs.History.{Batch, History, events_of, is_wide}
 use Rattle.dg_history.specs.Keys.{same_key}
 use Rattle.dg_history.proofs.LegalHistories.{events_among}
 use Rattle.dg_index.specs.declared.entry.BatchEntry.{BatchEntry}
@@ -20,7 +23,7 @@ use Rattle.dg_index.specs.Hierarchy.{leaves, numbers}
 use Rattle.dg_index.specs.ImageOfHistory.{IsImageOf}
 use Rattle.dg_index.specs.IndexKeys.{AreKept, among, keys_among}
 use Rattle.dg_index.specs.IndexRecords.{column_in, deltas_due, lists_due}
-use Rattle.dg_index.specs.OpenedIndex.{Opened, Opening, bare, column_at, directory_of, entry_at, entry_or_none, event_total, list_row, opened_of, opened_onto, record_row, with_segment}
+use Rattle.dg_index.specs.OpenedIndex.{Opened, Opening, bare, column_at, directory_of, entry_at, entry_or_none, event_total, list_row, opened_in, opened_of, opened_onto, record_row, with_marker, with_segment}
 use Rattle.dg_index.proofs.EverAddedBounds.{kept_more}
 use Rattle.dg_index.proofs.HierarchyCounts.{numbers_length}
 use Rattle.dg_index.proofs.IndexKeyRecords.{among_append, found}
@@ -39,7 +42,7 @@ known_more p x before b a =
     let s : Segment = segment_of p before b in
     let m : ℕ = leaves p (length before) in
     let after : ℕ = leaves p (length before + length b.events) in
-    let offset : ℕ = x.index.used + 16 + length (directory s) in
+    let offset : ℕ = x.index.used + 16 + length (directory (is_wide x.index.form) s) in
     let lists : length (map list_row s.lists) ≡ leaves x.index.params (event_total x.index.batches + length b.events) - leaves x.index.params (event_total x.index.batches) =
     length-map s.lists list_row ∙ length-map (numbers m (after - m)) (stored_list p (before ++ b.events)) ∙ numbers_length m (after - m)
     ∙ (λ i. leaves (sym a.params i) (sym a.count i + length b.events) - leaves (sym a.params i) (sym a.count i)) in
@@ -50,7 +53,7 @@ known_more p x before b a =
     record {
       params = a.params;
       count = sum_by_push (λ (b : BatchEntry). b.events) x.index.batches (directory_of s).batch ∙ ap (λ c. c + length b.events) a.count ∙ sym (length-append before b.events);
-      kept = kept_more x (directory_of s) offset (x.index.used + length (segment_bytes s) + 1) a.kept lists deltas;
+      kept = kept_more x (directory_of s) offset (x.index.used + length (segment_bytes (is_wide x.index.form) s) + 1) a.kept lists deltas;
     }
 
 known_all : (p : Params) (batches : List Batch) (x : Opened) (before : List Event) → AreKnown p x before → AreKnown p (opened_onto p x before batches) (before ++ events_among batches)
@@ -59,8 +62,24 @@ known_all p (b ∷ batches) x before a =
     subst (λ (l : List Event). AreKnown p (opened_onto p x before (b ∷ batches)) l) (append_assoc before b.events (events_among batches))
     (known_all p batches (with_segment x (segment_of p before b)) (before ++ b.events) (known_more p x before b a))
 
+-- a marker changes the form and the offset alone
+known_marker : (p : Params) (x : Opened) (before : List Event) → AreKnown p x before → AreKnown p (with_marker x) before
+known_marker p x before a = record { params = a.params; count = a.count; kept = a.kept }
+
+known_form : (f : Form) (p : Params) (batches : List Batch) → AreKnown p (opened_in f p batches) (events_among batches)
+known_form form.One p batches = known_all p batches (bare form.One p) [] (record { params = refl; count = refl; kept = refl })
+known_form form.Two p batches = known_all p batches (bare form.Two p) [] (record { params = refl; count = refl; kept = refl })
+known_form (form.Upgraded b) p batches =
+    let xs : List Batch = take b batches in
+    let ys : List Batch = drop b batches in
+    let events : events_among batches ≡ events_among xs ++ events_among ys = ap events_among (sym (take-append-drop b batches)) ∙ flat_map-append (λ (b : Batch). b.events) xs ys in
+    let y : Opened = opened_onto p (bare form.One p) [] xs in
+    let first = known_all p xs (bare form.One p) [] (record { params = refl; count = refl; kept = refl }) in
+    subst (λ (es : List Event). AreKnown p (opened_in (form.Upgraded b) p batches) es) (sym events)
+    (known_all p ys (with_marker y) (events_among xs) (known_marker p y (events_among xs) first))
+
 pub known : (z : History) → AreKnown z.params (opened_of z) (events_of z)
-known z = known_all z.params z.batches (bare z.params) [] (record { params = refl; count = refl; kept = refl })
+known z = known_form z.form z.params z.batches
 
 -- ---- what is held
 

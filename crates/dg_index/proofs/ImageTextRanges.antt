@@ -1,10 +1,10 @@
 -- Numbers and bytes at an offset of an image depend on the bytes up to there alone.
 use Rattle.std.proofs.Common.{◌≡◌, ℕ, zero, suc, ◌+◌, ◌^◌, ◌<◌, ◌≤◌, List, [], ◌∷◌, ◌++◌, length, get_or, take, drop, refl, sym, ap, ◌∙◌, arith}
-use Rattle.std.specs.Int.{w32, w64, from_be_bytes}
+use Rattle.std.specs.Int.{w16, w32, w64, from_be_bytes}
 use Rattle.std.proofs.lemmas.List.{take_at, drop_at, take-take, drop-take, drop-drop, get_or-take, length-drop}
-use Rattle.std.proofs.lemmas.Nat.{from_be_bytes-to_be_bytes_4, from_be_bytes-to_be_bytes_8}
-use Rattle.dg_graph.specs.Columns.{four, eight}
-use Rattle.dg_index.specs.ImageText.{four_at, eight_at}
+use Rattle.std.proofs.lemmas.Nat.{from_be_bytes-to_be_bytes_2, from_be_bytes-to_be_bytes_4, from_be_bytes-to_be_bytes_8}
+use Rattle.dg_graph.specs.Columns.{two, four, eight}
+use Rattle.dg_index.specs.ImageText.{two_at, four_at, eight_at}
 
 -- two images have the same first n bytes
 abbrev pub Same : ℕ → List ℕ → List ℕ → Type 0
@@ -22,6 +22,9 @@ eight_same n at image other le same = ap (from_be_bytes w64) (range_same n at 8 
 
 pub four_same : (n at : ℕ) (image other : List ℕ) → at + 4 ≤ n → Same n image other → four_at image at ≡ four_at other at
 four_same n at image other le same = ap (from_be_bytes w32) (range_same n at 4 image other le same)
+
+pub two_same : (n at : ℕ) (image other : List ℕ) → at + 2 ≤ n → Same n image other → two_at image at ≡ two_at other at
+two_same n at image other le same = ap (from_be_bytes w16) (range_same n at 2 image other le same)
 
 pub byte_same : (n i : ℕ) (image other : List ℕ) → i < n → Same n image other → get_or image i 0 ≡ get_or other i 0
 byte_same n i image other lt same =
@@ -47,6 +50,10 @@ eight_read image at n rest lt is =
 pub four_read : (image : List ℕ) (at n : ℕ) (rest : List ℕ) → n < 2 ^ 32 → drop at image ≡ four n ++ rest → four_at image at ≡ n
 four_read image at n rest lt is =
     ap (λ (l : List ℕ). from_be_bytes w32 (take 4 l)) is ∙ ap (from_be_bytes w32) (take_at (four n) rest 4 refl) ∙ from_be_bytes-to_be_bytes_4 n lt
+
+pub two_read : (image : List ℕ) (at n : ℕ) (rest : List ℕ) → n < 2 ^ 16 → drop at image ≡ two n ++ rest → two_at image at ≡ n
+two_read image at n rest lt is =
+    ap (λ (l : List ℕ). from_be_bytes w16 (take 2 l)) is ∙ ap (from_be_bytes w16) (take_at (two n) rest 2 refl) ∙ from_be_bytes-to_be_bytes_2 n lt
 
 -- what stands behind a piece
 pub behind : (image piece rest : List ℕ) (at next : ℕ) → at + length piece ≡ next → drop at image ≡ piece ++ rest → drop next image ≡ rest

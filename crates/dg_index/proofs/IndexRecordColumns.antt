@@ -8,7 +8,7 @@ use Rattle.std.proofs.lemmas.Bool.{eqb-true, false≢true, and_parts}
 use Rattle.std.specs.Map.{lookup}
 use Rattle.dg_history.specs.Keys.{same_key}
 use Rattle.dg_index.specs.ImageOfHistory.{IsImageOf}
-use Rattle.dg_index.proofs.OpenedIndexHistories.{large_parameters}
+use Rattle.dg_index.proofs.OpenedIndexHistories.{large_parameters, behind_header}
 use Rattle.std.proofs.lemmas.List.Concat.{flat_map-append}
 use Rattle.std.proofs.lemmas.List.Sums.{sum_by_push}
 use Rattle.dg_graph.specs.Columns.{eight}
@@ -21,15 +21,17 @@ use Rattle.dg_history.specs.declared.node.Key.{Key}
 use Rattle.dg_history.specs.declared.node.Key.TheVariants as key
 use Rattle.dg_history.specs.declared.params.Params.{Params}
 use Rattle.dg_graph.specs.Composition.{between}
-use Rattle.dg_index.specs.FileOfHistory.{header, Stored, StoredList, Segment, bytes_of, directory, stored_in, blobs, segment_bytes, segment_of, segments_from, stored_list, stored, file}
-use Rattle.dg_history.specs.History.{History, Batch, events_of}
+use Rattle.dg_index.specs.FileOfHistory.{header, Stored, StoredList, Segment, bytes_of, directory, stored_in, blobs, segment_bytes, segment_of, segments_from, stored_list, stored, file, marker, segments_in}
+use Rattle.dg_history.specs.History.{History, Batch, events_of, is_wide}
 use Rattle.dg_history.proofs.LegalHistories.{events_among}
+use Rattle.dg_history.specs.declared.form.Form.{Form}
+use Rattle.dg_history.specs.declared.form.Form.TheVariants as form
 use Rattle.dg_index.specs.Hierarchy.{numbers, leaves, children, parent, set_at}
 use Rattle.dg_index.specs.IndexRecords.{Record, Events, Exact, closed_list, piece_of, piece_at, record_among, column_of_record, column_in, deltas_of, inner_due, deltas_due_at, deltas_due, lists_due}
 use Rattle.dg_index.specs.declared.entry.Entry.{Entry}
 use Rattle.dg_index.specs.declared.entry.Row.{Row}
 use Rattle.dg_index.specs.declared.entry.BatchEntry.{BatchEntry}
-use Rattle.dg_index.specs.OpenedIndex.{Opened, bare, opened_of, opened_onto, with_segment, directory_of, rows_in, list_row, record_row, lengths_of, laid, total, keys_next, event_total, column_at}
+use Rattle.dg_index.specs.OpenedIndex.{Opened, bare, opened_in, opened_of, opened_onto, with_marker, with_segment, directory_of, rows_in, list_row, record_row, lengths_of, laid, total, keys_next, event_total, column_at}
 use Rattle.dg_index.proofs.HierarchyCounts.{due_to}
 use Rattle.dg_index.proofs.HierarchyStability.{child_within, stable, leaves_more}
 use Rattle.dg_index.proofs.ImageTextRanges.{behind}
@@ -66,25 +68,37 @@ abbrev pub part_of : Stored → Column → List ℕ
 part_of s column.Structure = s.structure
 part_of s column.NodeAttr = s.node_attrs
 part_of s column.EdgeAttr = s.edge_attrs
+part_of s column.Transient = s.transient
 
 entry_for : Stored → ℕ → Row → Entry
 entry_for s offset r = record { lengths = lengths_of s; offset = offset; ends = r.ends }
 
 pub one_read : (s : Stored) (image rest : List ℕ) (e : Entry) (col : Column) → e.lengths ≡ lengths_of s → drop e.offset image ≡ bytes_of s ++ rest → column_at image e col ≡ part_of s col
 one_read s image rest e col is text =
-    let here : drop e.offset image ≡ s.structure ++ (s.node_attrs ++ (s.edge_attrs ++ rest)) = text ∙ append_assoc s.structure (s.node_attrs ++ s.edge_attrs) rest ∙ ap (λ (l : List ℕ). s.structure ++ l) (append_assoc s.node_attrs s.edge_attrs rest) in
+    let tail : List ℕ = s.edge_attrs ++ (s.transient ++ rest) in
+    let here : drop e.offset image ≡ s.structure ++ (s.node_attrs ++ tail) =
+    text ∙ append_assoc s.structure (s.node_attrs ++ (s.edge_attrs ++ s.transient)) rest
+    ∙ ap (λ (l : List ℕ). s.structure ++ l) (append_assoc s.node_attrs (s.edge_attrs ++ s.transient) rest ∙ ap (λ (l : List ℕ). s.node_attrs ++ l) (append_assoc s.edge_attrs s.transient rest)) in
     let l0 : slice_index e.lengths 0 ≡ length s.structure = ap (λ (l : List ℕ). slice_index l 0) is in
     let l1 : slice_index e.lengths 1 ≡ length s.node_attrs = ap (λ (l : List ℕ). slice_index l 1) is in
     let l2 : slice_index e.lengths 2 ≡ length s.edge_attrs = ap (λ (l : List ℕ). slice_index l 2) is in
-    let next = behind image s.structure (s.node_attrs ++ (s.edge_attrs ++ rest)) e.offset (e.offset + slice_index e.lengths 0) (omega (arith, l0)) here in
-    let last = behind image s.node_attrs (s.edge_attrs ++ rest) (e.offset + slice_index e.lengths 0) (e.offset + slice_index e.lengths 0 + slice_index e.lengths 1) (omega (arith, l1)) next in
-    by col here next last l0 l1 l2
+    let l3 : slice_index e.lengths 3 ≡ length s.transient = ap (λ (l : List ℕ). slice_index l 3) is in
+    let o1 : ℕ = e.offset + slice_index e.lengths 0 in
+    let o2 : ℕ = e.offset + slice_index e.lengths 0 + slice_index e.lengths 1 in
+    let o3 : ℕ = e.offset + slice_index e.lengths 0 + slice_index e.lengths 1 + slice_index e.lengths 2 in
+    let next = behind image s.structure (s.node_attrs ++ tail) e.offset o1 (omega (arith, l0)) here in
+    let after = behind image s.node_attrs tail o1 o2 (omega (arith, l1)) next in
+    let last = behind image s.edge_attrs (s.transient ++ rest) o2 o3 (omega (arith, l2)) after in
+    by col here next after last l0 l1 l2 l3
   where
-    by : (col : Column) → drop e.offset image ≡ s.structure ++ (s.node_attrs ++ (s.edge_attrs ++ rest)) → drop (e.offset + slice_index e.lengths 0) image ≡ s.node_attrs ++ (s.edge_attrs ++ rest)
-        → drop (e.offset + slice_index e.lengths 0 + slice_index e.lengths 1) image ≡ s.edge_attrs ++ rest → slice_index e.lengths 0 ≡ length s.structure → slice_index e.lengths 1 ≡ length s.node_attrs → slice_index e.lengths 2 ≡ length s.edge_attrs → column_at image e col ≡ part_of s col
-    by column.Structure a b c l0 l1 l2 = (λ i. take (l0 i) (a i)) ∙ take_at s.structure (s.node_attrs ++ (s.edge_attrs ++ rest)) (length s.structure) refl
-    by column.NodeAttr a b c l0 l1 l2 = (λ i. take (l1 i) (b i)) ∙ take_at s.node_attrs (s.edge_attrs ++ rest) (length s.node_attrs) refl
-    by column.EdgeAttr a b c l0 l1 l2 = (λ i. take (l2 i) (c i)) ∙ take_at s.edge_attrs rest (length s.edge_attrs) refl
+    by : (col : Column) → drop e.offset image ≡ s.structure ++ (s.node_attrs ++ (s.edge_attrs ++ (s.transient ++ rest))) → drop (e.offset + slice_index e.lengths 0) image ≡ s.node_attrs ++ (s.edge_attrs ++ (s.transient ++ rest))
+        → drop (e.offset + slice_index e.lengths 0 + slice_index e.lengths 1) image ≡ s.edge_attrs ++ (s.transient ++ rest)
+        → drop (e.offset + slice_index e.lengths 0 + slice_index e.lengths 1 + slice_index e.lengths 2) image ≡ s.transient ++ rest
+        → slice_index e.lengths 0 ≡ length s.structure → slice_index e.lengths 1 ≡ length s.node_attrs → slice_index e.lengths 2 ≡ length s.edge_attrs → slice_index e.lengths 3 ≡ length s.transient → column_at image e col ≡ part_of s col
+    by column.Structure a b c d l0 l1 l2 l3 = (λ i. take (l0 i) (a i)) ∙ take_at s.structure (s.node_attrs ++ (s.edge_attrs ++ (s.transient ++ rest))) (length s.structure) refl
+    by column.NodeAttr a b c d l0 l1 l2 l3 = (λ i. take (l1 i) (b i)) ∙ take_at s.node_attrs (s.edge_attrs ++ (s.transient ++ rest)) (length s.node_attrs) refl
+    by column.EdgeAttr a b c d l0 l1 l2 l3 = (λ i. take (l2 i) (c i)) ∙ take_at s.edge_attrs (s.transient ++ rest) (length s.edge_attrs) refl
+    by column.Transient a b c d l0 l1 l2 l3 = (λ i. take (l3 i) (d i)) ∙ take_at s.transient rest (length s.transient) refl
 
 -- what is stored at each key is the record of the history
 abbrev pub Match : History → List Key → List Stored → Type 0
@@ -102,7 +116,7 @@ abbrev pub IsKept : History → List ℕ → Key × Entry → Type 0
 IsKept z image r = (col : Column) → column_at image r.1 col ≡ column_in z r.0 col
 
 total_is : (s : Stored) → total (lengths_of s) ≡ length (bytes_of s)
-total_is s = omega (arith, length-append s.structure (s.node_attrs ++ s.edge_attrs), length-append s.node_attrs s.edge_attrs)
+total_is s = omega (arith, length-append s.structure (s.node_attrs ++ (s.edge_attrs ++ s.transient)), length-append s.node_attrs (s.edge_attrs ++ s.transient), length-append s.edge_attrs s.transient)
 
 pub laid_kept : (z : History) (image rest : List ℕ) (offset : ℕ) (keys : List Key) (rows : List Row) (all : List Stored) → Match z keys all → Tell rows all → drop offset image ≡ flat_map bytes_of all ++ rest
     → Each (IsKept z image) (laid offset keys rows)
@@ -137,6 +151,7 @@ part_is : (r : Record) (col : Column) → part_of (stored r) col ≡ column_of_r
 part_is r column.Structure = refl
 part_is r column.NodeAttr = refl
 part_is r column.EdgeAttr = refl
+part_is r column.Transient = refl
 
 -- the record of a key among these events is that of the history
 abbrev Right : History → List Event → Key → Type 0
@@ -250,23 +265,25 @@ module _ (z : History) (image : List ℕ) (pos : 0 < z.params.l) (wide : 0 < z.p
       subst (λ (l : List Key). Match z l (stored_in (segment_of p before b))) (sym keys_are)
       (lists_match z all (events_among more) pos whole m (after - m) (deltas_due p.k m after ++ key.Piece (length front) ∷ []) (map (λ k. stored (record_among p all [] k)) (deltas_due p.k m after) ++ stored piece ∷ []) upto deltas)
 
-  pub all_kept : (front batches : List Batch) (rest : List ℕ) (x : Opened) → z.batches ≡ front ++ batches → IsSoFar z image x front → 1 ≤ x.index.used
-      → drop (x.index.used - 1) image ≡ segments_from z.params (events_among front) batches ++ rest → Each (IsKept z image) (opened_onto z.params x (events_among front) batches).index.records
-  all_kept front [] rest x is so some text = so.kept
-  all_kept front (b ∷ more) rest x is so some text =
+  pub all_kept : (front batches later : List Batch) (rest : List ℕ) (x : Opened) → z.batches ≡ front ++ (batches ++ later) → IsSoFar z image x front → 1 ≤ x.index.used
+      → drop (x.index.used - 1) image ≡ segments_from (is_wide x.index.form) z.params (events_among front) batches ++ rest
+      → IsSoFar z image (opened_onto z.params x (events_among front) batches) (front ++ batches) × (drop ((opened_onto z.params x (events_among front) batches).index.used - 1) image ≡ rest) × (1 ≤ (opened_onto z.params x (events_among front) batches).index.used)
+  all_kept front [] later rest x is so some text = (subst (IsSoFar z image x) (sym (append-nil front)) so, text, some)
+  all_kept front (b ∷ more) later rest x is so some text =
       let p : Params = z.params in
+      let wide : Bool = is_wide x.index.form in
       let before : List Event = events_among front in
       let s : Segment = segment_of p before b in
-      let others : List ℕ = segments_from p (before ++ b.events) more in
-      let d : ℕ = length (directory s) in
+      let others : List ℕ = segments_from wide p (before ++ b.events) more in
+      let d : ℕ = length (directory wide s) in
       let used : ℕ = x.index.used in
-      let bytes : drop used image ≡ segment_bytes s ++ (others ++ rest) = behind image (1 ∷ []) ((segment_bytes s ++ others) ++ rest) (used - 1) used (omega (arith, some)) text ∙ append_assoc (segment_bytes s) others rest in
-      let next : drop (used + length (segment_bytes s)) image ≡ others ++ rest = behind image (segment_bytes s) (others ++ rest) used (used + length (segment_bytes s)) refl bytes in
-      let inside : drop used image ≡ (eight d ++ (eight (length (blobs s)) ++ directory s)) ++ (blobs s ++ (others ++ rest)) =
-      bytes ∙ ap (λ (l : List ℕ). eight d ++ (eight (length (blobs s)) ++ l)) (append_assoc (directory s) (blobs s) (others ++ rest)) in
-      let columns : drop (used + 16 + d) image ≡ blobs s ++ (others ++ rest) = behind image (eight d ++ (eight (length (blobs s)) ++ directory s)) (blobs s ++ (others ++ rest)) used (used + 16 + d) (omega arith) inside in
+      let bytes : drop used image ≡ segment_bytes wide s ++ (others ++ rest) = behind image (1 ∷ []) ((segment_bytes wide s ++ others) ++ rest) (used - 1) used (omega (arith, some)) text ∙ append_assoc (segment_bytes wide s) others rest in
+      let next : drop (used + length (segment_bytes wide s)) image ≡ others ++ rest = behind image (segment_bytes wide s) (others ++ rest) used (used + length (segment_bytes wide s)) refl bytes in
+      let inside : drop used image ≡ (eight d ++ (eight (length (blobs s)) ++ directory wide s)) ++ (blobs s ++ (others ++ rest)) =
+      bytes ∙ ap (λ (l : List ℕ). eight d ++ (eight (length (blobs s)) ++ l)) (append_assoc (directory wide s) (blobs s) (others ++ rest)) in
+      let columns : drop (used + 16 + d) image ≡ blobs s ++ (others ++ rest) = behind image (eight d ++ (eight (length (blobs s)) ++ directory wide s)) (blobs s ++ (others ++ rest)) used (used + 16 + d) (omega arith) inside in
       let new : Each (IsKept z image) (laid (used + 16 + d) (keys_next x.index (length b.events)) (rows_in (directory_of s))) =
-      laid_kept z image (others ++ rest) (used + 16 + d) (keys_next x.index (length b.events)) (rows_in (directory_of s)) (stored_in s) (segment_matches front b more is x so) (tell s) columns in
+      laid_kept z image (others ++ rest) (used + 16 + d) (keys_next x.index (length b.events)) (rows_in (directory_of s)) (stored_in s) (segment_matches front b (more ++ later) is x so) (tell s) columns in
       let events_are : events_among (front ++ b ∷ []) ≡ before ++ b.events = flat_map-append (λ (b : Batch). b.events) front (b ∷ []) ∙ ap (λ (l : List Event). before ++ l) (append-nil b.events) in
       let so_next : IsSoFar z image (with_segment x s) (front ++ b ∷ []) = record {
         params = so.params;
@@ -274,10 +291,29 @@ module _ (z : History) (image : List ℕ) (pos : 0 < z.params.l) (wide : 0 < z.p
         number = length-append x.index.batches ((directory_of s).batch ∷ []) ∙ ap (λ c. c + 1) so.number ∙ sym (length-append front (b ∷ []));
         kept = each_append (IsKept z image) x.index.records (laid (used + 16 + d) (keys_next x.index (length b.events)) (rows_in (directory_of s))) so.kept new;
       } in
-      let more_text : drop (used + length (segment_bytes s) + 1 - 1) image ≡ segments_from p (events_among (front ++ b ∷ [])) more ++ rest =
-      ap (λ n. drop n image) (let e : used + length (segment_bytes s) + 1 - 1 ≡ used + length (segment_bytes s) = omega arith in e) ∙ next ∙ ap (λ (l : List Event). segments_from p l more ++ rest) (sym events_are) in
-      let result = all_kept (front ++ b ∷ []) more rest (with_segment x s) (is ∙ sym (append_assoc front (b ∷ []) more)) so_next (omega arith) more_text in
-      subst (λ (l : List Event). Each (IsKept z image) (opened_onto p (with_segment x s) l more).index.records) events_are result
+      let more_text : drop (used + length (segment_bytes wide s) + 1 - 1) image ≡ segments_from wide p (events_among (front ++ b ∷ [])) more ++ rest =
+      ap (λ n. drop n image) (let e : used + length (segment_bytes wide s) + 1 - 1 ≡ used + length (segment_bytes wide s) = omega arith in e) ∙ next ∙ ap (λ (l : List Event). segments_from wide p l more ++ rest) (sym events_are) in
+      let result = all_kept (front ++ b ∷ []) more later rest (with_segment x s) (is ∙ sym (append_assoc front (b ∷ []) (more ++ later))) so_next (omega arith) more_text in
+      subst (λ (l : List Event). IsSoFar z image (opened_onto p (with_segment x s) l more) (front ++ b ∷ more) × (drop ((opened_onto p (with_segment x s) l more).index.used - 1) image ≡ rest) × (1 ≤ (opened_onto p (with_segment x s) l more).index.used)) events_are
+      (subst (λ (l : List Batch). IsSoFar z image (opened_onto p (with_segment x s) (events_among (front ++ b ∷ [])) more) l) (append_assoc front (b ∷ []) more) result.0, result.1, result.2)
+
+  -- all records are kept, whatever the form
+  form_kept : (f : Form) (rest : List ℕ) → drop 17 image ≡ segments_in f z.params z.batches ++ rest → Each (IsKept z image) (opened_in f z.params z.batches).index.records
+  form_kept form.One rest text = (all_kept [] z.batches [] rest (bare form.One z.params) (sym (append-nil z.batches)) (record { params = refl; count = refl; number = refl; kept = tt }) (omega arith) text).0.kept
+  form_kept form.Two rest text = (all_kept [] z.batches [] rest (bare form.Two z.params) (sym (append-nil z.batches)) (record { params = refl; count = refl; number = refl; kept = tt }) (omega arith) text).0.kept
+  form_kept (form.Upgraded n) rest text =
+      let p : Params = z.params in
+      let xs : List Batch = take n z.batches in
+      let ys : List Batch = drop n z.batches in
+      let whole : z.batches ≡ xs ++ ys = sym (take-append-drop n z.batches) in
+      let first : List ℕ = segments_from false p [] xs in
+      let second : List ℕ = segments_from true p (events_among xs) ys in
+      let one = all_kept [] xs ys (1 ∷ (marker ++ (second ++ rest))) (bare form.One p) whole (record { params = refl; count = refl; number = refl; kept = tt }) (omega arith) (text ∙ append_assoc first (1 ∷ (marker ++ second)) rest) in
+      let y : Opened = opened_onto p (bare form.One p) [] xs in
+      let at : drop (y.index.used + 24) image ≡ second ++ rest = behind image (1 ∷ marker) (second ++ rest) (y.index.used - 1) (y.index.used + 24) (omega (arith, one.2)) one.1 in
+      let so = one.0 in
+      (all_kept xs ys [] rest (with_marker y) (whole ∙ ap (λ (l : List Batch). xs ++ l) (sym (append-nil ys))) (record { params = so.params; count = so.count; number = so.number; kept = so.kept }) (omega arith)
+      (ap (λ n. drop n image) (let e : y.index.used + 24 + 1 - 1 ≡ y.index.used + 24 = omega arith in e) ∙ at)).0.kept
 
 -- ---- what is held at a key
 
@@ -319,11 +355,11 @@ at_key P k e (r ∷ records) all is = by (at_key P k e records all.1) (same_key 
 -- of an image of a history, the column of a record that is held is that of the history
 pub columns_are_kept : (z : History) (image : List ℕ) → IsImageOf z image → (k : Key) (e : Entry) → lookup (same_key k) (opened_of z).index.records ≡ Some e → (col : Column) → column_at image e col ≡ column_in z k col
 columns_are_kept z image h k e found =
-    let body : List ℕ = segments_from z.params [] z.batches in
+    let body : List ℕ = segments_in z.form z.params z.batches in
     let rest : List ℕ = drop (length (file z)) image in
     let large = large_parameters z.params.l z.params.k h.legal.parameters in
     let n = length (file z) in
     let is : image ≡ file z ++ rest = sym (take-append-drop n image) ∙ ap (λ (l : List ℕ). l ++ rest) h.begins in
-    let text : drop 17 image ≡ body ++ rest = ap (drop 17) (is ∙ append_assoc (header z.params) body rest) in
-    let kept = all_kept z image (omega (arith, large.0)) (omega (arith, large.1)) [] z.batches rest (bare z.params) refl (record { params = refl; count = refl; number = refl; kept = tt }) (omega arith) text in
+    let text : drop 17 image ≡ body ++ rest = ap (drop 17) (is ∙ append_assoc (header z.form z.params) body rest) ∙ behind_header z.form z.params (body ++ rest) in
+    let kept = form_kept z image (omega (arith, large.0)) (omega (arith, large.1)) z.form rest text in
     at_key (IsKept z image) k e (opened_of z).index.records kept found

@@ -6,6 +6,7 @@ pub mod HierarchyStability
 pub mod ImageTextRanges
 pub mod ImageTextNames
 pub mod ListBytes
+pub mod UnheardRecords
 pub mod OpenedIndexDirectories
 pub mod OpenedIndexHistories
 pub mod IndexRecordColumns

@@ -1,4 +1,5 @@
--- The columns of a list take at most a count each, and 36 bytes for each of its events.
+-- The columns of a list take at most three counts, and 36 bytes for each of its events: a message has 30, and so
+-- pays the count of its own column.
 use Rattle.std.proofs.Common.{◌≡◌, ℕ, suc, ◌+◌, ◌*◌, ◌≤◌, Bool, true, false, cond, List, [], ◌∷◌, length, filter, Option, Some, None, refl, arith, length-append}
 use Rattle.std.specs.List.{flat_map}
 use Rattle.dg_graph.specs.declared.element.Column.{Column}
@@ -25,6 +26,7 @@ body_fits (body.EdgeAdded id src dst directed) = omega arith
 body_fits (body.EdgeRemoved id src dst directed) = omega arith
 body_fits (body.NodeAttr id key old new) = omega (arith, value_long old, value_long new, length-append (value_bytes old) (value_bytes new))
 body_fits (body.EdgeAttr id key old new) = omega (arith, value_long old, value_long new, length-append (value_bytes old) (value_bytes new))
+body_fits (body.Message src dst value) = omega arith
 
 placed_fits : (p : Placed) → length (placed_bytes p) ≤ 36
 placed_fits p = omega (arith, body_fits p.event.body)
@@ -35,20 +37,46 @@ stands_in col p = same_column (column_of_body p.event.body) col
 abbrev bytes_in : Column → List Placed → ℕ
 bytes_in col placed = length (flat_map placed_bytes (filter (stands_in col) placed))
 
--- each event in one of the columns
-parts_fit : (placed : List Placed) → bytes_in column.Structure placed + bytes_in column.NodeAttr placed + bytes_in column.EdgeAttr placed ≤ 36 * length placed
+abbrev messages_in : List Placed → List Placed
+messages_in placed = filter (stands_in column.Transient) placed
+
+-- each event in one of the columns, a message taken for 36 bytes
+parts_fit : (placed : List Placed) → bytes_in column.Structure placed + bytes_in column.NodeAttr placed + bytes_in column.EdgeAttr placed + 36 * length (messages_in placed) ≤ 36 * length placed
 parts_fit [] = omega arith
 parts_fit (p ∷ placed) =
     let s : List Placed = filter (stands_in column.Structure) placed in
     let a : List Placed = filter (stands_in column.NodeAttr) placed in
     let b : List Placed = filter (stands_in column.EdgeAttr) placed in
+    let t : List Placed = messages_in placed in
     let more = parts_fit placed in
     let one = placed_fits p in
-    elim (column_of_body p.event.body) as (λ col. length (flat_map placed_bytes (cond (same_column col column.Structure) (p ∷ s) s)) + length (flat_map placed_bytes (cond (same_column col column.NodeAttr) (p ∷ a) a)) + length (flat_map placed_bytes (cond (same_column col column.EdgeAttr) (p ∷ b) b)) ≤ 36 * suc (length placed)) [
+    elim (column_of_body p.event.body) as (λ col. length (flat_map placed_bytes (cond (same_column col column.Structure) (p ∷ s) s)) + length (flat_map placed_bytes (cond (same_column col column.NodeAttr) (p ∷ a) a)) + length (flat_map placed_bytes (cond (same_column col column.EdgeAttr) (p ∷ b) b)) + 36 * length (cond (same_column col column.Transient) (p ∷ t) t) ≤ 36 * suc (length placed)) [
       | column.Structure ↦ omega (arith, more, one, length-append (placed_bytes p) (flat_map placed_bytes s))
       | column.NodeAttr ↦ omega (arith, more, one, length-append (placed_bytes p) (flat_map placed_bytes a))
       | column.EdgeAttr ↦ omega (arith, more, one, length-append (placed_bytes p) (flat_map placed_bytes b))
+      | column.Transient ↦ omega (arith, more)
     ]
+
+abbrev Short : List Placed → Type 0
+Short messages = length (flat_map placed_bytes messages) ≤ 30 * length messages
+
+one_more : (at time : ℕ) (b : Body) (messages : List Placed) → Short messages
+    → Short (cond (same_column (column_of_body b) column.Transient) (record { at = at; event = record { time = time; body = b } } ∷ messages) messages)
+one_more at time (body.NodeAdded id) messages h = h
+one_more at time (body.NodeRemoved id) messages h = h
+one_more at time (body.EdgeAdded id src dst directed) messages h = h
+one_more at time (body.EdgeRemoved id src dst directed) messages h = h
+one_more at time (body.NodeAttr id key old new) messages h = h
+one_more at time (body.EdgeAttr id key old new) messages h = h
+one_more at time (body.Message src dst value) messages h = omega (arith, h)
+
+messages_short : (placed : List Placed) → Short (messages_in placed)
+messages_short [] = omega arith
+messages_short (p ∷ placed) = one_more p.at p.event.time p.event.body (messages_in placed) (messages_short placed)
+
+messages_fit : (messages : List Placed) → Short messages → length (counted messages) ≤ 36 * length messages
+messages_fit [] h = omega arith
+messages_fit (p ∷ messages) h = omega (arith, h)
 
 counted_fits : (placed : List Placed) → length (counted placed) ≤ 4 + length (flat_map placed_bytes placed)
 counted_fits [] = omega arith
@@ -61,12 +89,12 @@ placed_long n (e ∷ events) = omega (arith, placed_long (n + 1) events)
 pub list_fits : (events : List Event) → total (lengths_of (stored (Events events))) ≤ list_bytes_max (length events)
 list_fits events =
     let placed : List Placed = placed_from 0 events in
-    omega (arith, parts_fit placed, placed_long 0 events, counted_fits (filter (stands_in column.Structure) placed), counted_fits (filter (stands_in column.NodeAttr) placed), counted_fits (filter (stands_in column.EdgeAttr) placed))
+    omega (arith, parts_fit placed, placed_long 0 events, counted_fits (filter (stands_in column.Structure) placed), counted_fits (filter (stands_in column.NodeAttr) placed), counted_fits (filter (stands_in column.EdgeAttr) placed), messages_fit (messages_in placed) (messages_short placed))
 
 -- ---- a list of two events
 
 abbrev row_of : ℕ → Row
-row_of bytes = record { ends = Some (record { first = 1; last = 2 }); lengths = bytes ∷ 0 ∷ 4 ∷ [] }
+row_of bytes = record { ends = Some (record { first = 1; last = 2 }); lengths = bytes ∷ 0 ∷ 4 ∷ 0 ∷ [] }
 
 two_events : list_bytes_max 2 ≡ 84
 two_events = refl

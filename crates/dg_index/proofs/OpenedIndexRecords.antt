@@ -1,5 +1,5 @@
 -- What an index of a history tells of each record that it holds: its lengths, and the times of a list.
-use Rattle.std.proofs.Common.{◌≡◌, ℕ, zero, suc, ◌+◌, ◌-◌, ◌*◌, ◌/◌, ◌<◌, ◌≤◌, ◌^◌, Bool, true, false, cond, List, [], ◌∷◌, ◌++◌, length, map, Some, None, Option, is_some, refl, sym, ap, subst, ◌∙◌, append_assoc, append-nil, arith, length-append, add-mul, div-mul-le_self}
+use Rattle.std.proofs.Common.{◌≡◌, ℕ, zero, suc, ◌+◌, ◌-◌, ◌*◌, ◌/◌, ◌<◌, ◌≤◌, ◌^◌, Bool, true, false, cond, List, [], ◌∷◌, ◌++◌, length, map, take, drop, Some, None, Option, is_some, refl, sym, ap, subst, ◌∙◌, append_assoc, append-nil, arith, length-append, add-mul, div-mul-le_self, take-append-drop}
 use Rattle.std.specs.Prelude.{◌==◌}
 use Rattle.std.specs.Map.{lookup}
 use Rattle.std.proofs.lemmas.List.{length-map}
@@ -11,7 +11,9 @@ use Rattle.dg_history.specs.declared.node.Key.{Key}
 use Rattle.dg_history.specs.declared.node.Key.TheVariants as key
 use Rattle.dg_history.specs.declared.params.Params.{Params}
 use Rattle.dg_history.specs.Keys.{same_key}
-use Rattle.dg_history.specs.History.{History, Batch, events_of, first_time_of, last_time_from}
+use Rattle.dg_history.specs.History.{History, Batch, events_of, first_time_of, is_wide, last_time_from}
+use Rattle.dg_history.specs.declared.form.Form.{Form}
+use Rattle.dg_history.specs.declared.form.Form.TheVariants as form
 use Rattle.dg_history.specs.LegalHistory.{IsLegal}
 use Rattle.dg_history.proofs.LegalHistories.{events_among}
 use Rattle.dg_index.specs.FileOfHistory.{Stored, Segment, directory, stored_in, segment_bytes, segment_of, stored_list, stored}
@@ -22,7 +24,7 @@ use Rattle.dg_index.specs.declared.entry.Ends.{Ends}
 use Rattle.dg_index.specs.declared.entry.Entry.{Entry}
 use Rattle.dg_index.specs.declared.entry.Row.{Row}
 use Rattle.dg_index.specs.declared.entry.BatchEntry.{BatchEntry}
-use Rattle.dg_index.specs.OpenedIndex.{Opened, bare, opened_of, opened_onto, with_segment, directory_of, rows_in, list_row, record_row, lengths_of, laid, total, keys_next, event_total}
+use Rattle.dg_index.specs.OpenedIndex.{Opened, bare, opened_in, opened_of, opened_onto, with_marker, with_segment, directory_of, rows_in, list_row, record_row, lengths_of, laid, total, keys_next, event_total}
 use Rattle.dg_index.proofs.OpenedIndexDirectories.{map_last}
 use Rattle.dg_index.proofs.HierarchyCounts.{numbers_length}
 use Rattle.dg_index.proofs.IndexKeyRecords.{exists_held, found}
@@ -35,7 +37,9 @@ use Rattle.dg_index.proofs.HierarchyStability.{leaves_more}
 
 -- the bytes of each column of a record of the history
 abbrev pub lengths_in : History → Key → List ℕ
-lengths_in z k = length (column_in z k column.Structure) ∷ length (column_in z k column.NodeAttr) ∷ length (column_in z k column.EdgeAttr) ∷ []
+lengths_in z k =
+    length (column_in z k column.Structure) ∷ length (column_in z k column.NodeAttr) ∷ length (column_in z k column.EdgeAttr)
+    ∷ length (column_in z k column.Transient) ∷ []
 
 -- the times of a list of the history; another record has none
 abbrev pub ends_in : History → Key → Option Ends
@@ -65,7 +69,7 @@ laid_told z offset [] rows all m t times = tt
 laid_told z offset (k ∷ keys) [] all m t times = tt
 laid_told z offset (k ∷ keys) (r ∷ rows) [] m t times = absurd t
 laid_told z offset (k ∷ keys) (r ∷ rows) (s ∷ all) m t times =
-    let lengths : lengths_of s ≡ lengths_in z k = λ i. length (m.0 column.Structure i) ∷ length (m.0 column.NodeAttr i) ∷ length (m.0 column.EdgeAttr i) ∷ [] in
+    let lengths : lengths_of s ≡ lengths_in z k = λ i. length (m.0 column.Structure i) ∷ length (m.0 column.NodeAttr i) ∷ length (m.0 column.EdgeAttr i) ∷ length (m.0 column.Transient i) ∷ [] in
     ((t.0 ∙ lengths, times.0, times.1), laid_told z (offset + total r.lengths) keys rows all m.1 t.1 times.2)
 
 -- ---- the times of a segment
@@ -128,7 +132,8 @@ module _ (z : History) (pos : 0 < z.params.l) (wide : 0 < z.params.k) where
       let m : ℕ = leaves p (length before) in
       let after : ℕ = leaves p (length before + length b.events) in
       let up : m ≤ after = leaves_more p.l (length before) (length b.events) pos in
-      let offset : ℕ = x.index.used + 16 + length (directory s) in
+      let wide_here : Bool = is_wide x.index.form in
+      let offset : ℕ = x.index.used + 16 + length (directory wide_here s) in
       let keys : List Key = deltas_due p.k m after ++ key.Piece (length front) ∷ [] in
       let whole : events_of z ≡ all ++ events_among more = ap events_among is ∙ flat_map-append (λ (b : Batch). b.events) front (b ∷ more) ∙ sym (append_assoc before b.events (events_among more)) in
       let upto : (m + (after - m)) * p.l ≤ length all =
@@ -141,7 +146,7 @@ module _ (z : History) (pos : 0 < z.params.l) (wide : 0 < z.params.k) where
       let times : Timed z (keys_next x.index (length b.events)) (rows_in (directory_of s)) =
       subst (λ (l : List Key). Timed z l (rows_in (directory_of s))) keys_are
       (timed_lists all (events_among more) whole m (after - m) keys (map record_row s.deltas ++ record_row s.piece ∷ []) upto rest) in
-      let bare_x : Opened = record { index = record { params = x.index.params; batches = x.index.batches; records = []; used = 0 }; names = [] } in
+      let bare_x : Opened = record { index = record { params = x.index.params; form = x.index.form; batches = x.index.batches; records = []; used = 0 }; names = [] } in
       let match : Match z (keys_next x.index (length b.events)) (stored_in s) =
       segment_matches z [] pos wide front b more is bare_x (record { params = so.params; count = so.count; number = so.number; kept = tt }) in
       let events_are : events_among (front ++ b ∷ []) ≡ before ++ b.events = flat_map-append (λ (b : Batch). b.events) front (b ∷ []) ∙ ap (λ (l : List Event). before ++ l) (append-nil b.events) in
@@ -151,20 +156,34 @@ module _ (z : History) (pos : 0 < z.params.l) (wide : 0 < z.params.k) where
         params = so.params;
         count = sum_by_push (λ (b : BatchEntry). b.events) x.index.batches (directory_of s).batch ∙ ap (λ c. c + length b.events) so.count ∙ sym (length-append before b.events) ∙ ap length (sym events_are);
         number = length-append x.index.batches ((directory_of s).batch ∷ []) ∙ ap (λ c. c + 1) so.number ∙ sym (length-append front (b ∷ []));
-        keys = kept_more x (directory_of s) offset (x.index.used + length (segment_bytes s) + 1) so.keys
+        keys = kept_more x (directory_of s) offset (x.index.used + length (segment_bytes wide_here s) + 1) so.keys
             (length-map s.lists list_row ∙ lists ∙ (λ i. leaves (sym so.params i) (sym so.count i + length b.events) - leaves (sym so.params i) (sym so.count i)))
             (length-map s.deltas record_row ∙ deltas ∙ (λ i. length (deltas_due (sym so.params i).k (leaves (sym so.params i) (sym so.count i)) (leaves (sym so.params i) (sym so.count i + length b.events)))));
         told = each_append (IsTold z) x.index.records (laid offset (keys_next x.index (length b.events)) (rows_in (directory_of s))) so.told
             (laid_told z offset (keys_next x.index (length b.events)) (rows_in (directory_of s)) (stored_in s) match (tell s) times);
       }
 
-  all_told : (front batches : List Batch) (x : Opened) → z.batches ≡ front ++ batches → IsToldSoFar z x front → IsToldSoFar z (opened_onto z.params x (events_among front) batches) z.batches
-  all_told front [] x is so = subst (IsToldSoFar z x) (sym (is ∙ append-nil front)) so
-  all_told front (b ∷ more) x is so =
+  all_told : (front batches later : List Batch) (x : Opened) → z.batches ≡ front ++ (batches ++ later) → IsToldSoFar z x front → IsToldSoFar z (opened_onto z.params x (events_among front) batches) (front ++ batches)
+  all_told front [] later x is so = subst (IsToldSoFar z x) (sym (append-nil front)) so
+  all_told front (b ∷ more) later x is so =
       let s : Segment = segment_of z.params (events_among front) b in
       let events_are : events_among (front ++ b ∷ []) ≡ events_among front ++ b.events = flat_map-append (λ (b : Batch). b.events) front (b ∷ []) ∙ ap (λ (l : List Event). events_among front ++ l) (append-nil b.events) in
-      subst (λ (l : List Event). IsToldSoFar z (opened_onto z.params (with_segment x s) l more) z.batches) events_are
-      (all_told (front ++ b ∷ []) more (with_segment x s) (is ∙ sym (append_assoc front (b ∷ []) more)) (told_next x front b more is so))
+      subst (λ (l : List Event). IsToldSoFar z (opened_onto z.params (with_segment x s) l more) (front ++ b ∷ more)) events_are
+      (subst (λ (l : List Batch). IsToldSoFar z (opened_onto z.params (with_segment x s) (events_among (front ++ b ∷ [])) more) l) (append_assoc front (b ∷ []) more)
+      (all_told (front ++ b ∷ []) more later (with_segment x s) (is ∙ sym (append_assoc front (b ∷ []) (more ++ later))) (told_next x front b (more ++ later) is so)))
+
+  form_told : (f : Form) → IsToldSoFar z (opened_in f z.params z.batches) z.batches
+  form_told form.One = all_told [] z.batches [] (bare form.One z.params) (sym (append-nil z.batches)) (record { params = refl; count = refl; number = refl; keys = refl; told = tt })
+  form_told form.Two = all_told [] z.batches [] (bare form.Two z.params) (sym (append-nil z.batches)) (record { params = refl; count = refl; number = refl; keys = refl; told = tt })
+  form_told (form.Upgraded n) =
+      let p : Params = z.params in
+      let xs : List Batch = take n z.batches in
+      let ys : List Batch = drop n z.batches in
+      let whole : z.batches ≡ xs ++ ys = sym (take-append-drop n z.batches) in
+      let so = all_told [] xs ys (bare form.One p) whole (record { params = refl; count = refl; number = refl; keys = refl; told = tt }) in
+      let y : Opened = opened_onto p (bare form.One p) [] xs in
+      subst (IsToldSoFar z (opened_onto p (with_marker y) (events_among xs) ys)) (sym whole)
+      (all_told xs ys [] (with_marker y) (whole ∙ ap (λ (l : List Batch). xs ++ l) (sym (append-nil ys))) (record { params = so.params; count = so.count; number = so.number; keys = so.keys; told = so.told }))
 
 -- ---- what is held at a key
 
@@ -172,7 +191,7 @@ module _ (z : History) (legal : IsLegal z) where
   opened_told : IsToldSoFar z (opened_of z) z.batches
   opened_told =
       let large = large_parameters z.params.l z.params.k legal.parameters in
-      all_told z (omega (arith, large.0)) (omega (arith, large.1)) [] z.batches (bare z.params) refl (record { params = refl; count = refl; number = refl; keys = refl; told = tt })
+      form_told z (omega (arith, large.0)) (omega (arith, large.1)) z.form
 
   -- what is told of a record that is held
   pub told_at : (k : Key) (e : Entry) → lookup (same_key k) (opened_of z).index.records ≡ Some e → IsTold z (k, e)

@@ -1,8 +1,10 @@
 -- The recent pieces by what an index keeps of its batches.
-use Rattle.std.proofs.Common.{◌≡◌, ℕ, zero, suc, ◌+◌, ◌-◌, ◌*◌, ◌<◌, Bool, true, false, cond, ◌==◌, List, [], ◌∷◌, ◌++◌, length, map, refl, sym, ap, ◌∙◌, append_assoc, append-nil, length-append, drop}
+use Rattle.std.proofs.Common.{◌≡◌, ℕ, zero, suc, ◌+◌, ◌-◌, ◌*◌, ◌<◌, Bool, true, false, cond, ◌==◌, List, [], ◌∷◌, ◌++◌, length, map, refl, sym, ap, ◌∙◌, append_assoc, append-nil, length-append, take, drop, take-append-drop}
 use Rattle.std.proofs.lemmas.List.{map-append}
 use Rattle.std.proofs.lemmas.List.Concat.{flat_map-append}
 use Rattle.dg_graph.specs.declared.event.Event.{Event}
+use Rattle.dg_history.specs.declared.form.Form.{Form}
+use Rattle.dg_history.specs.declared.form.Form.TheVariants as form
 use Rattle.dg_history.specs.declared.params.Params.{Params}
 use Rattle.dg_history.specs.History.{first_time_of, History, Batch, events_of, last_time_from}
 use Rattle.dg_history.proofs.LegalHistories.{events_among}
@@ -10,7 +12,7 @@ use Rattle.dg_index.specs.Hierarchy.{leaves}
 use Rattle.dg_index.specs.IndexRecords.{piece_of, piece_at, recent_of}
 use Rattle.dg_index.specs.FileOfHistory.{segment_of}
 use Rattle.dg_index.specs.declared.entry.BatchEntry.{BatchEntry}
-use Rattle.dg_index.specs.OpenedIndex.{Opened, bare, with_segment, opened_onto, opened_of}
+use Rattle.dg_index.specs.OpenedIndex.{Opened, bare, with_marker, with_segment, opened_in, opened_onto, opened_of}
 use Rattle.dg_index.specs.RecentEvents.{recent_pieces, RecentPiece, pieces_ahead}
 use Rattle.dg_index.proofs.IndexRecordColumns.{piece_there}
 use Rattle.dg_index.proofs.RecentEvents.{together, recent_pieces_are}
@@ -22,8 +24,18 @@ batches_onto : (p : Params) (x : Opened) (before : List Event) (batches : List B
 batches_onto p x before [] = sym (append-nil x.index.batches)
 batches_onto p x before (b ∷ batches) = batches_onto p (with_segment x (segment_of p before b)) (before ++ b.events) batches ∙ append_assoc x.index.batches (noted b ∷ []) (map noted batches)
 
+batches_in : (f : Form) (p : Params) (batches : List Batch) → (opened_in f p batches).index.batches ≡ map noted batches
+batches_in form.One p batches = batches_onto p (bare form.One p) [] batches
+batches_in form.Two p batches = batches_onto p (bare form.Two p) [] batches
+batches_in (form.Upgraded n) p batches =
+    let xs : List Batch = take n batches in
+    let ys : List Batch = drop n batches in
+    let x : Opened = opened_onto p (bare form.One p) [] xs in
+    batches_onto p (with_marker x) (events_among xs) ys ∙ ap (λ (l : List BatchEntry). l ++ map noted ys) (batches_onto p (bare form.One p) [] xs)
+    ∙ sym (map-append noted xs ys) ∙ ap (map noted) (take-append-drop n batches)
+
 pub batches_of : (z : History) → (opened_of z).index.batches ≡ map noted z.batches
-batches_of z = batches_onto z.params (bare z.params) [] z.batches
+batches_of z = batches_in z.form z.params z.batches
 
 module _ (z : History) where
   -- the piece that is ahead

@@ -1,11 +1,13 @@
 -- A segment of the index file as one text: the directory, and the columns of lists, deltas and the piece.
-use Rattle.std.specs.Prelude.{codes, ℕ, ◌+◌, ◌-◌, List, [], ◌∷◌, ◌++◌, map, length}
+use Rattle.std.specs.Prelude.{codes, ℕ, ◌+◌, ◌-◌, Bool, true, false, List, [], ◌∷◌, ◌++◌, map, length, take, drop}
 use Rattle.std.specs.List.{flat_map}
 use Rattle.dg_graph.specs.declared.element.Column.TheVariants as column
 use Rattle.dg_graph.specs.declared.event.Event.{Event}
 use Rattle.dg_history.specs.declared.params.Params.{Params}
+use Rattle.dg_history.specs.declared.form.Form.{Form}
+use Rattle.dg_history.specs.declared.form.Form.TheVariants as form
 use Rattle.dg_graph.specs.declared.function.Function.{Function}
-use Rattle.dg_graph.specs.declared.function.Function.TheVariants.{Intersection, Union, Balanced}
+use Rattle.dg_graph.specs.declared.function.Function.TheVariants.{Intersection, Union, Balanced, Skewed}
 use Rattle.dg_graph.specs.Columns.{two, four, eight}
 use Rattle.dg_history.specs.History.{first_time_of, History, Batch, last_time_from}
 use Rattle.dg_index.specs.Hierarchy.{numbers, leaves}
@@ -15,20 +17,39 @@ abbrev pub function_byte : Function → ℕ
 function_byte Intersection = 1
 function_byte Union = 2
 function_byte Balanced = 3
+function_byte (Skewed r) = 4
 
--- the header, its gate open
-abbrev pub header : Params → List ℕ
-header params = 1 ∷ (codes "DGRAPH1" ++ (four params.l ++ (four params.k ++ function_byte params.function ∷ [])))
+-- the share of a skewed function, and 0 of every other
+abbrev pub share_of : Function → ℕ
+share_of Intersection = 0
+share_of Union = 0
+share_of Balanced = 0
+share_of (Skewed r) = r
+
+-- the header of either form, its gate open
+abbrev pub header_one : Params → List ℕ
+header_one params = 1 ∷ (codes "DGRAPH1" ++ (four params.l ++ (four params.k ++ function_byte params.function ∷ [])))
+
+abbrev pub header_two : Params → List ℕ
+header_two params =
+    1 ∷ (codes "DGRAPH2" ++ (four params.l ++ (two (share_of params.function) ++ (two params.k ++ function_byte params.function ∷ []))))
+
+-- a file that is upgraded keeps its header
+abbrev pub header : Form → Params → List ℕ
+header form.One params = header_one params
+header (form.Upgraded b) params = header_one params
+header form.Two params = header_two params
 
 -- a name behind its length
 abbrev pub name_bytes : List ℕ → List ℕ
 name_bytes text = two (length text) ++ text
 
--- the three columns of a record
+-- the four columns of a record
 pub record Stored : Type 0 where
   pub structure : List ℕ
   pub node_attrs : List ℕ
   pub edge_attrs : List ℕ
+  pub transient : List ℕ
 
 -- a closed list, with the times of its first and of its last event
 pub record StoredList : Type 0 where
@@ -48,22 +69,25 @@ pub record Segment : Type 0 where
   pub piece : Stored
 
 abbrev pub bytes_of : Stored → List ℕ
-bytes_of s = s.structure ++ (s.node_attrs ++ s.edge_attrs)
+bytes_of s = s.structure ++ (s.node_attrs ++ (s.edge_attrs ++ s.transient))
 
--- the lengths of three columns, as they stand in a directory
-abbrev pub lengths_bytes : Stored → List ℕ
-lengths_bytes s = eight (length s.structure) ++ (eight (length s.node_attrs) ++ eight (length s.edge_attrs))
+-- the lengths of the columns, as they stand in a directory: in the second form the messages are among them
+abbrev pub lengths_bytes : Bool → Stored → List ℕ
+lengths_bytes false s = eight (length s.structure) ++ (eight (length s.node_attrs) ++ eight (length s.edge_attrs))
+lengths_bytes true s =
+    eight (length s.structure) ++ (eight (length s.node_attrs) ++ (eight (length s.edge_attrs) ++ eight (length s.transient)))
 
-abbrev pub list_bytes : StoredList → List ℕ
-list_bytes x = eight x.first ++ (eight x.last ++ lengths_bytes x.columns)
+abbrev pub list_bytes : Bool → StoredList → List ℕ
+list_bytes wide x = eight x.first ++ (eight x.last ++ lengths_bytes wide x.columns)
 
-abbrev pub directory : Segment → List ℕ
-directory s =
+-- the directory, in the second form or in the first
+abbrev pub directory : Bool → Segment → List ℕ
+directory wide s =
     eight s.events ++ (eight s.first ++ (eight s.last
     ++ (four (length s.names) ++ (flat_map name_bytes s.names
-    ++ (four (length s.lists) ++ (flat_map list_bytes s.lists
-    ++ (four (length s.deltas) ++ (flat_map lengths_bytes s.deltas
-    ++ lengths_bytes s.piece))))))))
+    ++ (four (length s.lists) ++ (flat_map (list_bytes wide) s.lists
+    ++ (four (length s.deltas) ++ (flat_map (lengths_bytes wide) s.deltas
+    ++ lengths_bytes wide s.piece))))))))
 
 -- the columns of all records, in the order of the directory
 abbrev pub stored_in : Segment → List Stored
@@ -73,8 +97,8 @@ abbrev pub blobs : Segment → List ℕ
 blobs s = flat_map bytes_of (stored_in s)
 
 -- a segment in front of its columns: the lengths of the directory and of the columns, and the directory
-abbrev pub head_of : Segment → List ℕ
-head_of s = eight (length (directory s)) ++ (eight (length (blobs s)) ++ directory s)
+abbrev pub head_of : Bool → Segment → List ℕ
+head_of wide s = eight (length (directory wide s)) ++ (eight (length (blobs s)) ++ directory wide s)
 
 -- the columns of lists, one record behind another
 abbrev pub list_blobs : List StoredList → List ℕ
@@ -85,8 +109,12 @@ abbrev pub delta_blobs : List Stored → List ℕ
 delta_blobs deltas = flat_map bytes_of deltas
 
 -- a segment as its bytes, without the gates
-abbrev pub segment_bytes : Segment → List ℕ
-segment_bytes s = eight (length (directory s)) ++ (eight (length (blobs s)) ++ (directory s ++ blobs s))
+abbrev pub segment_bytes : Bool → Segment → List ℕ
+segment_bytes wide s = eight (length (directory wide s)) ++ (eight (length (blobs s)) ++ (directory wide s ++ blobs s))
+
+-- The segment behind which a file goes on in the second form: a directory of one number, no event, and no columns.
+abbrev pub marker : List ℕ
+marker = eight 8 ++ (eight 0 ++ eight 0)
 
 -- ---- the segment of a batch behind these events
 
@@ -95,6 +123,7 @@ stored r = record {
   structure = column_of_record column.Structure r;
   node_attrs = column_of_record column.NodeAttr r;
   edge_attrs = column_of_record column.EdgeAttr r;
+  transient = column_of_record column.Transient r;
 }
 
 abbrev pub stored_list : Params → List Event → ℕ → StoredList
@@ -120,12 +149,21 @@ segment_of p before b =
     }
 
 -- the segments of batches behind these events, each behind an open gate
-abbrev pub segments_from : Params → List Event → List Batch → List ℕ
-segments_from p before [] = []
-segments_from p before (b ∷ batches) = 1 ∷ (segment_bytes (segment_of p before b) ++ segments_from p (before ++ b.events) batches)
+abbrev pub segments_from : Bool → Params → List Event → List Batch → List ℕ
+segments_from wide p before [] = []
+segments_from wide p before (b ∷ batches) =
+    1 ∷ (segment_bytes wide (segment_of p before b) ++ segments_from wide p (before ++ b.events) batches)
+
+-- the segments of all batches, and the marker behind those that are in the first form
+abbrev pub segments_in : Form → Params → List Batch → List ℕ
+segments_in form.One p batches = segments_from false p [] batches
+segments_in (form.Upgraded b) p batches =
+    segments_from false p [] (take b batches)
+    ++ (1 ∷ (marker ++ segments_from true p (flat_map (λ (b : Batch). b.events) (take b batches)) (drop b batches)))
+segments_in form.Two p batches = segments_from true p [] batches
 
 abbrev pub file : History → List ℕ
-file z = header z.params ++ segments_from z.params [] z.batches
+file z = header z.form z.params ++ segments_in z.form z.params z.batches
 
 -- the bytes of the file, with the closed gate behind it
 abbrev pub size : History → ℕ

@@ -72,9 +72,16 @@ record_among p events batches (key.Piece s) = Events (piece_at p [] batches s)
 record_among p events batches (key.Top h) = Exact (between [] (set_at p events h 1))
 record_among p events batches (key.Down h c) = Exact (between (set_at p events h (parent p.k c)) (set_at p events (h - 1) c))
 
+-- the column of a delta: no delta has messages
+abbrev pub exact_column : Column → Delta → List ℕ
+exact_column column.Structure d = delta_column column.Structure d
+exact_column column.NodeAttr d = delta_column column.NodeAttr d
+exact_column column.EdgeAttr d = delta_column column.EdgeAttr d
+exact_column column.Transient d = []
+
 abbrev pub column_of_record : Column → Record → List ℕ
 column_of_record col (Events events) = events_column col events
-column_of_record col (Exact d) = delta_column col d
+column_of_record col (Exact d) = exact_column col d
 
 -- the column of a record of the history
 abbrev pub column_in : History → Key → Column → List ℕ

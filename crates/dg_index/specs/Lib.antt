@@ -1,5 +1,6 @@
 pub mod Hierarchy
 pub mod IndexRecords
+pub mod HeardLists
 pub mod ImageText
 pub mod FileOfHistory
 pub mod OpenedIndex

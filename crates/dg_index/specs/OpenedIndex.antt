@@ -1,5 +1,6 @@
 -- What an image of the index file is opened as, by its header and the directories of its segments.
-use Rattle.std.specs.Prelude.{◌≡◌, ◌<◌, ◌^◌, ℕ, zero, suc, ◌+◌, ◌-◌, ◌*◌, Bool, true, ◌&&◌, ◌==◌, not, List, [], ◌∷◌, ◌++◌, Option, Some, None, Result, Ok, Err, if◌then◌else◌, length, map, take, drop, nat_le, nat_lt, option_and_then, slice_index, sum_by}
+use Rattle.std.specs.Prelude.{◌≡◌, ◌<◌, ◌^◌, ℕ, zero, suc, ◌+◌, ◌-◌, ◌*◌, Bool, true, false, ◌&&◌, ◌==◌, not, List, [], ◌∷◌, ◌++◌, Option, Some, None, Result, Ok, Err, if◌then◌else◌, length, map, take, drop, nat_le, nat_lt, option_and_then, slice_index, sum_by}
+use Rattle.std.specs.List.{flat_map, list_all}
 use Rattle.std.specs.Map.{lookup}
 use Rattle.dg_graph.specs.declared.element.Column.{Column}
 use Rattle.dg_graph.specs.declared.element.Column.TheVariants as column
@@ -10,18 +11,20 @@ use Rattle.dg_history.specs.declared.limits.TheConstants.{BATCH_LINES_MAX, EVENT
 use Rattle.dg_history.specs.declared.node.Key.{Key}
 use Rattle.dg_history.specs.declared.node.Key.TheVariants as key
 use Rattle.dg_history.specs.declared.params.Params.{Params}
-use Rattle.dg_history.specs.History.{History, Batch}
+use Rattle.dg_history.specs.declared.form.Form.{Form}
+use Rattle.dg_history.specs.declared.form.Form.TheVariants as form
+use Rattle.dg_history.specs.History.{History, Batch, is_wide}
 use Rattle.dg_history.specs.Keys.{same_key}
 use Rattle.dg_index.specs.ImageOfHistory.{is_blank}
 use Rattle.dg_text.specs.Names.{are_new}
-use Rattle.dg_index.specs.ImageText.{four_at, eight_at, params_in, names_at, gate_behind, is_within}
+use Rattle.dg_index.specs.ImageText.{four_at, eight_at, names_at, gate_behind, is_within, Header, header_in, is_marker}
 use Rattle.dg_index.specs.declared.entry.Ends.{Ends}
 use Rattle.dg_index.specs.declared.entry.Entry.{Entry}
 use Rattle.dg_index.specs.declared.entry.Row.{Row}
 use Rattle.dg_index.specs.declared.entry.BatchEntry.{BatchEntry}
 use Rattle.dg_index.specs.Hierarchy.{leaves}
 use Rattle.dg_index.specs.IndexRecords.{lists_due, deltas_due}
-use Rattle.dg_index.specs.FileOfHistory.{Stored, StoredList, Segment, directory, segment_bytes, segment_of, size}
+use Rattle.dg_index.specs.FileOfHistory.{Stored, StoredList, Segment, directory, marker, segment_bytes, segment_of, size, stored_in}
 
 -- why an image is not opened
 pub data Unopened : Type 0 where
@@ -29,10 +32,11 @@ pub data Unopened : Type 0 where
   Not_ours : Unopened
   Damaged_at : ℕ → Unopened
 
--- What an index keeps of an image: the parameters, the batches, the records in the order of the file, and
--- the offset behind the gate that closes it.
+-- What an index keeps of an image: the parameters, the form, the batches, the records in the order of the file,
+-- and the offset behind the gate that closes it.
 pub record Opening : Type 0 where
   pub params : Params
+  pub form : Form
   pub batches : List BatchEntry
   pub records : List (Key × Entry)
   pub used : ℕ
@@ -99,14 +103,25 @@ keys_next o events =
 
 -- ---- reading a directory
 
-abbrev pub lengths_at : List ℕ → ℕ → List ℕ
-lengths_at bytes at = eight_at bytes at ∷ eight_at bytes (at + 8) ∷ eight_at bytes (at + 16) ∷ []
+-- the bytes of the lengths of a record, and of the row of a list
+abbrev pub lengths_size : Bool → ℕ
+lengths_size false = 24
+lengths_size true = 32
 
-abbrev pub list_at : List ℕ → ℕ → Row
-list_at bytes at = record { ends = Some (record { first = eight_at bytes at; last = eight_at bytes (at + 8) }); lengths = lengths_at bytes (at + 16) }
+abbrev pub list_size : Bool → ℕ
+list_size false = 40
+list_size true = 48
 
-abbrev pub record_at : List ℕ → ℕ → Row
-record_at bytes at = record { ends = None; lengths = lengths_at bytes at }
+-- the lengths of the columns; in the first form there are no messages
+abbrev pub lengths_at : Bool → List ℕ → ℕ → List ℕ
+lengths_at false bytes at = eight_at bytes at ∷ eight_at bytes (at + 8) ∷ eight_at bytes (at + 16) ∷ 0 ∷ []
+lengths_at true bytes at = eight_at bytes at ∷ eight_at bytes (at + 8) ∷ eight_at bytes (at + 16) ∷ eight_at bytes (at + 24) ∷ []
+
+abbrev pub list_at : Bool → List ℕ → ℕ → Row
+list_at wide bytes at = record { ends = Some (record { first = eight_at bytes at; last = eight_at bytes (at + 8) }); lengths = lengths_at wide bytes (at + 16) }
+
+abbrev pub record_at : Bool → List ℕ → ℕ → Row
+record_at wide bytes at = record { ends = None; lengths = lengths_at wide bytes at }
 
 -- so many rows of so many bytes, one behind another from the offset on
 abbrev pub rows_at : (List ℕ → ℕ → Row) → ℕ → ℕ → List ℕ → ℕ → List Row
@@ -114,10 +129,10 @@ rows_at row size zero bytes at = []
 rows_at row size (suc count) bytes at = row bytes at ∷ rows_at row size count bytes (at + size)
 
 -- What a directory says that has so many lists and deltas: behind the names, their number and a row for each.
-abbrev pub directory_with : ℕ → ℕ → List ℕ → List (List ℕ) × ℕ → Option Directory
-directory_with lists deltas bytes names =
-    if length bytes == names.1 + 32 + 40 * lists + 24 * deltas
-    && (four_at bytes names.1 == lists && four_at bytes (names.1 + 4 + 40 * lists) == deltas)
+abbrev pub directory_with : Bool → ℕ → ℕ → List ℕ → List (List ℕ) × ℕ → Option Directory
+directory_with wide lists deltas bytes names =
+    if length bytes == names.1 + 8 + list_size wide * lists + lengths_size wide * deltas + lengths_size wide
+    && (four_at bytes names.1 == lists && four_at bytes (names.1 + 4 + list_size wide * lists) == deltas)
     then Some (record {
       batch = record {
         events = eight_at bytes 0;
@@ -125,9 +140,9 @@ directory_with lists deltas bytes names =
         names = length names.0;
       };
       names = names.0;
-      lists = rows_at list_at 40 lists bytes (names.1 + 4);
-      deltas = rows_at record_at 24 deltas bytes (names.1 + 8 + 40 * lists);
-      piece = record_at bytes (names.1 + 8 + 40 * lists + 24 * deltas);
+      lists = rows_at (list_at wide) (list_size wide) lists bytes (names.1 + 4);
+      deltas = rows_at (record_at wide) (lengths_size wide) deltas bytes (names.1 + 8 + list_size wide * lists);
+      piece = record_at wide bytes (names.1 + 8 + list_size wide * lists + lengths_size wide * deltas);
     })
     else None
 
@@ -135,10 +150,10 @@ directory_with lists deltas bytes names =
 abbrev pub directory_in : Opening → List ℕ → Option Directory
 directory_in o bytes =
     if nat_lt (length bytes) 28 then None
-    else option_and_then (directory_with (list_count o (eight_at bytes 0)) (delta_count o (eight_at bytes 0)) bytes) (names_at (four_at bytes 24) bytes 28)
+    else option_and_then (directory_with (is_wide o.form) (list_count o (eight_at bytes 0)) (delta_count o (eight_at bytes 0)) bytes) (names_at (four_at bytes 24) bytes 28)
 
 abbrev pub total : List ℕ → ℕ
-total lengths = slice_index lengths 0 + slice_index lengths 1 + slice_index lengths 2
+total lengths = slice_index lengths 0 + slice_index lengths 1 + slice_index lengths 2 + slice_index lengths 3
 
 abbrev pub rows_in : Directory → List Row
 rows_in d = d.lists ++ (d.deltas ++ d.piece ∷ [])
@@ -151,8 +166,8 @@ may_follow count earliest b =
     && (nat_le (count + b.events) EVENTS_MAX
     && (nat_le earliest b.ends.first && (nat_le b.ends.first b.ends.last && nat_le b.ends.last TIME_MAX))))
 
--- the most bytes that the columns of a list take together, which has so many events: a count in front of each column, and
--- each event in one of them
+-- The most bytes that the columns of a list take together, which has so many events: three counts in front of columns, and
+-- each event in one of them. A message is six bytes smaller than the largest event, more than the count of its column.
 abbrev pub list_bytes_max : ℕ → ℕ
 list_bytes_max events = 12 + 36 * events
 
@@ -171,13 +186,18 @@ may_be_listed most first last (r ∷ rows) = within most first last (total r.len
 abbrev pub may_be_named : List (List ℕ) → List (List ℕ) → Bool
 may_be_named names new = are_new names new && nat_le (length names + length new) NAMES_MAX
 
+-- no delta has messages
+abbrev pub are_unheard : List Row → Bool
+are_unheard deltas = list_all (λ (r : Row). slice_index r.lengths 3 == 0) deltas
+
 -- the directory may stand behind what is opened so far, before so many bytes of columns
 abbrev pub may_stand : Opened → ℕ → Directory → Bool
 may_stand x columns d =
     sum_by (λ (r : Row). total r.lengths) (rows_in d) == columns
     && (may_follow (event_total x.index.batches) (earliest_in 0 x.index.batches) d.batch
     && (may_be_named x.names d.names
-    && may_be_listed (list_bytes_max x.index.params.l) (last_list (first_in d.batch.ends.first x.index.batches) x.index.records) d.batch.ends.last d.lists))
+    && (may_be_listed (list_bytes_max x.index.params.l) (last_list (first_in d.batch.ends.first x.index.batches) x.index.records) d.batch.ends.last d.lists
+    && are_unheard d.deltas)))
 
 abbrev pub if_it_may : Bool → Directory → Option Directory
 if_it_may may d = if may then Some d else None
@@ -205,12 +225,30 @@ abbrev pub with_directory : Opened → Directory → ℕ → ℕ → Opened
 with_directory x d offset used = record {
   index = record {
     params = x.index.params;
+    form = x.index.form;
     batches = x.index.batches ++ d.batch ∷ [];
     records = x.index.records ++ laid offset (keys_next x.index d.batch.events) (rows_in d);
     used = used;
   };
   names = x.names ++ d.names;
 }
+
+-- with the marker, and behind its closed gate
+abbrev pub with_marker : Opened → Opened
+with_marker x = record {
+  index = record {
+    params = x.index.params;
+    form = form.Upgraded (length x.index.batches);
+    batches = x.index.batches;
+    records = x.index.records;
+    used = x.index.used + length marker + 1;
+  };
+  names = x.names;
+}
+
+-- a marker stands behind what is opened so far, and may stand there: the first form still holds
+abbrev pub is_marked : Opened → List ℕ → Bool
+is_marked x image = not (is_wide x.index.form) && (is_within image x.index.used && is_marker image x.index.used)
 
 abbrev pub go_on_with : List ℕ → Opened → (Opened → Result Opened ℕ) → Option Directory → Result Opened ℕ
 go_on_with image x more None = Err x.index.used
@@ -223,28 +261,29 @@ abbrev pub read_on : ℕ → List ℕ → Opened → Result Opened ℕ
 read_on zero image x = Ok x
 read_on (suc k) image x =
     if not (slice_index image (x.index.used - 1) == 1) then Ok x
-    else go_on_with image x (read_on k image) (directory_next x image)
+    else (if is_marked x image then read_on k image (with_marker x)
+    else go_on_with image x (read_on k image) (directory_next x image))
 
 -- an index without a batch
-abbrev pub bare : Params → Opened
-bare params = record { index = record { params = params; batches = []; records = []; used = 18 }; names = [] }
+abbrev pub bare : Form → Params → Opened
+bare form params = record { index = record { params = params; form = form; batches = []; records = []; used = 18 }; names = [] }
 
 abbrev pub opened_or : Result Opened ℕ → Result Opened Unopened
 opened_or (Ok x) = Ok x
 opened_or (Err offset) = Err (Damaged_at offset)
 
-abbrev pub opened_by : List ℕ → Option Params → Result Opened Unopened
+abbrev pub opened_by : List ℕ → Option Header → Result Opened Unopened
 opened_by image None = Err Not_ours
-opened_by image (Some params) = opened_or (read_on (length image) image (bare params))
+opened_by image (Some h) = opened_or (read_on (length image) image (bare h.form h.params))
 
 -- what the image is opened as, or why it is not
 abbrev pub opening : List ℕ → Result Opened Unopened
-opening image = if is_blank image then Err No_index else opened_by image (params_in image)
+opening image = if is_blank image then Err No_index else opened_by image (header_in image)
 
 -- ---- what a history is opened as
 
 abbrev pub lengths_of : Stored → List ℕ
-lengths_of s = length s.structure ∷ length s.node_attrs ∷ length s.edge_attrs ∷ []
+lengths_of s = length s.structure ∷ length s.node_attrs ∷ length s.edge_attrs ∷ length s.transient ∷ []
 
 abbrev pub list_row : StoredList → Row
 list_row x = record { ends = Some (record { first = x.first; last = x.last }); lengths = lengths_of x.columns }
@@ -265,29 +304,43 @@ directory_of s = record {
 -- what is opened with the segment behind it
 abbrev pub with_segment : Opened → Segment → Opened
 with_segment x s =
-    with_directory x (directory_of s) (x.index.used + 16 + length (directory s)) (x.index.used + length (segment_bytes s) + 1)
+    with_directory x (directory_of s) (x.index.used + 16 + length (directory (is_wide x.index.form) s)) (x.index.used + length (segment_bytes (is_wide x.index.form) s) + 1)
 
 abbrev pub opened_onto : Params → Opened → List Event → List Batch → Opened
 opened_onto p x before [] = x
 opened_onto p x before (b ∷ batches) = opened_onto p (with_segment x (segment_of p before b)) (before ++ b.events) batches
 
+-- what is opened with all batches, and with the marker behind those that are in the first form
+abbrev pub opened_in : Form → Params → List Batch → Opened
+opened_in form.One p batches = opened_onto p (bare form.One p) [] batches
+opened_in (form.Upgraded b) p batches =
+    opened_onto p (with_marker (opened_onto p (bare form.One p) [] (take b batches))) (flat_map (λ (b : Batch). b.events) (take b batches)) (drop b batches)
+opened_in form.Two p batches = opened_onto p (bare form.Two p) [] batches
+
 -- what an image of the history is opened as
 abbrev pub opened_of : History → Opened
-opened_of z = opened_onto z.params (bare z.params) [] z.batches
+opened_of z = opened_in z.form z.params z.batches
 
 -- the bytes of a column, by what an index keeps of its record
 abbrev pub column_at : List ℕ → Entry → Column → List ℕ
 column_at image e column.Structure = take (slice_index e.lengths 0) (drop e.offset image)
 column_at image e column.NodeAttr = take (slice_index e.lengths 1) (drop (e.offset + slice_index e.lengths 0) image)
 column_at image e column.EdgeAttr = take (slice_index e.lengths 2) (drop (e.offset + slice_index e.lengths 0 + slice_index e.lengths 1) image)
+column_at image e column.Transient =
+    take (slice_index e.lengths 3) (drop (e.offset + slice_index e.lengths 0 + slice_index e.lengths 1 + slice_index e.lengths 2) image)
 
 abbrev pub entry_or_none : Option Entry → Entry
 entry_or_none (Some e) = e
-entry_or_none None = record { lengths = 0 ∷ 0 ∷ 0 ∷ []; offset = 0; ends = None }
+entry_or_none None = record { lengths = 0 ∷ 0 ∷ 0 ∷ 0 ∷ []; offset = 0; ends = None }
 
 -- what the index keeps of a record
 abbrev pub entry_at : Opening → Key → Entry
 entry_at o k = entry_or_none (lookup (same_key k) o.records)
+
+-- none of the records has messages
+abbrev pub AreUnheard : List Stored → Type 0
+AreUnheard [] = Unit {0}
+AreUnheard (s ∷ more) = (s.transient ≡ []) × AreUnheard more
 
 -- a segment that may stand behind what is opened so far
 pub record MayStand (x : Opened) (s : Segment) : Type 0 where
@@ -298,3 +351,5 @@ pub record MayStand (x : Opened) (s : Segment) : Type 0 where
   pub follows : may_follow (event_total x.index.batches) (earliest_in 0 x.index.batches) (directory_of s).batch ≡ true
   pub named : may_be_named x.names s.names ≡ true
   pub listed : may_be_listed (list_bytes_max x.index.params.l) (last_list (first_in s.first x.index.batches) x.index.records) s.last (map list_row s.lists) ≡ true
+  pub deltas_unheard : AreUnheard s.deltas
+  pub unheard : is_wide x.index.form ≡ false → AreUnheard (stored_in s)

@@ -8,12 +8,12 @@ pub struct Ends {
     pub last: u64,
 }
 
-/// What an index keeps of one record. Its three columns stand one after another: structure, attributes
-/// of nodes, attributes of edges.
+/// What an index keeps of one record. Its four columns stand one after another: structure, attributes of
+/// nodes, attributes of edges, messages.
 #[derive(Clone, Copy)]
 pub struct Entry {
     /// The bytes of each column, in their order.
-    pub lengths: [u64; 3],
+    pub lengths: [u64; 4],
     /// The byte of the file at which the first column begins.
     pub offset: u64,
     /// The instants of a list of events, and `None` for every other record.
@@ -26,7 +26,7 @@ pub struct Row {
     /// The instants of a list of events, and `None` for every other record.
     pub ends: Option<Ends>,
     /// The bytes of each column, in their order.
-    pub lengths: [u64; 3],
+    pub lengths: [u64; 4],
 }
 
 /// What an index keeps of a batch, without its events.

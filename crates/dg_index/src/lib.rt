@@ -7,5 +7,6 @@ mod laws;
 
 pub use entry::{BatchEntry, Ends, Entry, Row};
 pub use laws::{
-    law_batches_are_added, law_columns_are_kept, law_files_grow, law_images_are_opened,
+    law_batches_are_added, law_columns_are_kept, law_files_grow, law_files_upgrade,
+    law_images_are_opened, law_upgrades_are_added,
 };

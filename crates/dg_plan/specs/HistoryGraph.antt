@@ -18,7 +18,7 @@ ground_of_history z cols = record {
 
 -- structure, and the attributes of nodes and of edges
 abbrev pub all_columns : Columns
-all_columns = record { nodes_attr = true; edges_attr = true }
+all_columns = record { nodes_attr = true; edges_attr = true; transient = true }
 
 -- the graph of the records of a history alone, without what is in memory
 abbrev pub ground_of_records : History → Columns → Ground

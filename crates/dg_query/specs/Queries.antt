@@ -1,7 +1,7 @@
 -- What is asked of a graph, as functions of the set of its elements.
 use Rattle.std.specs.Prelude.{ℕ, ◌==◌, Bool, true, false, if◌then◌else◌, List, [], ◌∷◌, Option, Some, None, count_by, length, filter_map}
 use Rattle.dg_graph.specs.declared.element.Element.{Element}
-use Rattle.dg_graph.specs.declared.element.Element.TheVariants.{Node, Edge, NodeAttr, EdgeAttr}
+use Rattle.dg_graph.specs.declared.element.Element.TheVariants.{Node, Edge, NodeAttr, EdgeAttr, Message}
 use Rattle.dg_query.specs.declared.answers.Counts.{Counts}
 use Rattle.dg_query.specs.declared.answers.KeyValue.{KeyValue}
 use Rattle.dg_query.specs.declared.answers.Neighbour.{Neighbour}
@@ -12,27 +12,23 @@ use Rattle.dg_query.specs.declared.answers.Side.TheVariants as side
 
 abbrev pub is_a_node : Element → Bool
 is_a_node (Node id) = true
-is_a_node (Edge id src dst directed) = false
-is_a_node (NodeAttr id key value) = false
-is_a_node (EdgeAttr id key value) = false
+is_a_node _ = false
 
 abbrev pub is_an_edge : Element → Bool
-is_an_edge (Node id) = false
 is_an_edge (Edge id src dst directed) = true
-is_an_edge (NodeAttr id key value) = false
-is_an_edge (EdgeAttr id key value) = false
+is_an_edge _ = false
 
 abbrev pub is_a_node_attr : Element → Bool
-is_a_node_attr (Node id) = false
-is_a_node_attr (Edge id src dst directed) = false
 is_a_node_attr (NodeAttr id key value) = true
-is_a_node_attr (EdgeAttr id key value) = false
+is_a_node_attr _ = false
 
 abbrev pub is_an_edge_attr : Element → Bool
-is_an_edge_attr (Node id) = false
-is_an_edge_attr (Edge id src dst directed) = false
-is_an_edge_attr (NodeAttr id key value) = false
 is_an_edge_attr (EdgeAttr id key value) = true
+is_an_edge_attr _ = false
+
+abbrev pub is_a_message : Element → Bool
+is_a_message (Message src dst value) = true
+is_a_message _ = false
 
 -- how many elements of each kind the set has
 abbrev pub counts_of : List Element → Counts
@@ -41,6 +37,7 @@ counts_of set = record {
   edges = count_by is_an_edge set;
   node_attrs = count_by is_a_node_attr set;
   edge_attrs = count_by is_an_edge_attr set;
+  messages = count_by is_a_message set;
 }
 
 -- ---- edges at a node
@@ -52,12 +49,10 @@ side_as directed s = if directed then s else side.Both
 -- The edge at the node, if the element is one: its other end, and the side on which it lies. A loop is one
 -- edge at its node.
 abbrev pub edge_at : ℕ → Element → Option Neighbour
-edge_at n (Node id) = None
 edge_at n (Edge id src dst directed) =
     if src == n then Some (record { edge = id; node = dst; side = side_as directed side.Out })
     else (if dst == n then Some (record { edge = id; node = src; side = side_as directed side.Inward }) else None)
-edge_at n (NodeAttr id key value) = None
-edge_at n (EdgeAttr id key value) = None
+edge_at n _ = None
 
 -- the edges at a node, by their ids
 abbrev pub neighbours_of : List Element → ℕ → List Neighbour
@@ -71,10 +66,8 @@ degree_of set n = length (neighbours_of set n)
 
 -- the key and the value, if the element is an attribute of the node
 abbrev pub value_at : ℕ → Element → Option KeyValue
-value_at n (Node id) = None
-value_at n (Edge id src dst directed) = None
 value_at n (NodeAttr id key value) = if id == n then Some (record { key = key; value = value }) else None
-value_at n (EdgeAttr id key value) = None
+value_at n _ = None
 
 -- the attributes of a node, by key and then by value
 abbrev pub values_of : List Element → ℕ → List KeyValue

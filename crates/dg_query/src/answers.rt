@@ -11,6 +11,8 @@ pub struct Counts {
     pub node_attrs: u64,
     /// Values of keys at edges.
     pub edge_attrs: u64,
+    /// Messages.
+    pub messages: u64,
 }
 
 /// An attribute of a node: the numbers of a key and of its value in the history's list of names.

@@ -3,8 +3,9 @@ use Rattle.std.specs.Prelude.{None, codes, ◌≡◌, ℕ, ◌+◌, List, [], �
 use Rattle.dg_graph.specs.declared.element.Column.TheVariants as column
 use Rattle.dg_graph.specs.declared.event.Body.TheVariants as body
 use Rattle.dg_graph.specs.declared.function.Function.TheVariants.{Intersection}
+use Rattle.dg_history.specs.declared.form.Form.TheVariants as form
 use Rattle.dg_history.specs.declared.node.Key.TheVariants as key
-use Rattle.dg_history.specs.History.{History, with_batch}
+use Rattle.dg_history.specs.History.{History, with_batch, with_upgrade}
 use Rattle.dg_index.specs.FileOfHistory.{file}
 use Rattle.dg_index.specs.OpenedIndex.{Opened, Unopened, opening, opened_of}
 use Rattle.dg_sound.specs.declared.soundness.Soundness.{Soundness}
@@ -15,6 +16,7 @@ use Rattle.dg_sound.specs.Soundness.{own_history, soundness_of}
 p : History
 p = record {
   params = record { l = 2; k = 2; function = Intersection };
+  form = form.One;
   batches = record {
     names = codes "name" ∷ codes "A" ∷ [];
     events =
@@ -97,3 +99,36 @@ longer_sound = refl
 other_piece : answer (changed longer 494 0) ≡ Some (Unsound (key.Piece 0) column.Structure)
 unfolding longer p image_of changed answer answered
 other_piece = refl
+
+-- ---- the second form
+
+upgraded_sound : answer (image_of (with_upgrade p)) ≡ Some (Sound 5)
+unfolding p image_of answer answered
+upgraded_sound = refl
+
+upgraded_own : own_history (image_of (with_upgrade p)) (opened_of (with_upgrade p)) ≡ Some (with_upgrade p)
+unfolding p image_of
+upgraded_own = refl
+
+-- two nodes, and then a message twice
+heard : History
+heard = record {
+  params = record { l = 2; k = 2; function = Intersection };
+  form = form.Two;
+  batches = record {
+    names = codes "hi" ∷ codes "yo" ∷ [];
+    events =
+        record { time = 10; body = body.NodeAdded 1 }
+        ∷ record { time = 10; body = body.NodeAdded 2 }
+        ∷ record { time = 20; body = body.Message 1 2 0 }
+        ∷ record { time = 20; body = body.Message 1 2 1 } ∷ [];
+  } ∷ [];
+}
+
+heard_sound : answer (image_of heard) ≡ Some (Sound 5)
+unfolding heard image_of answer answered
+heard_sound = refl
+
+heard_own : own_history (image_of heard) (opened_of heard) ≡ Some heard
+unfolding heard image_of
+heard_own = refl

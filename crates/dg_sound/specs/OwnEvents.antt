@@ -45,7 +45,8 @@ abbrev pub events_of_record : List ℕ → Opened → Key → ℕ → Result (Li
 events_of_record image x k count =
     and_own (placed_in_column image x k column.Structure) (λ a.
     and_own (placed_in_column image x k column.NodeAttr) (λ b.
-    and_own (placed_in_column image x k column.EdgeAttr) (λ c. merged_or (merged a b c count))))
+    and_own (placed_in_column image x k column.EdgeAttr) (λ c.
+    and_own (placed_in_column image x k column.Transient) (λ d. merged_or (merged a b c d count)))))
 
 -- ---- what is asked of events
 
@@ -120,11 +121,13 @@ has_batch_ends count b events = are_ends b.ends (take b.events (drop count event
 abbrev pub is_column_of : List ℕ → Opened → Key → List Event → Column → Bool
 is_column_of image x k events col = bytes_eq (column_at image (entry_at x.index k) col) (events_column col events)
 
-abbrev pub if_columns : Bool → Bool → Bool → Key → List Event → Result (List Event) (Key × Column)
-if_columns structure node_attr edge_attr k events =
+abbrev pub if_columns : Bool → Bool → Bool → Bool → Key → List Event → Result (List Event) (Key × Column)
+if_columns structure node_attr edge_attr transient k events =
     if structure
     then (if node_attr
-    then (if edge_attr then Ok events else Err (k, column.EdgeAttr))
+    then (if edge_attr
+    then (if transient then Ok events else Err (k, column.Transient))
+    else Err (k, column.EdgeAttr))
     else Err (k, column.NodeAttr))
     else Err (k, column.Structure)
 
@@ -134,7 +137,8 @@ with_older image x before number count b =
     let k = key.Piece number in
     let events = take (piece_length x.index count b) (drop (piece_start x.index count b) before) in
     if_columns (is_column_of image x k events column.Structure && has_batch_ends count b before)
-    (is_column_of image x k events column.NodeAttr) (is_column_of image x k events column.EdgeAttr) k before
+    (is_column_of image x k events column.NodeAttr) (is_column_of image x k events column.EdgeAttr)
+    (is_column_of image x k events column.Transient) k before
 
 -- the events with those of a recent piece behind them
 abbrev pub with_recent : List ℕ → Opened → List Event → ℕ → ℕ → BatchEntry → Result (List Event) (Key × Column)

@@ -77,7 +77,7 @@ own_batches names events (b ∷ more) =
     ∷ own_batches (drop b.names names) (drop b.events events) more
 
 abbrev pub history_of : Opened → List Event → History
-history_of x events = record { params = x.index.params; batches = own_batches x.names events x.index.batches }
+history_of x events = record { params = x.index.params; form = x.index.form; batches = own_batches x.names events x.index.batches }
 
 abbrev pub if_read : Opened → Result (List Event) (Key × Column) → Option History
 if_read x (Err wrong) = None
