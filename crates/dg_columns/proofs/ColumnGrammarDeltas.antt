@@ -6,7 +6,7 @@ use Rattle.dg_graph.specs.declared.element.Column.{Column}
 use Rattle.dg_graph.specs.declared.element.Element.{Element}
 use Rattle.dg_graph.specs.Composition.{Delta}
 use Rattle.dg_graph.specs.Elements.{has, same}
-use Rattle.dg_graph.specs.ColumnGrammar.{and_read, any_number, four_bytes, element_at, element_size, rises_from, elements_at, end_at, delta_in}
+use Rattle.dg_graph.specs.ColumnGrammar.{and_read, any_number, four_bytes, element_at, element_size, rises_from, elements_at, end_at, changes_in}
 use Rattle.dg_graph.proofs.Sets.{has_first}
 use Rattle.dg_set.specs.Apart.{AreApart}
 use Rattle.dg_columns.specs.Fields.{next_element_at}
@@ -49,7 +49,7 @@ read_beside (suc k) col names bytes others at last xs n e apart =
 
 -- a delta of two such sets, which fill the bytes
 pub delta_from : (col : Column) (names : ℕ) (bytes : List ℕ) (out into m n : ℕ) (minus plus : List Element) → four_bytes any_number bytes 0 ≡ Ok out → elements_at out col names bytes [] 4 None ≡ Ok (minus, m) → four_bytes (λ k. not (out == 0 && k == 0)) bytes m ≡ Ok into → elements_at into col names bytes [] (m + 4) None ≡ Ok (plus, n) → AreApart minus plus → n ≡ length bytes
-    → delta_in col names bytes ≡ Ok (record { minus = minus; plus = plus })
+    → changes_in col names bytes ≡ Ok (record { minus = minus; plus = plus })
 delta_from col names [] out into m n minus plus e f g h apart whole = absurd cc
 delta_from col names (b ∷ rest) out into m n minus plus e f g h apart whole =
     let bytes : List ℕ = b ∷ rest in

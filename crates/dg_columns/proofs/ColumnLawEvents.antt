@@ -150,6 +150,14 @@ body_again names bytes at (body.NodeAttr id key old new) rest few fits e =
     change_again (λ id key old new. body.NodeAttr id key old new) names bytes at id key old new rest few fits e
 body_again names bytes at (body.EdgeAttr id key old new) rest few fits e =
     change_again (λ id key old new. body.EdgeAttr id key old new) names bytes at id key old new rest few fits e
+body_again names bytes at (body.Message src dst value) rest few fits e =
+    let is_name : ℕ → Bool = λ n. nat_lt n names in
+    let e1 = e ∙ append_assoc (eight src) (eight dst ++ four value) rest in
+    let f1 = eight_again any_number bytes at src (at + 8) ((eight dst ++ four value) ++ rest) fits.0 refl refl e1 in
+    let e2 = f1.1 ∙ append_assoc (eight dst) (four value) rest in
+    let f2 = eight_again any_number bytes (at + 8) dst (at + 16) (four value ++ rest) fits.1 (omega arith) refl e2 in
+    let f3 = four_again is_name bytes (at + 16) value (at + 20) rest (omega (arith, fits.2)) (omega arith) (lt-ltb value names fits.2) f2.1 in
+    (λ i. and_read (f1.0 i) (λ src. and_read (f2.0 i) (λ dst. and_read (f3.0 i) (λ value. Ok (body.Message src dst value)))), f3.1, f3.2)
 
 -- ---- events
 
@@ -163,6 +171,13 @@ same_column_is column.NodeAttr column.EdgeAttr e = absurd cc
 same_column_is column.EdgeAttr column.Structure e = absurd cc
 same_column_is column.EdgeAttr column.NodeAttr e = absurd cc
 same_column_is column.EdgeAttr column.EdgeAttr e = refl
+same_column_is column.Structure column.Transient e = absurd cc
+same_column_is column.NodeAttr column.Transient e = absurd cc
+same_column_is column.EdgeAttr column.Transient e = absurd cc
+same_column_is column.Transient column.Structure e = absurd cc
+same_column_is column.Transient column.NodeAttr e = absurd cc
+same_column_is column.Transient column.EdgeAttr e = absurd cc
+same_column_is column.Transient column.Transient e = refl
 
 -- an event of the column that may stand behind others
 record PlacedFits (col : Column) (names low earliest : ℕ) (p : Placed) : Type 0 where

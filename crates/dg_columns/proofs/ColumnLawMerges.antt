@@ -56,46 +56,50 @@ find_part q n m (e ∷ events) =
       ]
     ] refl
 
--- an event passes in one of the three columns
-in_one : (o : Option Placed) → option_or (option_or (option_and_then (passing (stands_in column.Structure)) o) (option_and_then (passing (stands_in column.NodeAttr)) o)) (option_and_then (passing (stands_in column.EdgeAttr)) o) ≡ o
+-- an event passes in one of the four columns
+in_one : (o : Option Placed) → option_or (option_or (option_or (option_and_then (passing (stands_in column.Structure)) o) (option_and_then (passing (stands_in column.NodeAttr)) o)) (option_and_then (passing (stands_in column.EdgeAttr)) o)) (option_and_then (passing (stands_in column.Transient)) o) ≡ o
 in_one None = refl
 in_one (Some p) =
-    elim (column_of_body p.event.body) as (λ col. option_or (option_or (cond (same_column col column.Structure) (Some p) None) (cond (same_column col column.NodeAttr) (Some p) None)) (cond (same_column col column.EdgeAttr) (Some p) None) ≡ Some p) [
+    elim (column_of_body p.event.body) as (λ col. option_or (option_or (option_or (cond (same_column col column.Structure) (Some p) None) (cond (same_column col column.NodeAttr) (Some p) None)) (cond (same_column col column.EdgeAttr) (Some p) None)) (cond (same_column col column.Transient) (Some p) None) ≡ Some p) [
       | column.Structure ↦ refl
       | column.NodeAttr ↦ refl
       | column.EdgeAttr ↦ refl
+      | column.Transient ↦ refl
     ]
 
--- the three columns of events, put end to end
+-- the four columns of events, put end to end
 abbrev columns : List Event → List Placed
-columns events = placed_in column.Structure events ++ placed_in column.NodeAttr events ++ placed_in column.EdgeAttr events
+columns events = placed_in column.Structure events ++ placed_in column.NodeAttr events ++ placed_in column.EdgeAttr events ++ placed_in column.Transient events
 
-same_three : (a a' b b' c c' : Option Placed) → a ≡ a' → b ≡ b' → c ≡ c' → option_or (option_or a b) c ≡ option_or (option_or a' b') c'
-same_three a a' b b' c c' ea eb ec = cc
+same_four : (a a' b b' c c' d d' : Option Placed) → a ≡ a' → b ≡ b' → c ≡ c' → d ≡ d' → option_or (option_or (option_or a b) c) d ≡ option_or (option_or (option_or a' b') c') d'
+same_four a a' b b' c c' d d' ea eb ec ed = cc
 
 find_columns : (n : ℕ) (events : List Event) → find (stands_at n) (columns events) ≡ find (stands_at n) (placed_from 0 events)
 find_columns n events =
     let s = placed_in column.Structure events in
     let a = placed_in column.NodeAttr events in
     let b = placed_in column.EdgeAttr events in
-    find-append (stands_at n) (s ++ a) b
-    ∙ ap (λ o. option_or o (find (stands_at n) b)) (find-append (stands_at n) s a)
-    ∙ same_three _ _ _ _ _ _ (find_part (stands_in column.Structure) n 0 events) (find_part (stands_in column.NodeAttr) n 0 events) (find_part (stands_in column.EdgeAttr) n 0 events)
+    let t = placed_in column.Transient events in
+    find-append (stands_at n) (s ++ a ++ b) t
+    ∙ ap (λ o. option_or o (find (stands_at n) t)) (find-append (stands_at n) (s ++ a) b ∙ ap (λ o. option_or o (find (stands_at n) b)) (find-append (stands_at n) s a))
+    ∙ same_four _ _ _ _ _ _ _ _ (find_part (stands_in column.Structure) n 0 events) (find_part (stands_in column.NodeAttr) n 0 events) (find_part (stands_in column.EdgeAttr) n 0 events) (find_part (stands_in column.Transient) n 0 events)
     ∙ in_one (find (stands_at n) (placed_from 0 events))
 
 -- ---- the lengths
 
-length_parts : (placed : List Placed) → length (filter (stands_in column.Structure) placed) + length (filter (stands_in column.NodeAttr) placed) + length (filter (stands_in column.EdgeAttr) placed) ≡ length placed
+length_parts : (placed : List Placed) → length (filter (stands_in column.Structure) placed) + length (filter (stands_in column.NodeAttr) placed) + length (filter (stands_in column.EdgeAttr) placed) + length (filter (stands_in column.Transient) placed) ≡ length placed
 length_parts [] = refl
 length_parts (p ∷ placed) =
     let s : List Placed = filter (stands_in column.Structure) placed in
     let a : List Placed = filter (stands_in column.NodeAttr) placed in
     let b : List Placed = filter (stands_in column.EdgeAttr) placed in
+    let t : List Placed = filter (stands_in column.Transient) placed in
     let more = length_parts placed in
-    elim (column_of_body p.event.body) as (λ col. length (cond (same_column col column.Structure) (p ∷ s) s) + length (cond (same_column col column.NodeAttr) (p ∷ a) a) + length (cond (same_column col column.EdgeAttr) (p ∷ b) b) ≡ suc (length placed)) [
+    elim (column_of_body p.event.body) as (λ col. length (cond (same_column col column.Structure) (p ∷ s) s) + length (cond (same_column col column.NodeAttr) (p ∷ a) a) + length (cond (same_column col column.EdgeAttr) (p ∷ b) b) + length (cond (same_column col column.Transient) (p ∷ t) t) ≡ suc (length placed)) [
       | column.Structure ↦ omega arith
       | column.NodeAttr ↦ omega arith
       | column.EdgeAttr ↦ omega arith
+      | column.Transient ↦ omega arith
     ]
 
 length_placed : (n : ℕ) (events : List Event) → length (placed_from n events) ≡ length events
@@ -107,7 +111,8 @@ length_columns events =
     let s = placed_in column.Structure events in
     let a = placed_in column.NodeAttr events in
     let b = placed_in column.EdgeAttr events in
-    omega (arith, length-append (s ++ a) b, length-append s a, length_parts (placed_from 0 events), length_placed 0 events)
+    let t = placed_in column.Transient events in
+    omega (arith, length-append (s ++ a ++ b) t, length-append (s ++ a) b, length-append s a, length_parts (placed_from 0 events), length_placed 0 events)
 
 -- ---- the events in order
 

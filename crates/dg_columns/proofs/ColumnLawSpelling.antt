@@ -16,7 +16,7 @@ use Rattle.dg_graph.specs.declared.placed.Placed.{Placed}
 use Rattle.dg_graph.specs.Columns.{two, four, eight, value_bytes, body_bytes, placed_bytes, counted, element_bytes, part_bytes, parts_bytes}
 use Rattle.dg_graph.specs.Composition.{Delta}
 use Rattle.dg_graph.specs.Elements.{bit, has}
-use Rattle.dg_graph.specs.ColumnGrammar.{and_read, any_number, one_byte, two_bytes, four_bytes, eight_bytes, edge_fields, value_of, value_fields, structure_body, body_at, body_size, end_at, events_at, events_in, value_element, element_at, element_size, rises_from, elements_at, delta_in}
+use Rattle.dg_graph.specs.ColumnGrammar.{and_read, any_number, one_byte, two_bytes, four_bytes, eight_bytes, edge_fields, value_of, value_fields, structure_body, body_at, body_size, end_at, events_at, events_in, value_element, element_at, element_size, rises_from, elements_at, no_changes_in, changes_in, delta_in}
 use Rattle.dg_columns.specs.Fields.{placed_at, next_element_at}
 use Rattle.dg_columns.specs.ColumnLaws.{EventsHaveOneSpelling, DeltasHaveOneSpelling}
 use Rattle.dg_columns.proofs.FieldGroups.{events_after, events_step}
@@ -163,6 +163,18 @@ body_stands column.NodeAttr names bytes at what fits e =
 body_stands column.EdgeAttr names bytes at what fits e =
     let r = value_read (λ id key old new. body.EdgeAttr id key old new) names bytes at what fits e in
     subst (BodyStands bytes at) r.is r.stands
+body_stands column.Transient names bytes at what fits e =
+    let is_name : ℕ → Bool = λ n. nat_lt n names in
+    let last : ℕ → ℕ → ℕ → Result Body ℕ = λ src dst value. Ok (body.Message src dst value) in
+    let a = bind_ok (eight_bytes any_number bytes at) (λ src. and_read (eight_bytes any_number bytes (at + 8)) (λ dst. and_read (four_bytes is_name bytes (at + 16)) (last src dst))) what e in
+    let b = bind_ok (eight_bytes any_number bytes (at + 8)) (λ dst. and_read (four_bytes is_name bytes (at + 16)) (last a.0 dst)) what a.2 in
+    let c = bind_ok (four_bytes is_name bytes (at + 16)) (last a.0 b.0) what b.2 in
+    let s1 = eight_stands any_number bytes at a.0 (at + 8) fits refl a.1 in
+    let s2 = eight_stands any_number bytes (at + 8) b.0 (at + 16) fits (omega arith) b.1 in
+    let s3 = four_stands is_name bytes (at + 16) c.0 (at + 20) fits (omega arith) c.1 in
+    let s23 = stands_then bytes (at + 8) (eight b.0) (at + 16) (four c.0) (at + 20) s2 s3 in
+    let s13 : BodyStands bytes at (body.Message a.0 b.0 c.0) = stands_then bytes at (eight a.0) (at + 8) (eight b.0 ++ four c.0) (at + 20) s1 s23 in
+    subst (BodyStands bytes at) (ok_is (body.Message a.0 b.0 c.0) what c.2) s13
 
 -- ---- events
 
@@ -272,6 +284,7 @@ element_stands column.NodeAttr names bytes at x fits e =
 element_stands column.EdgeAttr names bytes at x fits e =
     let r = attr_read (λ id key value. element.EdgeAttr id key value) names bytes at x fits e in
     subst (ElementStands bytes at) r.is r.stands
+element_stands column.Transient names bytes at x fits e = absurd cc
 
 -- so many elements are spelled from the offset on, up to another
 record ElementsRead (k : ℕ) (bytes : List ℕ) (at : ℕ) (read : List Element × ℕ) : Type 0 where
@@ -302,11 +315,11 @@ parts_some (x ∷ minus) plus e = refl
 part_spelled : (count : ℕ) (set : List Element) → length set ≡ count → four count ++ flat_map element_bytes set ≡ part_bytes set
 part_spelled count set e = ap (λ n. four n ++ flat_map element_bytes set) (sym e)
 
-delta_spelled_at : (col : Column) (names : ℕ) (bytes : List ℕ) (d : Delta) → IsBytes bytes → delta_in col names bytes ≡ Ok d → bytes ≡ parts_bytes d.minus d.plus
-delta_spelled_at col names [] d fits e =
+changes_spelled : (col : Column) (names : ℕ) (bytes : List ℕ) (d : Delta) → IsBytes bytes → changes_in col names bytes ≡ Ok d → bytes ≡ parts_bytes d.minus d.plus
+changes_spelled col names [] d fits e =
     let none : Delta = record { minus = []; plus = [] } in
     ap (λ (x : Delta). parts_bytes x.minus x.plus) (ok_is none d e)
-delta_spelled_at col names (b ∷ more) d fits e =
+changes_spelled col names (b ∷ more) d fits e =
     let bytes : List ℕ = b ∷ more in
     let is_count : ℕ → ℕ → Bool = λ out n. not (out == 0 && n == 0) in
     let made : List Element × ℕ → List Element × ℕ → Delta = λ minus plus. record { minus = minus.0; plus = plus.0 } in
@@ -328,6 +341,18 @@ delta_spelled_at col names (b ∷ more) d fits e =
     let some : not (length m.0.0 == 0 && length p.0.0 == 0) ≡ true = (λ i. not (s2.len i == 0 && s4.len i == 0)) ∙ s3.1 in
     let spelled : bytes ≡ parts_bytes m.0.0 p.0.0 = whole ∙ (λ i. (out_is i ++ in_is i) ++ behind i) ∙ append-nil (part_bytes m.0.0 ++ part_bytes p.0.0) ∙ sym (parts_some m.0.0 p.0.0 some) in
     spelled ∙ ap (λ (x : Delta). parts_bytes x.minus x.plus) g.1
+
+none_spelled : (bytes : List ℕ) (d : Delta) → no_changes_in bytes ≡ Ok d → bytes ≡ parts_bytes d.minus d.plus
+none_spelled [] d e =
+    let none : Delta = record { minus = []; plus = [] } in
+    ap (λ (x : Delta). parts_bytes x.minus x.plus) (ok_is none d e)
+none_spelled (b ∷ more) d e = absurd cc
+
+delta_spelled_at : (col : Column) (names : ℕ) (bytes : List ℕ) (d : Delta) → IsBytes bytes → delta_in col names bytes ≡ Ok d → bytes ≡ parts_bytes d.minus d.plus
+delta_spelled_at column.Structure names bytes d fits e = changes_spelled column.Structure names bytes d fits e
+delta_spelled_at column.NodeAttr names bytes d fits e = changes_spelled column.NodeAttr names bytes d fits e
+delta_spelled_at column.EdgeAttr names bytes d fits e = changes_spelled column.EdgeAttr names bytes d fits e
+delta_spelled_at column.Transient names bytes d fits e = none_spelled bytes d e
 
 pub delta_spelled : DeltasHaveOneSpelling
 delta_spelled = λ col names bytes d all e. delta_spelled_at col names bytes d (bytes_from_all bytes all) e

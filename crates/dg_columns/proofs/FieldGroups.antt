@@ -1,13 +1,16 @@
 -- How the fields that are read one after another are read in groups.
 use Rattle.std.proofs.Common.{◌≡◌, ℕ, suc, ◌+◌, List, ◌∷◌, Option, Result, Ok, Err, refl}
 use Rattle.dg_graph.specs.declared.element.Column.{Column}
+use Rattle.dg_graph.specs.declared.element.Column.TheVariants as column
 use Rattle.dg_graph.specs.declared.event.Body.{Body}
+use Rattle.dg_graph.specs.declared.event.Body.TheVariants as body
 use Rattle.dg_graph.specs.declared.limits.TheConstants.{TIME_MAX}
 use Rattle.dg_graph.specs.declared.placed.Placed.{Placed}
 use Rattle.std.specs.Prelude.{◌==◌, ◌&&◌, not, nat_le, nat_lt}
 use Rattle.dg_graph.specs.ColumnGrammar.{and_read, any_number, two_bytes, four_bytes, eight_bytes, value_of, value_fields, body_at, body_size, events_at}
+use Rattle.dg_columns.specs.declared.event_fields.MessageFields.{MessageFields}
 use Rattle.dg_columns.specs.declared.event_fields.ValueFields.{ValueFields}
-use Rattle.dg_columns.specs.Fields.{value_fields_at, placed_at}
+use Rattle.dg_columns.specs.Fields.{message_fields_at, value_fields_at, placed_at}
 
 -- ---- a value's change
 
@@ -27,6 +30,18 @@ pub value_made : (make : ℕ → ℕ → Option ℕ → Option ℕ → Body) (na
 value_made make names bytes at =
     value_grouped make (eight_bytes any_number bytes at) (four_bytes (λ n. nat_lt n names) bytes (at + 8)) (four_bytes (λ n. nat_le n names) bytes (at + 12))
     (λ old. four_bytes (λ n. nat_le n names && not (old == 0 && n == 0)) bytes (at + 16))
+
+-- ---- a message
+
+message_grouped : (a b c : Result ℕ ℕ) → and_read a (λ src. and_read b (λ dst. and_read c (λ value. Ok (body.Message src dst value))))
+    ≡ and_read (and_read a (λ src. and_read b (λ dst. and_read c (λ value. Ok (let m : MessageFields = record { src = src; dst = dst; value = value } in m))))) (λ m. Ok (body.Message m.src m.dst m.value))
+message_grouped (Err p) b c = refl
+message_grouped (Ok src) (Err p) c = refl
+message_grouped (Ok src) (Ok dst) (Err p) = refl
+message_grouped (Ok src) (Ok dst) (Ok value) = refl
+
+pub message_made : (names : ℕ) (bytes : List ℕ) (at : ℕ) → body_at column.Transient names bytes at ≡ and_read (message_fields_at names bytes at) (λ m. Ok (body.Message m.src m.dst m.value))
+message_made names bytes at = message_grouped (eight_bytes any_number bytes at) (eight_bytes any_number bytes (at + 8)) (four_bytes (λ n. nat_lt n names) bytes (at + 16))
 
 -- ---- an event
 

@@ -12,7 +12,7 @@ use Rattle.dg_graph.specs.declared.element.Element.TheVariants as element
 use Rattle.dg_graph.specs.Columns.{same_column, in_column}
 use Rattle.dg_graph.specs.Composition.{Delta}
 use Rattle.dg_graph.specs.Elements.{column_of, has}
-use Rattle.dg_graph.specs.ColumnGrammar.{and_read, any_number, one_byte, four_bytes, eight_bytes, edge_fields, value_element, element_at, element_size, rises_from, elements_at, end_at}
+use Rattle.dg_graph.specs.ColumnGrammar.{no_changes_in, changes_in, and_read, any_number, one_byte, four_bytes, eight_bytes, edge_fields, value_element, element_at, element_size, rises_from, elements_at, end_at}
 use Rattle.dg_columns.specs.Fields.{next_element_at}
 use Rattle.dg_columns.specs.ReadFits.{DeltaFits, DeltasThatAreReadFit}
 use Rattle.dg_columns.specs.Ranges.{ElementFits, ElementsFit}
@@ -73,6 +73,7 @@ element_fits column.NodeAttr names bytes at x fits e =
     value_fits column.NodeAttr (λ id key value. element.NodeAttr id key value) names bytes at x (λ id key value a b c. (refl, (a, b, c))) fits e
 element_fits column.EdgeAttr names bytes at x fits e =
     value_fits column.EdgeAttr (λ id key value. element.EdgeAttr id key value) names bytes at x (λ id key value a b c. (refl, (a, b, c))) fits e
+element_fits column.Transient names bytes at x fits e = absurd cc
 
 pub record Fit_all (col : Column) (names : ℕ) (xs : List Element) : Type 0 where
   pub inside : in_column col xs ≡ xs
@@ -96,11 +97,11 @@ elements_fit (suc k) col names bytes others at last xs n fits e =
       fit = (f.1, rest.fit);
     })
 
-pub delta_fits : DeltasThatAreReadFit
-delta_fits col names [] d fits e =
+changes_fit : (col : Column) (names : ℕ) (bytes : List ℕ) (d : Delta) → AreBytes bytes → changes_in col names bytes ≡ Ok d → DeltaFits col names d
+changes_fit col names [] d fits e =
     subst (DeltaFits col names) (ok_is (record { minus = []; plus = [] }) d e)
     (record { delta = record { minus = tt; plus = tt; apart = λ x h. refl }; inside = record { minus_in = refl; plus_in = refl }; minus_fits = tt; plus_fits = tt })
-delta_fits col names (b0 ∷ rest) d fits e =
+changes_fit col names (b0 ∷ rest) d fits e =
     let bytes : List ℕ = b0 ∷ rest in
     let right : IsBytes bytes = bytes_from_all bytes fits in
     let is_count : ℕ → ℕ → Bool = λ out n. not (out == 0 && n == 0) in
@@ -116,6 +117,18 @@ delta_fits col names (b0 ∷ rest) d fits e =
     let into_fit = elements_fit c.0 col names bytes m.0.0 (m.0.1 + 4) None p.0.0 p.0.1 right p.1 in
     subst (DeltaFits col names) last.1
     (record { delta = record { minus = out.set; plus = into.set; apart = into.apart }; inside = record { minus_in = out_fit.inside; plus_in = into_fit.inside }; minus_fits = out_fit.fit; plus_fits = into_fit.fit })
+
+none_fit : (names : ℕ) (bytes : List ℕ) (d : Delta) → no_changes_in bytes ≡ Ok d → DeltaFits column.Transient names d
+none_fit names [] d e =
+    subst (DeltaFits column.Transient names) (ok_is (record { minus = []; plus = [] }) d e)
+    (record { delta = record { minus = tt; plus = tt; apart = λ x h. refl }; inside = record { minus_in = refl; plus_in = refl }; minus_fits = tt; plus_fits = tt })
+none_fit names (b ∷ rest) d e = absurd cc
+
+pub delta_fits : DeltasThatAreReadFit
+delta_fits column.Structure names bytes d fits e = changes_fit column.Structure names bytes d fits e
+delta_fits column.NodeAttr names bytes d fits e = changes_fit column.NodeAttr names bytes d fits e
+delta_fits column.EdgeAttr names bytes d fits e = changes_fit column.EdgeAttr names bytes d fits e
+delta_fits column.Transient names bytes d fits e = none_fit names bytes d e
 
 pub all_from_bytes : (bytes : List ℕ) → IsBytes bytes → AreBytes bytes
 all_from_bytes bytes h k d lt = subst (λ n. n < 256) (get_or_default bytes k 0 d lt) (h k)

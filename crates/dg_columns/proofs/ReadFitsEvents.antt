@@ -101,6 +101,14 @@ body_fits column.NodeAttr names bytes at what fits e =
     change_fits column.NodeAttr (λ id key old new. body.NodeAttr id key old new) names bytes at what (λ id key old new h. (refl, h)) fits e
 body_fits column.EdgeAttr names bytes at what fits e =
     change_fits column.EdgeAttr (λ id key old new. body.EdgeAttr id key old new) names bytes at what (λ id key old new h. (refl, h)) fits e
+body_fits column.Transient names bytes at what fits e =
+    let is_name : ℕ → Bool = λ n. nat_lt n names in
+    let last : ℕ → ℕ → ℕ → Result Body ℕ = λ src dst value. Ok (body.Message src dst value) in
+    let a = bind_ok (eight_bytes any_number bytes at) (λ src. and_read (eight_bytes any_number bytes (at + 8)) (λ dst. and_read (four_bytes is_name bytes (at + 16)) (last src dst))) what e in
+    let b = bind_ok (eight_bytes any_number bytes (at + 8)) (λ dst. and_read (four_bytes is_name bytes (at + 16)) (last a.0 dst)) what a.2 in
+    let c = bind_ok (four_bytes is_name bytes (at + 16)) (last a.0 b.0) what b.2 in
+    subst (Fit column.Transient names) (ok_is (body.Message a.0 b.0 c.0) what c.2)
+    (refl, (id_bound bytes at a.0 fits a.1, id_bound bytes (at + 8) b.0 fits b.1, name_bound names bytes (at + 16) c.0 c.1))
 
 no_more : (col : Column) (names low earliest : ℕ) → PlacedFit col names low earliest []
 no_more col names low earliest = record { positions = tt; events = tt; inside = refl }

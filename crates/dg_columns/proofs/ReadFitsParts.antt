@@ -5,7 +5,7 @@ use Rattle.std.proofs.lemmas.List.Folds.{list_any-append}
 use Rattle.dg_graph.specs.declared.element.Column.{Column}
 use Rattle.dg_graph.specs.declared.element.Column.TheVariants as column
 use Rattle.dg_graph.specs.declared.element.Element.{Element}
-use Rattle.dg_graph.specs.declared.element.Element.TheVariants.{Node, Edge, NodeAttr, EdgeAttr}
+use Rattle.dg_graph.specs.declared.element.Element.TheVariants.{Node, Edge, NodeAttr, EdgeAttr, Message}
 use Rattle.dg_graph.specs.Columns.{same_column, in_column}
 use Rattle.dg_graph.specs.Composition.{Delta, IsDelta}
 use Rattle.dg_graph.specs.Elements.{IsSet, IsBelowFirst, before, column_of, has, same}
@@ -56,18 +56,23 @@ columns_rise (Node id) (Node id2) e = absurd (false≢true e)
 columns_rise (Node id) (Edge id2 s d b) e = absurd (false≢true e)
 columns_rise (Node id) (NodeAttr id2 k v) e = refl
 columns_rise (Node id) (EdgeAttr id2 k v) e = refl
+columns_rise (Node id) (Message src dst value) e = absurd (false≢true e)
 columns_rise (Edge id s d b) (Node id2) e = absurd (false≢true e)
 columns_rise (Edge id s d b) (Edge id2 s2 d2 b2) e = absurd (false≢true e)
 columns_rise (Edge id s d b) (NodeAttr id2 k v) e = refl
 columns_rise (Edge id s d b) (EdgeAttr id2 k v) e = refl
+columns_rise (Edge id s d b) (Message src dst value) e = absurd (false≢true e)
 columns_rise (NodeAttr id k v) (Node id2) e = absurd (false≢true e)
 columns_rise (NodeAttr id k v) (Edge id2 s2 d2 b2) e = absurd (false≢true e)
 columns_rise (NodeAttr id k v) (NodeAttr id2 k2 v2) e = absurd (false≢true e)
 columns_rise (NodeAttr id k v) (EdgeAttr id2 k2 v2) e = refl
+columns_rise (NodeAttr id k v) (Message src dst value) e = absurd (false≢true e)
 columns_rise (EdgeAttr id k v) (Node id2) e = absurd (false≢true e)
 columns_rise (EdgeAttr id k v) (Edge id2 s2 d2 b2) e = absurd (false≢true e)
 columns_rise (EdgeAttr id k v) (NodeAttr id2 k2 v2) e = absurd (false≢true e)
 columns_rise (EdgeAttr id k v) (EdgeAttr id2 k2 v2) e = absurd (false≢true e)
+columns_rise (EdgeAttr id k v) (Message src dst value) e = absurd (false≢true e)
+columns_rise (Message src dst value) y e = absurd (false≢true e)
 
 same_is : (a b : Column) → same_column a b ≡ true → a ≡ b
 same_is column.Structure column.Structure e = refl
@@ -79,6 +84,13 @@ same_is column.NodeAttr column.EdgeAttr e = absurd (false≢true e)
 same_is column.EdgeAttr column.Structure e = absurd (false≢true e)
 same_is column.EdgeAttr column.NodeAttr e = absurd (false≢true e)
 same_is column.EdgeAttr column.EdgeAttr e = refl
+same_is column.Structure column.Transient e = absurd (false≢true e)
+same_is column.NodeAttr column.Transient e = absurd (false≢true e)
+same_is column.EdgeAttr column.Transient e = absurd (false≢true e)
+same_is column.Transient column.Structure e = absurd (false≢true e)
+same_is column.Transient column.NodeAttr e = absurd (false≢true e)
+same_is column.Transient column.EdgeAttr e = absurd (false≢true e)
+same_is column.Transient column.Transient e = refl
 
 in_order : (a b : Column) (x y : Element) → comes_first a b ≡ true → same_column (column_of x) a ≡ true → same_column (column_of y) b ≡ true → IsTrue (before x y)
 in_order a b x y h e f =
@@ -175,16 +187,19 @@ filter_in col (x ∷ xs) =
       | false ↦ λ e. filter_in col xs
     ] refl
 
-one_of_three : (c : Column) (h : Bool) → (((same_column c column.Structure && h) || (same_column c column.NodeAttr && h)) || (same_column c column.EdgeAttr && h)) ≡ h
-one_of_three column.Structure true = refl
-one_of_three column.Structure false = refl
-one_of_three column.NodeAttr true = refl
-one_of_three column.NodeAttr false = refl
-one_of_three column.EdgeAttr true = refl
-one_of_three column.EdgeAttr false = refl
+-- an element that is no message is in one of the three
+one_of_three : (c : Column) (h : Bool) → (same_column c column.Transient && h) ≡ false → (((same_column c column.Structure && h) || (same_column c column.NodeAttr && h)) || (same_column c column.EdgeAttr && h)) ≡ h
+one_of_three column.Structure true none = refl
+one_of_three column.Structure false none = refl
+one_of_three column.NodeAttr true none = refl
+one_of_three column.NodeAttr false none = refl
+one_of_three column.EdgeAttr true none = refl
+one_of_three column.EdgeAttr false none = refl
+one_of_three column.Transient true none = absurd (true≢false none)
+one_of_three column.Transient false none = refl
 
-set_back : (set : List Element) → IsSet set → in_column column.Structure set ++ in_column column.NodeAttr set ++ in_column column.EdgeAttr set ≡ set
-set_back set s =
+set_back : (set : List Element) → IsSet set → in_column column.Transient set ≡ [] → in_column column.Structure set ++ in_column column.NodeAttr set ++ in_column column.EdgeAttr set ≡ set
+set_back set s none =
     let p : Column → Element → Bool = λ col x. same_column (column_of x) col in
     let a = in_column column.Structure set in
     let b = in_column column.NodeAttr set in
@@ -197,7 +212,7 @@ set_back set s =
     list_any-append (same q) (a ++ b) c
     ∙ ap (λ t. t || has c q) (list_any-append (same q) a b)
     ∙ (λ i. (has-filter (p column.Structure) set q i || has-filter (p column.NodeAttr) set q i) || has-filter (p column.EdgeAttr) set q i)
-    ∙ one_of_three (column_of q) (has set q))
+    ∙ one_of_three (column_of q) (has set q) (sym (has-filter (p column.Transient) set q) ∙ ap (λ (l : List Element). has l q) none))
 
 pub parts_back : PartsAreJoinedBack
-parts_back d is = λ i. record { minus = set_back d.minus is.minus i; plus = set_back d.plus is.plus i }
+parts_back d is none = λ i. record { minus = set_back d.minus is.minus none.0 i; plus = set_back d.plus is.plus none.1 i }

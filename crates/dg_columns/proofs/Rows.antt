@@ -112,24 +112,26 @@ filled_taken_slot row i p rest d here lt taken =
     over None e = absurd (false≢true e)
     over (Some x) e = refl
 
--- ---- the row of three columns
+-- ---- the row of four columns
 
--- a row of empty slots that three columns fill has the events at the positions
-pub filled_thrice : (k : ℕ) (a b c : List Placed) → at_positions k 0 (a ++ b ++ c) ≡ events_in_row (filled 0 (filled 0 (filled 0 (replicate k None) a) b) c)
-filled_thrice k a b c =
-    filled_empty k 0 (a ++ b ++ c)
-    ∙ ap events_in_row (sym (ap (λ row. filled 0 row c) (filled_twice 0 (replicate k None) a b) ∙ filled_twice 0 (replicate k None) (a ++ b) c))
+-- a row of empty slots that four columns fill has the events at the positions
+pub filled_by_four : (k : ℕ) (a b c d : List Placed) → at_positions k 0 (a ++ b ++ c ++ d) ≡ events_in_row (filled 0 (filled 0 (filled 0 (filled 0 (replicate k None) a) b) c) d)
+filled_by_four k a b c d =
+    filled_empty k 0 (a ++ b ++ c ++ d)
+    ∙ ap events_in_row (sym (ap (λ row. filled 0 (filled 0 row c) d) (filled_twice 0 (replicate k None) a b) ∙ ap (λ row. filled 0 row d) (filled_twice 0 (replicate k None) (a ++ b) c) ∙ filled_twice 0 (replicate k None) (a ++ b ++ c) d))
 
--- what three columns that fill a row of empty slots in turn are merged to
-pub row_merged : (len : ℕ) (a b c : List Placed) (r0 f1 r1 f2 r2 f3 r3 : List (Option Event)) → length a + length b + length c ≡ len → r0 ≡ replicate len None → f1 ≡ filled 0 r0 a → r1 ≡ f1 → f2 ≡ filled 0 r1 b → r2 ≡ f2 → f3 ≡ filled 0 r2 c → r3 ≡ f3
-    → merged a b c len ≡ option_and_then if_never_fall (events_in_row r3)
-row_merged len a b c r0 f1 r1 f2 r2 f3 r3 counted empty first is_first second is_second third is_third =
-    let count : length (a ++ b ++ c) ≡ len = omega (arith, length-append (a ++ b) c, length-append a b) in
+-- what four columns that fill a row of empty slots in turn are merged to
+pub row_merged : (len : ℕ) (a b c d : List Placed) (r0 f1 r1 f2 r2 f3 r3 f4 r4 : List (Option Event)) → length a + length b + length c + length d ≡ len → r0 ≡ replicate len None
+    → f1 ≡ filled 0 r0 a → r1 ≡ f1 → f2 ≡ filled 0 r1 b → r2 ≡ f2 → f3 ≡ filled 0 r2 c → r3 ≡ f3 → f4 ≡ filled 0 r3 d → r4 ≡ f4
+    → merged a b c d len ≡ option_and_then if_never_fall (events_in_row r4)
+row_merged len a b c d r0 f1 r1 f2 r2 f3 r3 f4 r4 counted empty first is_first second is_second third is_third fourth is_fourth =
+    let count : length (a ++ b ++ c ++ d) ≡ len = omega (arith, length-append (a ++ b ++ c) d, length-append (a ++ b) c, length-append a b) in
     let one = first ∙ ap (λ row. filled 0 row a) empty in
     let two = second ∙ ap (λ row. filled 0 row b) (is_first ∙ one) in
     let three = third ∙ ap (λ row. filled 0 row c) (is_second ∙ two) in
-    ap (λ t. cond t (option_and_then if_never_fall (at_positions len 0 (a ++ b ++ c))) None) (eq-eqb (length (a ++ b ++ c)) len count)
-    ∙ ap (option_and_then if_never_fall) (filled_thrice len a b c ∙ ap events_in_row (sym (is_third ∙ three)))
+    let four = fourth ∙ ap (λ row. filled 0 row d) (is_third ∙ three) in
+    ap (λ t. cond t (option_and_then if_never_fall (at_positions len 0 (a ++ b ++ c ++ d))) None) (eq-eqb (length (a ++ b ++ c ++ d)) len count)
+    ∙ ap (option_and_then if_never_fall) (filled_by_four len a b c d ∙ ap events_in_row (sym (is_fourth ∙ four)))
 
 -- a whole part of a row that was written
 pub written_over : (n : ℕ) (written rest : List (Option Event)) → length written ≡ n → take n (written ++ rest) ≡ written

@@ -1,5 +1,5 @@
 -- The laws of columns, as they are proved.
-use Rattle.std.specs.Prelude.{ℕ, ◌≡◌, ◌<◌, ◌≤◌, ◌^◌, true, List, length, All, Some, Ok}
+use Rattle.std.specs.Prelude.{ℕ, ◌≡◌, ◌<◌, ◌≤◌, ◌^◌, true, List, [], length, All, Some, Ok}
 use Rattle.dg_graph.specs.declared.element.Column.{Column}
 use Rattle.dg_graph.specs.declared.element.Column.TheVariants as column
 use Rattle.dg_graph.specs.declared.event.Event.{Event}
@@ -27,9 +27,13 @@ EventsAreReadBack = (col : Column) (names : ℕ) (events : List Event) → names
 
 -- the columns of a list of events whose times do not fall are merged to the list
 abbrev pub EventsAreMergedBack : Type 0
-EventsAreMergedBack = (events : List Event) → never_fall 0 events ≡ true → merged (placed_in column.Structure events) (placed_in column.NodeAttr events) (placed_in column.EdgeAttr events) (length events) ≡ Some events
+EventsAreMergedBack = (events : List Event) → never_fall 0 events ≡ true → merged (placed_in column.Structure events) (placed_in column.NodeAttr events) (placed_in column.EdgeAttr events) (placed_in column.Transient events) (length events) ≡ Some events
+
+-- none of the delta's elements is a message
+abbrev pub HasNoMessage : Delta → Type 0
+HasNoMessage d = (in_column column.Transient d.minus ≡ []) × (in_column column.Transient d.plus ≡ [])
 
 -- the column of a delta is read as the delta of that column's elements
 abbrev pub DeltasAreReadBack : Type 0
-DeltasAreReadBack = (col : Column) (names : ℕ) (d : Delta) → names < 2 ^ 32 → IsDelta d → length d.minus < 2 ^ 32 → length d.plus < 2 ^ 32 → ElementsFit names d.minus → ElementsFit names d.plus
+DeltasAreReadBack = (col : Column) (names : ℕ) (d : Delta) → names < 2 ^ 32 → IsDelta d → length d.minus < 2 ^ 32 → length d.plus < 2 ^ 32 → ElementsFit names d.minus → ElementsFit names d.plus → HasNoMessage d
     → delta_in col names (delta_column col d) ≡ Ok (record { minus = in_column col d.minus; plus = in_column col d.plus })

@@ -9,6 +9,7 @@ use Rattle.dg_graph.specs.Elements.{bit, has}
 use Rattle.dg_graph.specs.ColumnGrammar.{and_read, any_number, one_byte, two_bytes, four_bytes, eight_bytes, value_of, body_at, element_at, rises_from}
 use Rattle.dg_columns.specs.declared.delta_reader.AttrFields.{AttrFields}
 use Rattle.dg_columns.specs.declared.edge.EdgeFields.{EdgeFields}
+use Rattle.dg_columns.specs.declared.event_fields.MessageFields.{MessageFields}
 use Rattle.dg_columns.specs.declared.event_fields.ValueFields.{ValueFields}
 
 -- an edge, from the offset on
@@ -28,6 +29,13 @@ value_fields_at names bytes at =
     and_read (four_bytes (λ n. nat_le n names) bytes (at + 12)) (λ old.
     and_read (four_bytes (λ n. nat_le n names && not (old == 0 && n == 0)) bytes (at + 16)) (λ new.
     Ok (record { id = id; key = key; old = value_of old; new = value_of new })))))
+
+-- a message, from the offset on
+abbrev pub message_fields_at : ℕ → List ℕ → ℕ → Result MessageFields ℕ
+message_fields_at names bytes at =
+    and_read (eight_bytes any_number bytes at) (λ src.
+    and_read (eight_bytes any_number bytes (at + 8)) (λ dst.
+    and_read (four_bytes (λ n. nat_lt n names) bytes (at + 16)) (λ value. Ok (record { src = src; dst = dst; value = value }))))
 
 -- an event and its position, from the offset on, neither below what is given
 abbrev pub placed_at : Column → ℕ → List ℕ → ℕ → ℕ → ℕ → Result Placed ℕ

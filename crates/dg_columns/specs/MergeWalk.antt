@@ -1,4 +1,4 @@
--- Three columns whose positions rise, taken together event by event.
+-- Four columns whose positions rise, taken together event by event.
 use Rattle.std.specs.Prelude.{ℕ, zero, suc, ◌+◌, ◌==◌, Bool, false, List, [], ◌∷◌, Option, Some, None, if◌then◌else◌, nat_le, option_and_then}
 use Rattle.std.specs.Option.{option_map, option_or}
 use Rattle.dg_graph.specs.declared.event.Event.{Event}
@@ -10,6 +10,7 @@ pub record MergeStep : Type 0 where
   pub structure : List Placed
   pub node_attrs : List Placed
   pub edge_attrs : List Placed
+  pub transient : List Placed
 
 -- the first event of a column, where it stands at the position, and the others
 abbrev pub head_at : ℕ → List Placed → (Placed → List Placed → MergeStep) → Option MergeStep
@@ -21,18 +22,19 @@ abbrev pub stands_first : ℕ → List Placed → Bool
 stands_first n [] = false
 stands_first n (p ∷ rest) = p.at == n
 
-abbrev pub step_at : ℕ → List Placed → List Placed → List Placed → Option MergeStep
-step_at n a b c =
-    option_or (head_at n a (λ p rest. record { here = p; structure = rest; node_attrs = b; edge_attrs = c }))
-    (option_or (head_at n b (λ p rest. record { here = p; structure = a; node_attrs = rest; edge_attrs = c }))
-    (head_at n c (λ p rest. record { here = p; structure = a; node_attrs = b; edge_attrs = rest })))
+abbrev pub step_at : ℕ → List Placed → List Placed → List Placed → List Placed → Option MergeStep
+step_at n a b c d =
+    option_or (head_at n a (λ p rest. record { here = p; structure = rest; node_attrs = b; edge_attrs = c; transient = d }))
+    (option_or (head_at n b (λ p rest. record { here = p; structure = a; node_attrs = rest; edge_attrs = c; transient = d }))
+    (option_or (head_at n c (λ p rest. record { here = p; structure = a; node_attrs = b; edge_attrs = rest; transient = d }))
+    (head_at n d (λ p rest. record { here = p; structure = a; node_attrs = b; edge_attrs = c; transient = rest }))))
 
 -- so many events from the position and the earliest instant on, or none where a position has no event
 -- at the head of a column, or a time falls
-abbrev pub walked : ℕ → ℕ → ℕ → List Placed → List Placed → List Placed → Option (List Event)
-walked zero n earliest a b c = Some []
-walked (suc k) n earliest a b c =
+abbrev pub walked : ℕ → ℕ → ℕ → List Placed → List Placed → List Placed → List Placed → Option (List Event)
+walked zero n earliest a b c d = Some []
+walked (suc k) n earliest a b c d =
     option_and_then (λ (s : MergeStep).
     if nat_le earliest s.here.event.time
-    then option_map (λ (events : List Event). s.here.event ∷ events) (walked k (n + 1) s.here.event.time s.structure s.node_attrs s.edge_attrs)
-    else None) (step_at n a b c)
+    then option_map (λ (events : List Event). s.here.event ∷ events) (walked k (n + 1) s.here.event.time s.structure s.node_attrs s.edge_attrs s.transient)
+    else None) (step_at n a b c d)

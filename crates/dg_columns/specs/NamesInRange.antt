@@ -15,3 +15,4 @@ NamesFit (body.EdgeAdded id src dst directed) = Unit {0}
 NamesFit (body.EdgeRemoved id src dst directed) = Unit {0}
 NamesFit (body.NodeAttr id key old new) = ValueNamesFit key old new
 NamesFit (body.EdgeAttr id key old new) = ValueNamesFit key old new
+NamesFit (body.Message src dst value) = Unit {0}

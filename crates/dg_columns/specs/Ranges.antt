@@ -27,6 +27,7 @@ BodyFits names (body.EdgeAdded id src dst directed) = EdgeFits id src dst
 BodyFits names (body.EdgeRemoved id src dst directed) = EdgeFits id src dst
 BodyFits names (body.NodeAttr id key old new) = ChangeFits names id key old new
 BodyFits names (body.EdgeAttr id key old new) = ChangeFits names id key old new
+BodyFits names (body.Message src dst value) = (src < 2 ^ 64) × (dst < 2 ^ 64) × (value < names)
 
 -- instants do not fall, from the earliest on and up to the last instant
 pub record EventFits (names earliest : ℕ) (e : Event) : Type 0 where
@@ -44,6 +45,7 @@ ElementFits names (element.Node id) = id < 2 ^ 64
 ElementFits names (element.Edge id src dst directed) = EdgeFits id src dst
 ElementFits names (element.NodeAttr id key value) = (id < 2 ^ 64) × (key < names) × (value < names)
 ElementFits names (element.EdgeAttr id key value) = (id < 2 ^ 64) × (key < names) × (value < names)
+ElementFits names (element.Message src dst value) = (src < 2 ^ 64) × (dst < 2 ^ 64) × (value < names)
 
 abbrev pub ElementsFit : ℕ → List Element → Type 0
 ElementsFit names [] = Unit {0}

@@ -7,7 +7,7 @@ use Rattle.dg_graph.specs.Columns.{in_column, same_column, column_of_body}
 use Rattle.dg_graph.specs.Composition.{Delta, IsDelta}
 use Rattle.dg_graph.specs.ColumnGrammar.{delta_in, events_in}
 use Rattle.dg_graph.specs.declared.placed.Placed.{Placed}
-use Rattle.dg_columns.specs.ColumnLaws.{AreBytes}
+use Rattle.dg_columns.specs.ColumnLaws.{AreBytes, HasNoMessage}
 use Rattle.dg_columns.specs.Ranges.{ElementsFit, EventsFit}
 
 -- the delta's elements stand in the column
@@ -23,9 +23,9 @@ joined_columns s n e = joined (joined s n) e
 abbrev pub part_in : Column → Delta → Delta
 part_in col d = record { minus = in_column col d.minus; plus = in_column col d.plus }
 
--- the three parts of a delta are joined to the delta
+-- the three parts of a delta without messages are joined to the delta
 abbrev pub PartsAreJoinedBack : Type 0
-PartsAreJoinedBack = (d : Delta) → IsDelta d → joined_columns (part_in column.Structure d) (part_in column.NodeAttr d) (part_in column.EdgeAttr d) ≡ d
+PartsAreJoinedBack = (d : Delta) → IsDelta d → HasNoMessage d → joined_columns (part_in column.Structure d) (part_in column.NodeAttr d) (part_in column.EdgeAttr d) ≡ d
 
 -- a delta of elements of one column, in a history with so many names
 pub record DeltaFits (col : Column) (names : ℕ) (d : Delta) : Type 0 where

@@ -1,4 +1,4 @@
-//! Merging the events of the three columns to the list that they come from.
+//! Merging the events of the four columns to the list that they come from.
 
 ghost use Rattle.std.specs.Prelude.{◌≡◌, Some, None, drop, IfOk, IfSome, IsErrOf};
 ghost use Rattle.std.specs.Option.{option_and_then};
@@ -11,7 +11,7 @@ use dg_graph::{Event, Placed};
 use std::alloc::{AllocError, AllocFailed, Global};
 use thiserror::Error;
 
-/// What keeps three columns from being one list of events.
+/// What keeps four columns from being one list of events.
 #[derive(Clone, Copy, Debug, PartialEq, Eq, Error)]
 pub enum MergeFault {
     /// The positions of the events are not those from 0 to one less than the length of the list, each
@@ -39,12 +39,13 @@ impl<T: Drop> From<AllocFailed<T>> for MergeFault {
     }
 }
 
-// The next events of the three columns.
+// The next events of the four columns.
 #[derive(Clone, Copy)]
 struct Cursors {
     structure: usize,
     node_attrs: usize,
     edge_attrs: usize,
+    transient: usize,
 }
 
 // Whether the next event of the column stands at the position.
@@ -59,11 +60,12 @@ fn step_at(
     structure: &[Placed],
     node_attrs: &[Placed],
     edge_attrs: &[Placed],
+    transient: &[Placed],
     next: Cursors,
     position: usize,
 ) -> Option<(Placed, Cursors)>
-    ensures { IfSome result (λ p. step_at position (drop next.structure structure.now) (drop next.node_attrs node_attrs.now) (drop next.edge_attrs edge_attrs.now)
-        ≡ Some (record { here = p.0; structure = drop p.1.structure structure.now; node_attrs = drop p.1.node_attrs node_attrs.now; edge_attrs = drop p.1.edge_attrs edge_attrs.now })) }
+    ensures { IfSome result (λ p. step_at position (drop next.structure structure.now) (drop next.node_attrs node_attrs.now) (drop next.edge_attrs edge_attrs.now) (drop next.transient transient.now)
+        ≡ Some (record { here = p.0; structure = drop p.1.structure structure.now; node_attrs = drop p.1.node_attrs node_attrs.now; edge_attrs = drop p.1.edge_attrs edge_attrs.now; transient = drop p.1.transient transient.now })) }
 {
     if stands_next(structure, next.structure, position) {
         let after = Cursors {
@@ -86,6 +88,13 @@ fn step_at(
         };
         return Some((edge_attrs[next.edge_attrs], after));
     }
+    if stands_next(transient, next.transient, position) {
+        let after = Cursors {
+            transient: next.transient + 1,
+            ..next
+        };
+        return Some((transient[next.transient], after));
+    }
     None
 }
 
@@ -96,19 +105,23 @@ fn merge_rising(
     structure: &[Placed],
     node_attrs: &[Placed],
     edge_attrs: &[Placed],
+    transient: &[Placed],
     len: usize,
 ) -> Result<Option<Vec<Event>>, AllocError>
-    ensures { IfOk result (λ found. IfSome found (λ events. walked len 0 0 structure.now node_attrs.now edge_attrs.now ≡ Some events.items)) }
+    ensures { IfOk result (λ found. IfSome found (λ events. walked len 0 0 structure.now node_attrs.now edge_attrs.now transient.now ≡ Some events.items)) }
 {
     let mut events = Vec::with_capacity(alloc, len)?;
     let mut next = Cursors {
         structure: 0,
         node_attrs: 0,
         edge_attrs: 0,
+        transient: 0,
     };
     let mut earliest = 0;
     for position in 0..len {
-        let Some((here, after)) = step_at(structure, node_attrs, edge_attrs, next, position) else {
+        let Some((here, after)) = step_at(
+            structure, node_attrs, edge_attrs, transient, next, position,
+        ) else {
             return Ok(None);
         };
         if here.event.time < earliest {
@@ -154,7 +167,7 @@ fn in_order(alloc: Global, row: &[Option<Event>]) -> Result<Vec<Event>, MergeFau
     Ok(events)
 }
 
-/// The events of the three columns as one list of `len` events, in the order of their positions.
+/// The events of the four columns as one list of `len` events, in the order of their positions.
 /// `Positions` says that the columns have no such list: there are more or fewer events, a position is
 /// missing, taken twice or not below `len`, or the times fall. `Memory` says that memory ran out.
 pub fn merge(
@@ -162,16 +175,17 @@ pub fn merge(
     structure: &[Placed],
     node_attrs: &[Placed],
     edge_attrs: &[Placed],
+    transient: &[Placed],
     len: u32,
 ) -> Result<Vec<Event>, MergeFault>
-    ensures ok { IfOk result (λ events. merged structure.now node_attrs.now edge_attrs.now len ≡ Some events.items) }
-    ensures positions { IsErrOf result MergeFault.Positions → merged structure.now node_attrs.now edge_attrs.now len ≡ None }
+    ensures ok { IfOk result (λ events. merged structure.now node_attrs.now edge_attrs.now transient.now len ≡ Some events.items) }
+    ensures positions { IsErrOf result MergeFault.Positions → merged structure.now node_attrs.now edge_attrs.now transient.now len ≡ None }
 {
     let len = len as usize;
-    if structure.len() + node_attrs.len() + edge_attrs.len() != len {
+    if structure.len() + node_attrs.len() + edge_attrs.len() + transient.len() != len {
         return Err(MergeFault::Positions);
     }
-    if let Some(events) = merge_rising(alloc, structure, node_attrs, edge_attrs, len)? {
+    if let Some(events) = merge_rising(alloc, structure, node_attrs, edge_attrs, transient, len)? {
         return Ok(events);
     }
     // There are as many events as slots, so where no slot stays empty, no event was left out.
@@ -179,5 +193,6 @@ pub fn merge(
     fill(&mut row, structure);
     fill(&mut row, node_attrs);
     fill(&mut row, edge_attrs);
+    fill(&mut row, transient);
     in_order(alloc, &row)
 }

@@ -2,7 +2,7 @@
 
 ghost use Rattle.std.specs.Prelude.{◌≡◌, ◌+◌, ◌≤◌, ◌==◌, ◌&&◌, not, length, Ok, IfOk, IfErr, IfSome, OnOk};
 ghost use Rattle.dg_graph.specs.Elements.{element_cmp};
-ghost use Rattle.dg_graph.specs.ColumnGrammar.{four_bytes, element_at, element_size, rises_from, elements_at, delta_in};
+ghost use Rattle.dg_graph.specs.ColumnGrammar.{four_bytes, element_at, element_size, rises_from, elements_at, may_change, changes_in, delta_in};
 ghost use Rattle.dg_set.specs.Apart.{AreApart};
 ghost use Rattle.dg_columns.specs.ReadOutcome.{IsReadAs, IsFaultOf};
 ghost use Rattle.dg_columns.specs.Fields.{attr_at, next_element_at};
@@ -89,6 +89,7 @@ fn element_at(
                 value: attr.value,
             })
         }
+        Column::Transient => Err(ReadFault::Damaged(offset as u64)),
     }
 }
 
@@ -201,7 +202,7 @@ fn delta_of(minus: Set, plus: Set) -> Delta
 // The delta, where nothing is wrong with the bytes: each of its two sets is read by itself, and one
 // walk shows that they share no element. `None` where something is wrong, or memory ran out.
 fn sound_delta(alloc: Global, bytes: &[u8], col: Column, name_count: u32) -> Option<Delta>
-    ensures { IfSome result (λ d. delta_in col name_count bytes.now ≡ Ok d) }
+    ensures { IfSome result (λ d. changes_in col name_count bytes.now ≡ Ok d) }
 {
     let out_count = u32_at(bytes, 0).ok()?;
     let (minus, offset) = set_here(alloc, bytes, COUNT_SIZE, out_count, col, name_count)?;
@@ -214,10 +215,15 @@ fn sound_delta(alloc: Global, bytes: &[u8], col: Column, name_count: u32) -> Opt
     }
 }
 
-// The delta, or what is wrong.
-fn any_delta(alloc: Global, bytes: &[u8], col: Column, name_count: u32) -> Result<Delta, ReadFault>
-    ensures ok { IfOk result (λ d. delta_in col name_count bytes.now ≡ Ok d) }
-    ensures err { IfErr result (λ fault. IsFaultOf fault (delta_in col name_count bytes.now)) }
+// The delta of a column in which a delta may have elements, or what is wrong.
+fn any_changes(
+    alloc: Global,
+    bytes: &[u8],
+    col: Column,
+    name_count: u32,
+) -> Result<Delta, ReadFault>
+    ensures ok { IfOk result (λ d. changes_in col name_count bytes.now ≡ Ok d) }
+    ensures err { IfErr result (λ fault. IsFaultOf fault (changes_in col name_count bytes.now)) }
 {
     if bytes.is_empty() {
         return Ok(Delta::new(alloc));
@@ -243,6 +249,31 @@ fn any_delta(alloc: Global, bytes: &[u8], col: Column, name_count: u32) -> Resul
         return Err(ReadFault::Damaged(end as u64));
     }
     Ok(delta_of(minus, plus))
+}
+
+// Whether a delta may have elements in the column: messages are in none.
+fn may_change(col: Column) -> bool
+    ensures { result ≡ may_change col }
+{
+    match col {
+        Column::Structure | Column::NodeAttr | Column::EdgeAttr => true,
+        Column::Transient => false,
+    }
+}
+
+// The delta, or what is wrong.
+fn any_delta(alloc: Global, bytes: &[u8], col: Column, names: u32) -> Result<Delta, ReadFault>
+    ensures ok { IfOk result (λ d. delta_in col names bytes.now ≡ Ok d) }
+    ensures err { IfErr result (λ fault. IsFaultOf fault (delta_in col names bytes.now)) }
+{
+    if may_change(col) {
+        return any_changes(alloc, bytes, col, names);
+    }
+    if bytes.is_empty() {
+        Ok(Delta::new(alloc))
+    } else {
+        Err(ReadFault::Damaged(0))
+    }
 }
 
 /// The delta of one column, in a history with so many names. `Damaged` gives the offset of the first

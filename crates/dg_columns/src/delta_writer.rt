@@ -7,7 +7,7 @@ ghost use Rattle.dg_graph.specs.Columns.{four, eight, same_column, element_bytes
 ghost use Rattle.dg_graph.specs.ColumnGrammar.{element_size};
 
 use crate::edge::{EdgeFields, edge_bytes, node_bytes};
-use crate::layout::{COUNT_SIZE, EDGE, EDGE_SIZE, NODE, NODE_SIZE, VALUE_SIZE};
+use crate::layout::{COUNT_SIZE, EDGE, EDGE_SIZE, MESSAGE_SIZE, NODE, NODE_SIZE, VALUE_SIZE};
 use dg_delta::{Delta, Element};
 use dg_graph::Column;
 use std::alloc::{AllocError, Global};
@@ -29,6 +29,7 @@ pub(crate) fn element_size(element: &Element) -> usize
         Element::Node { .. } => NODE_SIZE,
         Element::Edge { .. } => EDGE_SIZE,
         Element::NodeAttr { .. } | Element::EdgeAttr { .. } => VALUE_SIZE,
+        Element::Message { .. } => MESSAGE_SIZE,
     }
 }
 
@@ -40,6 +41,7 @@ fn stands_in(element: &Element, col: Column) -> bool
         Element::Node { .. } | Element::Edge { .. } => matches!(col, Column::Structure),
         Element::NodeAttr { .. } => matches!(col, Column::NodeAttr),
         Element::EdgeAttr { .. } => matches!(col, Column::EdgeAttr),
+        Element::Message { .. } => matches!(col, Column::Transient),
     }
 }
 
@@ -71,6 +73,17 @@ fn attr_bytes(id: u64, key: u32, value: u32) -> [u8; VALUE_SIZE]
     bytes
 }
 
+/// The fields of a message. No delta of an index has one.
+pub(crate) fn message_bytes(src: u64, dst: u64, value: u32) -> [u8; MESSAGE_SIZE]
+    ensures { result ≡ eight src ++ (eight dst ++ four value) }
+{
+    let mut bytes = [0; MESSAGE_SIZE];
+    bytes[..8].copy_from_slice(&src.to_be_bytes());
+    bytes[8..16].copy_from_slice(&dst.to_be_bytes());
+    bytes[16..].copy_from_slice(&value.to_be_bytes());
+    bytes
+}
+
 // An element, without what its column says of it.
 fn write_element(out: &mut Vec<u8>, element: &Element) -> Result<(), AllocError>
     ensures { OnOk result (out.new.items ≡ out.old.items ++ element_bytes element.now) }
@@ -93,6 +106,9 @@ fn write_element(out: &mut Vec<u8>, element: &Element) -> Result<(), AllocError>
         )),
         Element::NodeAttr { id, key, value } | Element::EdgeAttr { id, key, value } => {
             out.extend_from_slice(&attr_bytes(id, key, value))
+        }
+        Element::Message { src, dst, value } => {
+            out.extend_from_slice(&message_bytes(src, dst, value))
         }
     }
 }

@@ -3,12 +3,13 @@
 ghost use Rattle.std.specs.Prelude.{◌≡◌, ◌+◌, ◌≤◌, length, OnOk, IfOk};
 ghost use Rattle.dg_graph.specs.ColumnGrammar.{body_at, body_size, value_of};
 ghost use Rattle.dg_columns.specs.ReadOutcome.{IsReadAs};
-ghost use Rattle.dg_columns.specs.Fields.{value_fields_at};
+ghost use Rattle.dg_columns.specs.Fields.{message_fields_at, value_fields_at};
 
 use crate::edge::edge_at;
 use crate::fault::ReadFault;
 use crate::layout::{
-    CHANGE_SIZE, EDGE_ADDED, EDGE_REMOVED, EDGE_SIZE, NODE_ADDED, NODE_REMOVED, NODE_SIZE,
+    CHANGE_SIZE, EDGE_ADDED, EDGE_REMOVED, EDGE_SIZE, MESSAGE_SIZE, NODE_ADDED, NODE_REMOVED,
+    NODE_SIZE,
 };
 use crate::numbers::{byte_at, name_at, new_at, old_at, u64_at};
 use dg_graph::{Body, Column};
@@ -22,6 +23,14 @@ pub(crate) struct ValueFields {
     pub(crate) new: Option<u32>,
 }
 
+/// A message without its kind.
+#[derive(Clone, Copy)]
+pub(crate) struct MessageFields {
+    pub(crate) src: u64,
+    pub(crate) dst: u64,
+    pub(crate) value: u32,
+}
+
 /// The bytes that a body takes in its column.
 pub(crate) fn body_size(body: &Body) -> usize
     ensures { result ≡ body_size body.now }
@@ -30,6 +39,7 @@ pub(crate) fn body_size(body: &Body) -> usize
         Body::NodeAdded { .. } | Body::NodeRemoved { .. } => NODE_SIZE,
         Body::EdgeAdded { .. } | Body::EdgeRemoved { .. } => EDGE_SIZE,
         Body::NodeAttr { .. } | Body::EdgeAttr { .. } => CHANGE_SIZE,
+        Body::Message { .. } => MESSAGE_SIZE,
     }
 }
 
@@ -60,6 +70,22 @@ pub(crate) fn value_at(
         old: value_of(old),
         new: value_of(new),
     })
+}
+
+/// The fields of a message.
+pub(crate) fn message_at(
+    bytes: &[u8],
+    offset: usize,
+    name_count: u32,
+) -> Result<MessageFields, ReadFault>
+    requires { offset ≤ length bytes.now }
+    ensures fields { IsReadAs (λ m. m) result (message_fields_at name_count bytes.now offset) }
+    ensures fits { OnOk result (offset + 20 ≤ length bytes.now) }
+{
+    let src = u64_at(bytes, offset)?;
+    let dst = u64_at(bytes, offset + 8)?;
+    let value = name_at(bytes, offset + 16, name_count)?;
+    Ok(MessageFields { src, dst, value })
 }
 
 // What a structure event changes.
@@ -129,6 +155,14 @@ pub(crate) fn body_at(
                 key: value.key,
                 old: value.old,
                 new: value.new,
+            })
+        }
+        Column::Transient => {
+            let message = message_at(bytes, offset, name_count)?;
+            Ok(Body::Message {
+                src: message.src,
+                dst: message.dst,
+                value: message.value,
             })
         }
     }

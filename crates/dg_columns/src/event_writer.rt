@@ -6,11 +6,12 @@ ghost use Rattle.dg_graph.specs.Columns.{two, four, eight, same_column, column_o
 ghost use Rattle.dg_columns.specs.Fields.{node_bytes, edge_bytes, value_field_bytes};
 ghost use Rattle.dg_columns.specs.NamesInRange.{NamesFit};
 
+use crate::delta_writer::message_bytes;
 use crate::edge::{EdgeFields, edge_bytes, node_bytes};
 use crate::event_fields::{ValueFields, body_size};
 use crate::layout::{
-    CHANGE_SIZE, COUNT_SIZE, EDGE_ADDED, EDGE_REMOVED, EDGE_SIZE, NODE_ADDED, NODE_REMOVED,
-    NODE_SIZE, STAMP_SIZE,
+    CHANGE_SIZE, COUNT_SIZE, EDGE_ADDED, EDGE_REMOVED, EDGE_SIZE, MESSAGE_SIZE, NODE_ADDED,
+    NODE_REMOVED, NODE_SIZE, STAMP_SIZE,
 };
 use dg_graph::{Body, Column, Event};
 use std::alloc::{AllocError, Global};
@@ -35,6 +36,7 @@ fn stands_in(body: &Body, col: Column) -> bool
         | Body::EdgeRemoved { .. } => matches!(col, Column::Structure),
         Body::NodeAttr { .. } => matches!(col, Column::NodeAttr),
         Body::EdgeAttr { .. } => matches!(col, Column::EdgeAttr),
+        Body::Message { .. } => matches!(col, Column::Transient),
     }
 }
 
@@ -122,6 +124,22 @@ fn change_event(position: u16, time: u64, value: ValueFields) -> [u8; STAMP_SIZE
     bytes
 }
 
+// The event of a message.
+fn message_event(
+    position: u16,
+    time: u64,
+    src: u64,
+    dst: u64,
+    value: u32,
+) -> [u8; STAMP_SIZE + MESSAGE_SIZE]
+    ensures { result ≡ two position ++ (eight time ++ (eight src ++ (eight dst ++ four value))) }
+{
+    let mut bytes = [0; STAMP_SIZE + MESSAGE_SIZE];
+    bytes[..STAMP_SIZE].copy_from_slice(&stamp_bytes(position, time));
+    bytes[STAMP_SIZE..].copy_from_slice(&message_bytes(src, dst, value));
+    bytes
+}
+
 // An event with its position.
 fn write_placed(out: &mut Vec<u8>, position: u16, event: &Event) -> Result<(), AllocError>
     requires { NamesFit event.now.body }
@@ -169,6 +187,9 @@ fn write_placed(out: &mut Vec<u8>, position: u16, event: &Event) -> Result<(), A
         )),
         Body::NodeAttr { id, key, old, new } | Body::EdgeAttr { id, key, old, new } => {
             out.extend_from_slice(&change_event(position, time, ValueFields { id, key, old, new }))
+        }
+        Body::Message { src, dst, value } => {
+            out.extend_from_slice(&message_event(position, time, src, dst, value))
         }
     }
 }

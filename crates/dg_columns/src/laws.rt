@@ -25,13 +25,13 @@ pub fn law_events_are_read_back()
     ensures { EventsAreReadBack }
 {}
 
-/// The three columns of a list of events in order of time are merged to the list.
+/// The four columns of a list of events in order of time are merged to the list.
 pub fn law_events_are_merged_back()
     ensures { EventsAreMergedBack }
 {}
 
-/// The column of a delta whose elements are in their ranges is read as the delta of that column's
-/// elements.
+/// The column of a delta without messages whose elements are in their ranges is read as the delta of that
+/// column's elements.
 pub fn law_deltas_are_read_back()
     ensures { DeltasAreReadBack }
 {}
@@ -42,7 +42,7 @@ pub fn law_deltas_that_are_read_fit()
     ensures { DeltasThatAreReadFit }
 {}
 
-/// The parts of a delta that stand in the three columns are joined to the delta.
+/// The parts of a delta without messages that stand in the three other columns are joined to the delta.
 pub fn law_parts_are_joined_back()
     ensures { PartsAreJoinedBack }
 {}

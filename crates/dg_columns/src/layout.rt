@@ -15,6 +15,9 @@ pub(crate) const EDGE_SIZE: usize = 26;
 /// The event of a value: an id, a key, the old value and the new one.
 pub(crate) const CHANGE_SIZE: usize = 20;
 
+/// A message, or its event: two ids and a value.
+pub(crate) const MESSAGE_SIZE: usize = 20;
+
 /// A value: an id, a key, and the value.
 pub(crate) const VALUE_SIZE: usize = 16;
 

@@ -1,5 +1,5 @@
 //! The columns of the index file: the one spelling of events and of deltas as bytes, and reading it
-//! again, or finding the offset of the damage; and merging the three columns of a list of events to
+//! again, or finding the offset of the damage; and merging the four columns of a list of events to
 //! the list. docs/FORMATS.md has the format, and docs/MODEL.md the definitions.
 #![tactic(auto)]
 

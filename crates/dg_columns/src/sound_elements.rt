@@ -110,6 +110,7 @@ fn element_here(bytes: &[u8], offset: usize, col: Column, name_count: u32) -> Op
                 value: attr.value,
             })
         }
+        Column::Transient => None,
     }
 }
 

@@ -9,7 +9,7 @@ use Rattle.dg_graph.specs.Elements.{IsSet, has, same, put, take_out}
 use Rattle.dg_graph.specs.Graph.{IsGraph, has_needs}
 use Rattle.dg_graph.proofs.Sets.{element_exact, same_itself, has-put, has-take_out, IsSet-put, IsSet-take_out}
 use Rattle.dg_current.specs.declared.element_id.ElementId.{ElementId}
-use Rattle.dg_current.specs.declared.element_id.ElementId.TheVariants.{Node, Edge, NodeValue, EdgeValue}
+use Rattle.dg_current.specs.declared.element_id.ElementId.TheVariants.{Node, Edge, NodeValue, EdgeValue, Message}
 use Rattle.dg_current.specs.ElementIds.{element_id_of, has_id, at, needs_id}
 use Rattle.dg_current.specs.Sorted.{OneOfEachId}
 
@@ -28,22 +28,34 @@ has_id_is (Node id) (element.Node n) e = ap Node (eqb-true n id e)
 has_id_is (Node id) (element.Edge n s d b) e = absurd (false≢true e)
 has_id_is (Node id) (element.NodeAttr n k v) e = absurd (false≢true e)
 has_id_is (Node id) (element.EdgeAttr n k v) e = absurd (false≢true e)
+has_id_is (Node id) (element.Message s d v) e = absurd (false≢true e)
 has_id_is (Edge id) (element.Node n) e = absurd (false≢true e)
 has_id_is (Edge id) (element.Edge n s d b) e = ap Edge (eqb-true n id e)
 has_id_is (Edge id) (element.NodeAttr n k v) e = absurd (false≢true e)
 has_id_is (Edge id) (element.EdgeAttr n k v) e = absurd (false≢true e)
+has_id_is (Edge id) (element.Message s d v) e = absurd (false≢true e)
 has_id_is (NodeValue key id) (element.Node n) e = absurd (false≢true e)
 has_id_is (NodeValue key id) (element.Edge n s d b) e = absurd (false≢true e)
 has_id_is (NodeValue key id) (element.NodeAttr n k v) e =
     let parts = both (eqb n id) (eqb k key) e in
     λ i. NodeValue (eqb-true k key parts.1 i) (eqb-true n id parts.0 i)
 has_id_is (NodeValue key id) (element.EdgeAttr n k v) e = absurd (false≢true e)
+has_id_is (NodeValue key id) (element.Message s d v) e = absurd (false≢true e)
 has_id_is (EdgeValue key id) (element.Node n) e = absurd (false≢true e)
 has_id_is (EdgeValue key id) (element.Edge n s d b) e = absurd (false≢true e)
 has_id_is (EdgeValue key id) (element.NodeAttr n k v) e = absurd (false≢true e)
 has_id_is (EdgeValue key id) (element.EdgeAttr n k v) e =
     let parts = both (eqb n id) (eqb k key) e in
     λ i. EdgeValue (eqb-true k key parts.1 i) (eqb-true n id parts.0 i)
+has_id_is (EdgeValue key id) (element.Message s d v) e = absurd (false≢true e)
+has_id_is (Message v s d) (element.Node n) e = absurd (false≢true e)
+has_id_is (Message v s d) (element.Edge n t f b) e = absurd (false≢true e)
+has_id_is (Message v s d) (element.NodeAttr n k w) e = absurd (false≢true e)
+has_id_is (Message v s d) (element.EdgeAttr n k w) e = absurd (false≢true e)
+has_id_is (Message v s d) (element.Message t f w) e =
+    let parts = both (eqb t s) (eqb f d && eqb w v) e in
+    let rest = both (eqb f d) (eqb w v) parts.1 in
+    λ i. Message (eqb-true w v rest.1 i) (eqb-true t s parts.0 i) (eqb-true f d rest.0 i)
 
 two : (m n : ℕ) → (eqb m m && eqb n n) ≡ true
 two m n = λ i. eq-eqb m m refl i && eq-eqb n n refl i
@@ -53,6 +65,7 @@ has_id_itself (element.Node n) = eq-eqb n n refl
 has_id_itself (element.Edge n s d b) = eq-eqb n n refl
 has_id_itself (element.NodeAttr n k v) = two n k
 has_id_itself (element.EdgeAttr n k v) = two n k
+has_id_itself (element.Message s d v) = λ i. eq-eqb s s refl i && two d v i
 
 -- ---- look-ups in a list
 
@@ -133,6 +146,7 @@ node_from (element.Node n) id e = let is : n ≡ id = cc in ap element.Node is
 node_from (element.Edge n s d b) id e = cc
 node_from (element.NodeAttr n k v) id e = cc
 node_from (element.EdgeAttr n k v) id e = cc
+node_from (element.Message s d v) id e = cc
 
 pub node_lives : (set : List Element) (id : ℕ) → has_node set id ≡ true → Lives set (Node id)
 node_lives set id e = (element.Node id, (e, refl))
@@ -165,17 +179,22 @@ needs_live set (element.NodeAttr n k v) (Node id) h e = subst (λ m. Lives set (
 needs_live set (element.NodeAttr n k v) (Edge id) h e = absurd (false≢true e)
 needs_live set (element.EdgeAttr n k v) (Node id) h e = absurd (false≢true e)
 needs_live set (element.EdgeAttr n k v) (Edge id) h e = subst (λ m. Lives set (Edge m)) (eqb-true n id e) (lives_at set (Edge n) h)
+needs_live set (element.Message s d v) (Node id) h e = absurd (false≢true e)
+needs_live set (element.Message s d v) (Edge id) h e = absurd (false≢true e)
 needs_live set x (NodeValue key id) h e = absurd (false≢true e)
 needs_live set x (EdgeValue key id) h e = absurd (false≢true e)
+needs_live set x (Message value src dst) h e = absurd (false≢true e)
 
-pub live_needs : (set : List Element) (x : Element) → ((p : ElementId) → needs_id p x ≡ true → Lives set p) → has_needs set x ≡ true
-live_needs set (element.Node n) l = refl
-live_needs set (element.Edge n s d b) l =
+-- what an element of one set needs in another
+pub live_needs : (old set : List Element) (x : Element) → has_needs old x ≡ true → ((p : ElementId) → needs_id p x ≡ true → Lives set p) → has_needs set x ≡ true
+live_needs old set (element.Node n) h l = refl
+live_needs old set (element.Edge n s d b) h l =
     let src = lives_node set s (l (Node s) (or_left (eqb s s) (eqb d s) (eq-eqb s s refl))) in
     let dst = lives_node set d (l (Node d) (or_right (eqb s d) (eqb d d) (eq-eqb d d refl))) in
     λ i. src i && dst i
-live_needs set (element.NodeAttr n k v) l = lives_node set n (l (Node n) (eq-eqb n n refl))
-live_needs set (element.EdgeAttr n k v) l = at_lives set (Edge n) (l (Edge n) (eq-eqb n n refl))
+live_needs old set (element.NodeAttr n k v) h l = lives_node set n (l (Node n) (eq-eqb n n refl))
+live_needs old set (element.EdgeAttr n k v) h l = at_lives set (Edge n) (l (Edge n) (eq-eqb n n refl))
+live_needs old set (element.Message s d v) h l = absurd (false≢true h)
 
 -- ---- graphs
 
@@ -184,12 +203,14 @@ one_of_each_id set g (element.Node m) (element.Node n) h k e = let is : m ≡ n 
 one_of_each_id set g (element.Node m) (element.Edge n s d b) h k e = cc
 one_of_each_id set g (element.Node m) (element.NodeAttr n c v) h k e = cc
 one_of_each_id set g (element.Node m) (element.EdgeAttr n c v) h k e = cc
+one_of_each_id set g (element.Node m) (element.Message t f w) h k e = cc
 one_of_each_id set g (element.Edge m s d b) (element.Node n) h k e = cc
 one_of_each_id set g (element.Edge m s d b) (element.Edge n t f a) h k e =
     let is : n ≡ m = cc in
     g.one_edge m s d t f b a h (subst (λ q. has set (element.Edge q t f a) ≡ true) is k) ∙ ap (λ q. element.Edge q t f a) (sym is)
 one_of_each_id set g (element.Edge m s d b) (element.NodeAttr n c v) h k e = cc
 one_of_each_id set g (element.Edge m s d b) (element.EdgeAttr n c v) h k e = cc
+one_of_each_id set g (element.Edge m s d b) (element.Message t f w) h k e = cc
 one_of_each_id set g (element.NodeAttr m c v) (element.Node n) h k e = cc
 one_of_each_id set g (element.NodeAttr m c v) (element.Edge n s d b) h k e = cc
 one_of_each_id set g (element.NodeAttr m c v) (element.NodeAttr n f w) h k e =
@@ -199,6 +220,7 @@ one_of_each_id set g (element.NodeAttr m c v) (element.NodeAttr n f w) h k e =
     let values = g.one_node_value m c v w h there in
     λ i. element.NodeAttr (sym ids i) (sym keys i) (values i)
 one_of_each_id set g (element.NodeAttr m c v) (element.EdgeAttr n f w) h k e = cc
+one_of_each_id set g (element.NodeAttr m c v) (element.Message t f w) h k e = cc
 one_of_each_id set g (element.EdgeAttr m c v) (element.Node n) h k e = cc
 one_of_each_id set g (element.EdgeAttr m c v) (element.Edge n s d b) h k e = cc
 one_of_each_id set g (element.EdgeAttr m c v) (element.NodeAttr n f w) h k e = cc
@@ -208,6 +230,8 @@ one_of_each_id set g (element.EdgeAttr m c v) (element.EdgeAttr n f w) h k e =
     let there = subst (λ q. has set (element.EdgeAttr q c w) ≡ true) ids (subst (λ q. has set (element.EdgeAttr n q w) ≡ true) keys k) in
     let values = g.one_edge_value m c v w h there in
     λ i. element.EdgeAttr (sym ids i) (sym keys i) (values i)
+one_of_each_id set g (element.EdgeAttr m c v) (element.Message t f w) h k e = cc
+one_of_each_id set g (element.Message s d v) y h k e = absurd (false≢true (g.needs (element.Message s d v) h))
 
 pub graph_from : (set : List Element) → IsSet set → OneOfEachId set → ((x : Element) → has set x ≡ true → has_needs set x ≡ true) → IsGraph set
 graph_from set rises one needs = record {
@@ -250,7 +274,7 @@ put_graph x set g free fed =
     graph_from (put x set) (IsSet-put x set g.rises) (put_one x set (one_of_each_id set g) free) (λ y h. by y (put_from x set y h))
   where
     all : (y : Element) → has_needs set y ≡ true → has_needs (put x set) y ≡ true
-    all y h = live_needs (put x set) y (λ p n. put_lives x set p (needs_live set y p h n))
+    all y h = live_needs set (put x set) y h (λ p n. put_lives x set p (needs_live set y p h n))
 
     by : (y : Element) → (y ≡ x) ⊎ (has set y ≡ true) → has_needs (put x set) y ≡ true
     by y (inl e) = all y (ap (has_needs set) e ∙ fed)
@@ -303,7 +327,7 @@ out_graph x set g free =
             absurd (true≢false (sym (any_from (needs_id (element_id_of x)) set y k (ap (λ q. needs_id q y) (sym at) ∙ n)) ∙ free))
 
     all : (y : Element) → has set y ≡ true → has_needs (take_out x set) y ≡ true
-    all y k = live_needs (take_out x set) y (λ p n. by p n (needs_live set y p (g.needs y k) n))
+    all y k = live_needs set (take_out x set) y (g.needs y k) (λ p n. by p n (needs_live set y p (g.needs y k) n))
       where
         by : (p : ElementId) → needs_id p y ≡ true → Lives set p → Lives (take_out x set) p
         by p n (z, got) = (z, (out_keeps x set z (kept y k p n z got.1) got.0, got.1))

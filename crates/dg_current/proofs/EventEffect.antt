@@ -14,7 +14,7 @@ use Rattle.dg_graph.specs.Graph.{IsGraph, has_needs}
 use Rattle.dg_graph.specs.Replay.{replay_from}
 use Rattle.dg_graph.proofs.Sets.{same_itself, element_exact, take_out-put, put-take_out}
 use Rattle.dg_current.specs.declared.element_id.ElementId.{ElementId}
-use Rattle.dg_current.specs.declared.element_id.ElementId.TheVariants.{Node, Edge, NodeValue, EdgeValue}
+use Rattle.dg_current.specs.declared.element_id.ElementId.TheVariants.{Node, Edge, NodeValue, EdgeValue, Message}
 use Rattle.dg_current.specs.HeldGraph.{HeldGraphState, knows, HasRoom, IsKnown, KeepsIds}
 use Rattle.dg_current.specs.EventEffect.{changed_id, element_before, element_after, CanHappen, CameBy, AllHappen, KnowsEvent, KnowsAllEvents, rewound, Led}
 use Rattle.dg_current.specs.ElementIds.{element_id_of, at, needs_id}
@@ -42,6 +42,7 @@ before_has_id (body.NodeAttr id key None new) x e = absurd (some_none (sym e))
 before_has_id (body.NodeAttr id key (Some v) new) x e = ap element_id_of (sym (some_is _ x e))
 before_has_id (body.EdgeAttr id key None new) x e = absurd (some_none (sym e))
 before_has_id (body.EdgeAttr id key (Some v) new) x e = ap element_id_of (sym (some_is _ x e))
+before_has_id (body.Message s d v) x e = absurd (some_none (sym e))
 
 pub after_has_id : (b : Body) (x : Element) → element_after b ≡ Some x → element_id_of x ≡ changed_id b
 after_has_id (body.NodeRemoved id) x e = absurd (some_none (sym e))
@@ -52,6 +53,7 @@ after_has_id (body.NodeAttr id key old None) x e = absurd (some_none (sym e))
 after_has_id (body.NodeAttr id key old (Some v)) x e = ap element_id_of (sym (some_is _ x e))
 after_has_id (body.EdgeAttr id key old None) x e = absurd (some_none (sym e))
 after_has_id (body.EdgeAttr id key old (Some v)) x e = ap element_id_of (sym (some_is _ x e))
+after_has_id (body.Message s d v) x e = absurd (some_none (sym e))
 
 -- an event takes the element before it away and leaves the one after it, or it changes nothing
 pub record Swaps (b : Body) : Type 0 where
@@ -85,6 +87,7 @@ shape (body.NodeAdded id) = inl (record { removed = refl; added = refl; apart = 
 shape (body.NodeRemoved id) = inl (record { removed = refl; added = refl; apart = λ x e f. some_none (sym f) })
 shape (body.EdgeAdded id s d b) = inl (record { removed = refl; added = refl; apart = λ x e f. some_none (sym e) })
 shape (body.EdgeRemoved id s d b) = inl (record { removed = refl; added = refl; apart = λ x e f. some_none (sym f) })
+shape (body.Message s d v) = inr (record { removed = refl; added = refl; same = refl })
 shape (body.NodeAttr id key None None) = inr (record { removed = refl; added = refl; same = refl })
 shape (body.NodeAttr id key None (Some n)) = inl (record { removed = refl; added = refl; apart = λ x e f. some_none (sym e) })
 shape (body.NodeAttr id key (Some m) None) = inl (record { removed = refl; added = refl; apart = λ x e f. some_none (sym f) })
@@ -145,6 +148,7 @@ id_free set (body.EdgeAdded id s d b) h x e = absurd (some_none (sym e))
 id_free set (body.EdgeRemoved id s d b) h x e = h.free refl
 id_free set (body.NodeAttr id key old new) h x e = none_needs set
 id_free set (body.EdgeAttr id key old new) h x e = none_needs set
+id_free set (body.Message s d v) h x e = absurd (some_none (sym e))
 
 -- no element needs itself
 own_id : (x : Element) → needs_id (element_id_of x) x ≡ true → ⊥
@@ -152,6 +156,7 @@ own_id (element.Node n) e = false≢true e
 own_id (element.Edge n s d b) e = false≢true e
 own_id (element.NodeAttr n k v) e = false≢true e
 own_id (element.EdgeAttr n k v) e = false≢true e
+own_id (element.Message s d v) e = false≢true e
 
 -- ---- one element less and one more
 
@@ -168,7 +173,7 @@ out_lacks x set g there = by (at (take_out x set) (element_id_of x)) refl
 
 -- no element needs one with its own id
 pub out_fed : (x y : Element) (set : List Element) → element_id_of x ≡ element_id_of y → has_needs set y ≡ true → has_needs (take_out x set) y ≡ true
-out_fed x y set is h = live_needs (take_out x set) y (λ p n. by p n (needs_live set y p h n))
+out_fed x y set is h = live_needs set (take_out x set) y h (λ p n. by p n (needs_live set y p h n))
   where
     by : (p : ElementId) → needs_id p y ≡ true → Lives set p → Lives (take_out x set) p
     by p n (z, got) = (z, (out_keeps x set z (apart (same z x) refl) got.0, got.1))
@@ -368,6 +373,7 @@ node_values_alike id key v w = record { ids = refl; needs = same_needs }
     same_needs (Edge n) = refl
     same_needs (NodeValue k n) = refl
     same_needs (EdgeValue k n) = refl
+    same_needs (Message w s d) = refl
 
 edge_values_alike : (id key v w : ℕ) → Alike (element.EdgeAttr id key v) (element.EdgeAttr id key w)
 edge_values_alike id key v w = record { ids = refl; needs = same_needs }
@@ -377,6 +383,7 @@ edge_values_alike id key v w = record { ids = refl; needs = same_needs }
     same_needs (Edge n) = refl
     same_needs (NodeValue k n) = refl
     same_needs (EdgeValue k n) = refl
+    same_needs (Message w s d) = refl
 
 moved_from : (make : ℕ → Element) (value other : Option ℕ) (x : Element) → moved make value other ≡ Some x → (v : ℕ) × (x ≡ make v)
 moved_from make value other x e = by (option_eq nat_eq value other) value e
@@ -392,6 +399,7 @@ alike (body.NodeAdded id) x y e f = absurd (some_none (sym e))
 alike (body.NodeRemoved id) x y e f = absurd (some_none (sym f))
 alike (body.EdgeAdded id s d b) x y e f = absurd (some_none (sym e))
 alike (body.EdgeRemoved id s d b) x y e f = absurd (some_none (sym f))
+alike (body.Message s d v) x y e f = absurd (some_none (sym e))
 alike (body.NodeAttr id key old new) x y e f =
     let out = moved_from (element.NodeAttr id key) old new x e in
     let into = moved_from (element.NodeAttr id key) new old y f in

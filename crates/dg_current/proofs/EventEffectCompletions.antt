@@ -10,16 +10,17 @@ use Rattle.dg_graph.specs.declared.event.Body.TheVariants as body
 use Rattle.dg_graph.specs.declared.event.Change.{Change}
 use Rattle.dg_graph.specs.declared.event.Event.{Event}
 use Rattle.dg_graph.specs.declared.event.What.{What}
+use Rattle.dg_graph.specs.declared.event.What.TheVariants as what
 use Rattle.dg_graph.specs.declared.event.What.TheVariants.{AddNode, RemoveNode, AddEdge, RemoveEdge, SetNode, UnsetNode, SetEdge, UnsetEdge}
 use Rattle.dg_graph.specs.declared.event.TheConstants.{REASON_NODE_EXISTS, REASON_NO_NODE, REASON_NODE_IN_USE, REASON_EDGE_EXISTS, REASON_NO_EDGE, REASON_NO_END, REASON_TIME}
 use Rattle.dg_graph.specs.CompletedChanges.{event_of, on_value}
 use Rattle.dg_graph.specs.Completion.{complete, has_node, edge_of, needs_node, needs_edge, edge_removal, node_value, edge_value, value_in, value_removal, is_found, is_value_change, is_change_of}
-use Rattle.dg_graph.specs.Graph.{has_needs}
+use Rattle.dg_graph.specs.Graph.{IsGraph, has_needs}
 use Rattle.dg_graph.proofs.Sets.{element_exact}
-use Rattle.dg_current.specs.declared.element_id.ElementId.TheVariants.{Node, Edge, NodeValue, EdgeValue}
+use Rattle.dg_current.specs.declared.element_id.ElementId.TheVariants.{Node, Edge, NodeValue, EdgeValue, Message}
 use Rattle.dg_current.specs.EventEffect.{CanHappen}
 use Rattle.dg_current.specs.ElementIds.{element_id_of, at, needs_id}
-use Rattle.dg_current.proofs.ElementIds.{both, at_has, has_node_is, node_from}
+use Rattle.dg_current.proofs.ElementIds.{both, at_has, has_node_is, node_from, at_is}
 use Rattle.dg_current.proofs.EventEffect.{none_needs}
 
 -- the change that is done
@@ -47,15 +48,32 @@ node_attr_at (element.NodeAttr n k v) id key e =
     let keys : k ≡ key = cc in
     λ i. Some (element.NodeAttr (ids i) (keys i) v)
 node_attr_at (element.EdgeAttr n k v) id key e = cc
+node_attr_at (element.Message s d v) id key e = cc
 
 edge_attr_at : (x : Element) (id key : ℕ) → element_id_of x ≡ EdgeValue key id → Some x ≡ option_map (element.EdgeAttr id key) (value_in x)
 edge_attr_at (element.Node n) id key e = cc
 edge_attr_at (element.Edge n s d b) id key e = cc
+edge_attr_at (element.Message s d v) id key e = cc
 edge_attr_at (element.NodeAttr n k v) id key e = cc
 edge_attr_at (element.EdgeAttr n k v) id key e =
     let ids : n ≡ id = cc in
     let keys : k ≡ key = cc in
     λ i. Some (element.EdgeAttr (ids i) (keys i) v)
+
+-- no graph has a message
+none_some : {X : Type 0} {x : X} → None ≡ Some x → ⊥
+none_some e = cc
+
+not_message : (set : List Element) (x : Element) → has_needs set x ≡ true → (s d v : ℕ) → element_id_of x ≡ Message v s d → ⊥
+not_message set (element.Node n) h s d v e = cc
+not_message set (element.Edge n t f b) h s d v e = cc
+not_message set (element.NodeAttr n k w) h s d v e = cc
+not_message set (element.EdgeAttr n k w) h s d v e = cc
+not_message set (element.Message t f w) h s d v e = false≢true h
+
+no_message : (set : List Element) → IsGraph set → (s d v : ℕ) → at set (Message v s d) ≡ None
+no_message set g s d v =
+    at_is set (Message v s d) None (λ x e. absurd (none_some e)) (λ x there is. absurd (not_message set x (g.needs x there) s d v is))
 
 not_true : (b : Bool) → not b ≡ true → b ≡ false
 not_true true e = absurd (false≢true e)
@@ -153,6 +171,7 @@ module _ (set : List Element) where
       by (Some (element.Node m)) is n k f = absurd (err_ok _ c f)
       by (Some (element.NodeAttr m key v)) is n k f = absurd (err_ok _ c f)
       by (Some (element.EdgeAttr m key v)) is n k f = absurd (err_ok _ c f)
+      by (Some (element.Message t d v)) is n k f = absurd (err_ok _ c f)
       by (Some (element.Edge m s d b)) is true k f = absurd (err_ok _ c f)
       by (Some (element.Edge m s d b)) is false k f =
           let same = edge_at (element.Edge m s d b) id (at_has set (Edge id) (element.Edge m s d b) is).1 m s d b refl in
@@ -214,25 +233,40 @@ module _ (set : List Element) where
             free = λ none. none_needs set;
           }) f
 
-  completed_happens : (w : What) (c : Body) → complete w set ≡ Ok c → CanHappen set c
-  completed_happens (AddNode id) c e = add_node id c e
-  completed_happens (RemoveNode id) c e = remove_node id c e
-  completed_happens (AddEdge id s d b) c e = add_edge id s d b c e
-  completed_happens (RemoveEdge id) c e = remove_edge id c e
-  completed_happens (SetNode id key v) c e = set_node id key v c e
-  completed_happens (UnsetNode id key) c e = unset_node id key c e
-  completed_happens (SetEdge id key v) c e = set_edge id key v c e
-  completed_happens (UnsetEdge id key) c e = unset_edge id key c e
+  told : IsGraph set → (s d v : ℕ) → CanHappen set (body.Message s d v)
+  told g s d v = record {
+    before = no_message set g s d v;
+    fed = tt;
+    free = λ none. none_needs set;
+  }
+
+  message : IsGraph set → (s d v : ℕ) (c : Body) → complete (what.Message s d v) set ≡ Ok c → CanHappen set c
+  message g s d v c e = by (has_node set s && has_node set d) e
+    where
+      by : (t : Bool) → cond t (Ok (body.Message s d v)) (Err REASON_NO_END) ≡ Ok c → CanHappen set c
+      by false f = absurd (err_ok _ c f)
+      by true f = as_body (body.Message s d v) c (told g s d v) f
+
+  completed_happens : IsGraph set → (w : What) (c : Body) → complete w set ≡ Ok c → CanHappen set c
+  completed_happens g (AddNode id) c e = add_node id c e
+  completed_happens g (RemoveNode id) c e = remove_node id c e
+  completed_happens g (AddEdge id s d b) c e = add_edge id s d b c e
+  completed_happens g (RemoveEdge id) c e = remove_edge id c e
+  completed_happens g (SetNode id key v) c e = set_node id key v c e
+  completed_happens g (UnsetNode id key) c e = unset_node id key c e
+  completed_happens g (SetEdge id key v) c e = set_edge id key v c e
+  completed_happens g (UnsetEdge id key) c e = unset_edge id key c e
+  completed_happens g (what.Message s d v) c e = message g s d v c e
 
   -- the event of a change can happen, and has its time
-  pub event_happens : (earliest : ℕ) (change : Change) (e : Event) → event_of earliest set change ≡ Ok e → CanHappen set e.body
-  event_happens earliest change e is = by (ltb change.time earliest) (complete change.what set) refl is
+  pub event_happens : IsGraph set → (earliest : ℕ) (change : Change) (e : Event) → event_of earliest set change ≡ Ok e → CanHappen set e.body
+  event_happens g earliest change e is = by (ltb change.time earliest) (complete change.what set) refl is
     where
       by : (t : Bool) (r : Result Body ℕ) → complete change.what set ≡ r
           → cond t (Err REASON_TIME) (on_value (λ (b : Body). record { time = change.time; body = b }) r) ≡ Ok e → CanHappen set e.body
       by true r h f = absurd (err_ok _ e f)
       by false (Err reason) h f = absurd (err_ok _ e f)
-      by false (Ok b) h f = subst (λ (x : Event). CanHappen set x.body) (ok_is _ e f) (completed_happens change.what b h)
+      by false (Ok b) h f = subst (λ (x : Event). CanHappen set x.body) (ok_is _ e f) (completed_happens g change.what b h)
 
   -- ---- an event that is followed
 
@@ -289,14 +323,15 @@ module _ (set : List Element) where
       }
 
   -- an event to which some change comes can happen
-  followed_happens : (b : Body) → is_change_of set b ≡ true → CanHappen set b
-  followed_happens (body.NodeAdded id) e = added_node id e
-  followed_happens (body.NodeRemoved id) e = removed_node id e
-  followed_happens (body.EdgeAdded id s d b) e = added_edge id s d b e
-  followed_happens (body.EdgeRemoved id s d b) e = removed_edge id s d b e
-  followed_happens (body.NodeAttr id key old new) e = moved_node_value id key old new e
-  followed_happens (body.EdgeAttr id key old new) e = moved_edge_value id key old new e
+  followed_happens : IsGraph set → (b : Body) → is_change_of set b ≡ true → CanHappen set b
+  followed_happens g (body.NodeAdded id) e = added_node id e
+  followed_happens g (body.NodeRemoved id) e = removed_node id e
+  followed_happens g (body.EdgeAdded id s d b) e = added_edge id s d b e
+  followed_happens g (body.EdgeRemoved id s d b) e = removed_edge id s d b e
+  followed_happens g (body.NodeAttr id key old new) e = moved_node_value id key old new e
+  followed_happens g (body.EdgeAttr id key old new) e = moved_edge_value id key old new e
+  followed_happens g (body.Message s d v) e = told g s d v
 
 -- the same by an answer that was given in a set that is this one
-pub followed_still : (old new : List Element) (b : Body) (answer : Bool) → new ≡ old → answer ≡ is_change_of old b → answer ≡ true → CanHappen new b
-followed_still old new b answer is exact holds = followed_happens new b (ap (λ s. is_change_of s b) is ∙ sym exact ∙ holds)
+pub followed_still : (old new : List Element) (b : Body) (answer : Bool) → IsGraph new → new ≡ old → answer ≡ is_change_of old b → answer ≡ true → CanHappen new b
+followed_still old new b answer g is exact holds = followed_happens new g b (ap (λ s. is_change_of s b) is ∙ sym exact ∙ holds)

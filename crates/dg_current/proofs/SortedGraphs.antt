@@ -147,17 +147,20 @@ some_is p q e = cc
 holders_rise : (x y : Element) (p q : ElementId) → before y x ≡ false → holder_of x ≡ Some p → holder_of y ≡ Some q → before (least q) (least p) ≡ false
 holders_rise (element.Node n) y p q b e f = absurd (none_some e)
 holders_rise (element.Edge n s d u) y p q b e f = absurd (none_some e)
+holders_rise (element.Message n s d) y p q b e f = absurd (none_some e)
 holders_rise (element.NodeAttr n k v) (element.Node m) p q b e f = absurd (none_some f)
 holders_rise (element.NodeAttr n k v) (element.Edge m t c a) p q b e f = absurd (none_some f)
 holders_rise (element.NodeAttr n k v) (element.NodeAttr m l w) p q b e f =
     (let later = sym (some_is (Node m) q f) in let earlier = sym (some_is (Node n) p e) in λ i. before (least (later i)) (least (earlier i))) ∙ nodes_rise n m (node_values_rise n k v m l w b)
 holders_rise (element.NodeAttr n k v) (element.EdgeAttr m l w) p q b e f =
     (let later = sym (some_is (Edge m) q f) in let earlier = sym (some_is (Node n) p e) in λ i. before (least (later i)) (least (earlier i)))
+holders_rise (element.NodeAttr n k v) (element.Message m l w) p q b e f = absurd (none_some f)
 holders_rise (element.EdgeAttr n k v) (element.Node m) p q b e f = absurd (none_some f)
 holders_rise (element.EdgeAttr n k v) (element.Edge m t c a) p q b e f = absurd (none_some f)
 holders_rise (element.EdgeAttr n k v) (element.NodeAttr m l w) p q b e f = absurd (true≢false b)
 holders_rise (element.EdgeAttr n k v) (element.EdgeAttr m l w) p q b e f =
     (let later = sym (some_is (Edge m) q f) in let earlier = sym (some_is (Edge n) p e) in λ i. before (least (later i)) (least (earlier i))) ∙ edges_rise n m (edge_values_rise n k v m l w b)
+holders_rise (element.EdgeAttr n k v) (element.Message m l w) p q b e f = absurd (none_some f)
 
 -- the first items are before all that the values from an index on stand at
 abbrev pub HoldersPast : List Element → ℕ → ℕ → Type 0
@@ -188,6 +191,7 @@ no_later_node xs s i k d n from end is other = by (get_or xs i d) other (ap (λ 
     by (element.Edge m t c a) not e = true≢false e
     by (element.NodeAttr m l w) not e = true≢false e
     by (element.EdgeAttr m l w) not e = true≢false e
+    by (element.Message m l w) not e = true≢false e
 
 -- one node more
 pub nodes_more : (xs : List Element) (nodes : List ℕ) (i id : ℕ) → i < length xs → map element.Node nodes ≡ take i xs → get_or xs i past ≡ element.Node id
@@ -245,6 +249,7 @@ needs_both set (element.Edge n s d b) = by (has_node set s && has_node set d)
     by false = refl
 needs_both set (element.NodeAttr n k v) = sym (has_node_is set n)
 needs_both set (element.EdgeAttr n k v) = refl
+needs_both set (element.Message s d v) = refl
 
 pub all_needs : (set : List Element) → (list_all (is_held set) set && list_all (has_ends set) set) ≡ list_all (has_needs set) set
 all_needs set =

@@ -14,7 +14,7 @@ use Rattle.dg_graph.specs.contracts.element.ElementOrd.TheImpl as of_elements
 use Rattle.dg_graph.specs.Elements.{bit, spelled, element_cmp, before, same, has, IsSet, IsBelowFirst}
 use Rattle.dg_graph.proofs.Sets.{element_total, element_exact, same_itself, Greater_from_before, IsBelowFirst-trans}
 use Rattle.dg_current.specs.declared.element_id.ElementId.{ElementId}
-use Rattle.dg_current.specs.declared.element_id.ElementId.TheVariants.{Node, Edge, NodeValue, EdgeValue}
+use Rattle.dg_current.specs.declared.element_id.ElementId.TheVariants.{Node, Edge, NodeValue, EdgeValue, Message}
 use Rattle.dg_current.specs.ElementIds.{element_id_of, has_id}
 use Rattle.dg_current.specs.Sorted.{least, least_value_at, is_value_at}
 use Rattle.dg_current.proofs.ElementIds.{either, has_id_is}
@@ -32,6 +32,7 @@ compares_by (element.Node id) (element.Node id2) = then_Equal (nat_cmp id id2)
 compares_by (element.Node id) (element.Edge id2 src dst directed) = refl
 compares_by (element.Node id) (element.NodeAttr id2 key value) = refl
 compares_by (element.Node id) (element.EdgeAttr id2 key value) = refl
+compares_by (element.Node id) (element.Message src2 dst2 value2) = refl
 compares_by (element.Edge id src dst directed) (element.Node id2) = refl
 compares_by (element.Edge id src dst true) (element.Edge id2 src2 dst2 true) = refl
 compares_by (element.Edge id src dst true) (element.Edge id2 src2 dst2 false) = refl
@@ -39,16 +40,25 @@ compares_by (element.Edge id src dst false) (element.Edge id2 src2 dst2 true) = 
 compares_by (element.Edge id src dst false) (element.Edge id2 src2 dst2 false) = refl
 compares_by (element.Edge id src dst directed) (element.NodeAttr id2 key value) = refl
 compares_by (element.Edge id src dst directed) (element.EdgeAttr id2 key value) = refl
+compares_by (element.Edge id src dst directed) (element.Message src2 dst2 value2) = refl
 compares_by (element.NodeAttr id key value) (element.Node id2) = refl
 compares_by (element.NodeAttr id key value) (element.Edge id2 src dst directed) = refl
 compares_by (element.NodeAttr id key value) (element.NodeAttr id2 key2 value2) =
     ap (λ o. ordering_then (nat_cmp id id2) (ordering_then (nat_cmp key key2) o)) (then_Equal (nat_cmp value value2))
 compares_by (element.NodeAttr id key value) (element.EdgeAttr id2 key2 value2) = refl
+compares_by (element.NodeAttr id key value) (element.Message src2 dst2 value2) = refl
 compares_by (element.EdgeAttr id key value) (element.Node id2) = refl
 compares_by (element.EdgeAttr id key value) (element.Edge id2 src dst directed) = refl
 compares_by (element.EdgeAttr id key value) (element.NodeAttr id2 key2 value2) = refl
 compares_by (element.EdgeAttr id key value) (element.EdgeAttr id2 key2 value2) =
     ap (λ o. ordering_then (nat_cmp id id2) (ordering_then (nat_cmp key key2) o)) (then_Equal (nat_cmp value value2))
+compares_by (element.EdgeAttr id key value) (element.Message src2 dst2 value2) = refl
+compares_by (element.Message src dst value) (element.Node id2) = refl
+compares_by (element.Message src dst value) (element.Edge id2 src2 dst2 directed) = refl
+compares_by (element.Message src dst value) (element.NodeAttr id2 key2 value2) = refl
+compares_by (element.Message src dst value) (element.EdgeAttr id2 key2 value2) = refl
+compares_by (element.Message src dst value) (element.Message src2 dst2 value2) =
+    ap (λ o. ordering_then (nat_cmp src src2) (ordering_then (nat_cmp dst dst2) o)) (then_Equal (nat_cmp value value2))
 
 -- ---- indices in a rising list
 
@@ -180,12 +190,14 @@ id_spelled (Node id) = 0 ∷ id ∷ []
 id_spelled (Edge id) = 1 ∷ id ∷ []
 id_spelled (NodeValue key id) = 2 ∷ id ∷ key ∷ []
 id_spelled (EdgeValue key id) = 3 ∷ id ∷ key ∷ []
+id_spelled (Message value src dst) = 4 ∷ src ∷ dst ∷ value ∷ []
 
 id_begins : (x : Element) → Begins (id_spelled (element_id_of x)) (spelled x)
 id_begins (element.Node n) = ([], refl)
 id_begins (element.Edge n s d b) = (s ∷ d ∷ bit b ∷ [], refl)
 id_begins (element.NodeAttr n k v) = (v ∷ [], refl)
 id_begins (element.EdgeAttr n k v) = (v ∷ [], refl)
+id_begins (element.Message s d v) = ([], refl)
 
 has_begins : (p : ElementId) (x : Element) → element_id_of x ≡ p → Begins (id_spelled p) (spelled x)
 has_begins p x is = subst (λ q. Begins (id_spelled q) (spelled x)) is (id_begins x)
@@ -198,20 +210,34 @@ begins_id (Node id) (element.Node n) (rest, is) = ap Node (nth_is 1 (0 ∷ n ∷
 begins_id (Node id) (element.Edge n s d b) (rest, is) = let kind = nth_is 0 _ (0 ∷ id ∷ rest) is in absurd (omega arith)
 begins_id (Node id) (element.NodeAttr n k v) (rest, is) = let kind = nth_is 0 _ (0 ∷ id ∷ rest) is in absurd (omega arith)
 begins_id (Node id) (element.EdgeAttr n k v) (rest, is) = let kind = nth_is 0 _ (0 ∷ id ∷ rest) is in absurd (omega arith)
+begins_id (Node id) (element.Message s d v) (rest, is) = let kind = nth_is 0 _ (0 ∷ id ∷ rest) is in absurd (omega arith)
 begins_id (Edge id) (element.Node n) (rest, is) = let kind = nth_is 0 _ (1 ∷ id ∷ rest) is in absurd (omega arith)
 begins_id (Edge id) (element.Edge n s d b) (rest, is) = ap Edge (nth_is 1 (1 ∷ n ∷ s ∷ d ∷ bit b ∷ []) (1 ∷ id ∷ rest) is)
 begins_id (Edge id) (element.NodeAttr n k v) (rest, is) = let kind = nth_is 0 _ (1 ∷ id ∷ rest) is in absurd (omega arith)
 begins_id (Edge id) (element.EdgeAttr n k v) (rest, is) = let kind = nth_is 0 _ (1 ∷ id ∷ rest) is in absurd (omega arith)
+begins_id (Edge id) (element.Message s d v) (rest, is) = let kind = nth_is 0 _ (1 ∷ id ∷ rest) is in absurd (omega arith)
 begins_id (NodeValue key id) (element.Node n) (rest, is) = let kind = nth_is 0 _ (2 ∷ id ∷ key ∷ rest) is in absurd (omega arith)
 begins_id (NodeValue key id) (element.Edge n s d b) (rest, is) = let kind = nth_is 0 _ (2 ∷ id ∷ key ∷ rest) is in absurd (omega arith)
 begins_id (NodeValue key id) (element.NodeAttr n k v) (rest, is) =
     λ i. NodeValue (nth_is 2 (2 ∷ n ∷ k ∷ v ∷ []) (2 ∷ id ∷ key ∷ rest) is i) (nth_is 1 (2 ∷ n ∷ k ∷ v ∷ []) (2 ∷ id ∷ key ∷ rest) is i)
 begins_id (NodeValue key id) (element.EdgeAttr n k v) (rest, is) = let kind = nth_is 0 _ (2 ∷ id ∷ key ∷ rest) is in absurd (omega arith)
+begins_id (NodeValue key id) (element.Message s d v) (rest, is) = let kind = nth_is 0 _ (2 ∷ id ∷ key ∷ rest) is in absurd (omega arith)
 begins_id (EdgeValue key id) (element.Node n) (rest, is) = let kind = nth_is 0 _ (3 ∷ id ∷ key ∷ rest) is in absurd (omega arith)
 begins_id (EdgeValue key id) (element.Edge n s d b) (rest, is) = let kind = nth_is 0 _ (3 ∷ id ∷ key ∷ rest) is in absurd (omega arith)
 begins_id (EdgeValue key id) (element.NodeAttr n k v) (rest, is) = let kind = nth_is 0 _ (3 ∷ id ∷ key ∷ rest) is in absurd (omega arith)
 begins_id (EdgeValue key id) (element.EdgeAttr n k v) (rest, is) =
     λ i. EdgeValue (nth_is 2 (3 ∷ n ∷ k ∷ v ∷ []) (3 ∷ id ∷ key ∷ rest) is i) (nth_is 1 (3 ∷ n ∷ k ∷ v ∷ []) (3 ∷ id ∷ key ∷ rest) is i)
+begins_id (EdgeValue key id) (element.Message s d v) (rest, is) = let kind = nth_is 0 _ (3 ∷ id ∷ key ∷ rest) is in absurd (omega arith)
+begins_id (Message v s d) (element.Node n) (rest, is) = let kind = nth_is 0 _ (4 ∷ s ∷ d ∷ v ∷ rest) is in absurd (omega arith)
+begins_id (Message v s d) (element.Edge n t f b) (rest, is) = let kind = nth_is 0 _ (4 ∷ s ∷ d ∷ v ∷ rest) is in absurd (omega arith)
+begins_id (Message v s d) (element.NodeAttr n k w) (rest, is) = let kind = nth_is 0 _ (4 ∷ s ∷ d ∷ v ∷ rest) is in absurd (omega arith)
+begins_id (Message v s d) (element.EdgeAttr n k w) (rest, is) = let kind = nth_is 0 _ (4 ∷ s ∷ d ∷ v ∷ rest) is in absurd (omega arith)
+begins_id (Message v s d) (element.Message t f w) (rest, is) =
+    let read : ℕ → ℕ → Type 0 = λ k n. get_or (4 ∷ t ∷ f ∷ w ∷ []) k 0 ≡ n in
+    let src : read 1 s = nth_is 1 (4 ∷ t ∷ f ∷ w ∷ []) (4 ∷ s ∷ d ∷ v ∷ rest) is in
+    let dst : read 2 d = nth_is 2 (4 ∷ t ∷ f ∷ w ∷ []) (4 ∷ s ∷ d ∷ v ∷ rest) is in
+    let value : read 3 v = nth_is 3 (4 ∷ t ∷ f ∷ w ∷ []) (4 ∷ s ∷ d ∷ v ∷ rest) is in
+    λ i. Message (value i) (src i) (dst i)
 
 pub id_between : (p : ElementId) (x y z : Element) → element_id_of x ≡ p → element_id_of y ≡ p → before z x ≡ false → before y z ≡ false → element_id_of z ≡ p
 id_between p x y z is at h k = begins_id p z (between (id_spelled p) x y z (has_begins p x is) (has_begins p y at) h k)
@@ -221,6 +247,7 @@ id_of_least (Node id) = refl
 id_of_least (Edge id) = refl
 id_of_least (NodeValue key id) = refl
 id_of_least (EdgeValue key id) = refl
+id_of_least (Message value src dst) = refl
 
 -- no element is before the least one with its id
 not_below : (x : Element) → before x (least (element_id_of x)) ≡ false
@@ -232,6 +259,7 @@ not_below (element.NodeAttr n k v) =
     same_more 2 (n ∷ k ∷ v ∷ []) (n ∷ k ∷ 0 ∷ []) (same_more n (k ∷ v ∷ []) (k ∷ 0 ∷ []) (same_more k (v ∷ []) (0 ∷ []) (zero_more v [] [] refl)))
 not_below (element.EdgeAttr n k v) =
     same_more 3 (n ∷ k ∷ v ∷ []) (n ∷ k ∷ 0 ∷ []) (same_more n (k ∷ v ∷ []) (k ∷ 0 ∷ []) (same_more k (v ∷ []) (0 ∷ []) (zero_more v [] [] refl)))
+not_below (element.Message s d v) = not_itself (element.Message s d v)
 
 pub below_least : (p : ElementId) (x : Element) → IsTrue (before x (least p)) → has_id p x ≡ false
 below_least p x e = by (has_id p x) refl
@@ -247,30 +275,36 @@ value_spelled (Node id) = 2 ∷ id ∷ []
 value_spelled (Edge id) = 3 ∷ id ∷ []
 value_spelled (NodeValue key id) = 2 ∷ id ∷ []
 value_spelled (EdgeValue key id) = 3 ∷ id ∷ []
+value_spelled (Message value src dst) = 2 ∷ []
 
 value_begins : (p : ElementId) (x : Element) → is_value_at p x ≡ true → Begins (value_spelled p) (spelled x)
 value_begins (Node id) (element.Node n) e = absurd (false≢true e)
 value_begins (Node id) (element.Edge n s d b) e = absurd (false≢true e)
 value_begins (Node id) (element.NodeAttr n k v) e = (k ∷ v ∷ [], λ i. 2 ∷ eqb-true n id e i ∷ k ∷ v ∷ [])
 value_begins (Node id) (element.EdgeAttr n k v) e = absurd (false≢true e)
+value_begins (Node id) (element.Message s d v) e = absurd (false≢true e)
 value_begins (Edge id) (element.Node n) e = absurd (false≢true e)
 value_begins (Edge id) (element.Edge n s d b) e = absurd (false≢true e)
 value_begins (Edge id) (element.NodeAttr n k v) e = absurd (false≢true e)
 value_begins (Edge id) (element.EdgeAttr n k v) e = (k ∷ v ∷ [], λ i. 3 ∷ eqb-true n id e i ∷ k ∷ v ∷ [])
+value_begins (Edge id) (element.Message s d v) e = absurd (false≢true e)
 value_begins (NodeValue key id) x e = absurd (false≢true e)
 value_begins (EdgeValue key id) x e = absurd (false≢true e)
+value_begins (Message value src dst) x e = absurd (false≢true e)
 
 begins_node_value : (id : ℕ) (x : Element) → Begins (2 ∷ id ∷ []) (spelled x) → is_value_at (Node id) x ≡ true
 begins_node_value id (element.Node n) (rest, is) = let kind = nth_is 0 _ (2 ∷ id ∷ rest) is in absurd (omega arith)
 begins_node_value id (element.Edge n s d b) (rest, is) = let kind = nth_is 0 _ (2 ∷ id ∷ rest) is in absurd (omega arith)
 begins_node_value id (element.NodeAttr n k v) (rest, is) = eq-eqb n id (nth_is 1 (2 ∷ n ∷ k ∷ v ∷ []) (2 ∷ id ∷ rest) is)
 begins_node_value id (element.EdgeAttr n k v) (rest, is) = let kind = nth_is 0 _ (2 ∷ id ∷ rest) is in absurd (omega arith)
+begins_node_value id (element.Message s d v) (rest, is) = let kind = nth_is 0 _ (2 ∷ id ∷ rest) is in absurd (omega arith)
 
 begins_edge_value : (id : ℕ) (x : Element) → Begins (3 ∷ id ∷ []) (spelled x) → is_value_at (Edge id) x ≡ true
 begins_edge_value id (element.Node n) (rest, is) = let kind = nth_is 0 _ (3 ∷ id ∷ rest) is in absurd (omega arith)
 begins_edge_value id (element.Edge n s d b) (rest, is) = let kind = nth_is 0 _ (3 ∷ id ∷ rest) is in absurd (omega arith)
 begins_edge_value id (element.NodeAttr n k v) (rest, is) = let kind = nth_is 0 _ (3 ∷ id ∷ rest) is in absurd (omega arith)
 begins_edge_value id (element.EdgeAttr n k v) (rest, is) = eq-eqb n id (nth_is 1 (3 ∷ n ∷ k ∷ v ∷ []) (3 ∷ id ∷ rest) is)
+begins_edge_value id (element.Message s d v) (rest, is) = let kind = nth_is 0 _ (3 ∷ id ∷ rest) is in absurd (omega arith)
 
 -- a value that is not before the first one that can stand there, and is before one that does
 pub value_between : (p : ElementId) (y z : Element) → is_value_at p y ≡ true → before z (least_value_at p) ≡ false → before y z ≡ false → is_value_at p z ≡ true
@@ -280,6 +314,7 @@ value_between (Edge id) y z at h k =
     begins_edge_value id z (between (3 ∷ id ∷ []) (least_value_at (Edge id)) y z (0 ∷ 0 ∷ [], refl) (value_begins (Edge id) y at) h k)
 value_between (NodeValue key id) y z at h k = absurd (false≢true at)
 value_between (EdgeValue key id) y z at h k = absurd (false≢true at)
+value_between (Message value src dst) y z at h k = absurd (false≢true at)
 
 value_not_below : (p : ElementId) (x : Element) → is_value_at p x ≡ true → before x (least_value_at p) ≡ false
 value_not_below (Node id) (element.Node n) e = absurd (false≢true e)
@@ -288,14 +323,17 @@ value_not_below (Node id) (element.NodeAttr n k v) e =
     ap (λ m. before (element.NodeAttr n k v) (element.NodeAttr m 0 0)) (sym (eqb-true n id e))
     ∙ same_more 2 (n ∷ k ∷ v ∷ []) (n ∷ 0 ∷ 0 ∷ []) (same_more n (k ∷ v ∷ []) (0 ∷ 0 ∷ []) (zero_more k (v ∷ []) (0 ∷ []) (zero_more v [] [] refl)))
 value_not_below (Node id) (element.EdgeAttr n k v) e = absurd (false≢true e)
+value_not_below (Node id) (element.Message s d v) e = absurd (false≢true e)
 value_not_below (Edge id) (element.Node n) e = absurd (false≢true e)
 value_not_below (Edge id) (element.Edge n s d b) e = absurd (false≢true e)
 value_not_below (Edge id) (element.NodeAttr n k v) e = absurd (false≢true e)
 value_not_below (Edge id) (element.EdgeAttr n k v) e =
     ap (λ m. before (element.EdgeAttr n k v) (element.EdgeAttr m 0 0)) (sym (eqb-true n id e))
     ∙ same_more 3 (n ∷ k ∷ v ∷ []) (n ∷ 0 ∷ 0 ∷ []) (same_more n (k ∷ v ∷ []) (0 ∷ 0 ∷ []) (zero_more k (v ∷ []) (0 ∷ []) (zero_more v [] [] refl)))
+value_not_below (Edge id) (element.Message s d v) e = absurd (false≢true e)
 value_not_below (NodeValue key id) x e = absurd (false≢true e)
 value_not_below (EdgeValue key id) x e = absurd (false≢true e)
+value_not_below (Message value src dst) x e = absurd (false≢true e)
 
 pub below_value : (p : ElementId) (x : Element) → IsTrue (before x (least_value_at p)) → is_value_at p x ≡ false
 below_value p x e = by (is_value_at p x) refl

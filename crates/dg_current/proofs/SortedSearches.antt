@@ -239,6 +239,7 @@ node_uses id (element.Edge n s d b) = by (eqb s id || eqb d id)
     by false = refl
 node_uses id (element.NodeAttr n k v) = let b = eqb n id in omega arith
 node_uses id (element.EdgeAttr n k v) = refl
+node_uses id (element.Message s d v) = refl
 
 pub uses_of_node : (id : ℕ) (xs : List Element) → count_by (needs_id (Node id)) xs ≡ count_by (has_end id) xs + count_by (is_value_at (Node id)) xs
 uses_of_node id xs = count_both (needs_id (Node id)) (has_end id) (is_value_at (Node id)) (node_uses id) xs
@@ -248,6 +249,7 @@ edge_uses id (element.Node n) = refl
 edge_uses id (element.Edge n s d b) = refl
 edge_uses id (element.NodeAttr n k v) = refl
 edge_uses id (element.EdgeAttr n k v) = refl
+edge_uses id (element.Message s d v) = refl
 
 pub uses_of_edge : (id : ℕ) (xs : List Element) → count_by (needs_id (Edge id)) xs ≡ count_by (is_value_at (Edge id)) xs
 uses_of_edge id xs i = count_by (λ x. edge_uses id x i) xs

@@ -15,7 +15,7 @@ use Rattle.dg_current.specs.declared.element_id.ElementId.TheVariants as element
 use Rattle.dg_current.specs.ElementIds.{at, needs_id, same_id}
 use Rattle.dg_current.specs.HeldGraph.{HeldGraphState, IsKnown}
 
--- the id of the element that the event changes
+-- the id of the element that the event changes; that of a message, which changes none, is no element's
 abbrev pub changed_id : Body → ElementId
 changed_id (body.NodeAdded id) = element_id.Node id
 changed_id (body.NodeRemoved id) = element_id.Node id
@@ -23,6 +23,7 @@ changed_id (body.EdgeAdded id src dst directed) = element_id.Edge id
 changed_id (body.EdgeRemoved id src dst directed) = element_id.Edge id
 changed_id (body.NodeAttr id key old new) = element_id.NodeValue key id
 changed_id (body.EdgeAttr id key old new) = element_id.EdgeValue key id
+changed_id (body.Message src dst value) = element_id.Message value src dst
 
 -- the element with that id before the event
 abbrev pub element_before : Body → Option Element
@@ -32,6 +33,7 @@ element_before (body.EdgeAdded id src dst directed) = None
 element_before (body.EdgeRemoved id src dst directed) = Some (element.Edge id src dst directed)
 element_before (body.NodeAttr id key old new) = option_map (element.NodeAttr id key) old
 element_before (body.EdgeAttr id key old new) = option_map (element.EdgeAttr id key) old
+element_before (body.Message src dst value) = None
 
 -- the element with that id after it
 abbrev pub element_after : Body → Option Element
@@ -41,6 +43,7 @@ element_after (body.EdgeAdded id src dst directed) = Some (element.Edge id src d
 element_after (body.EdgeRemoved id src dst directed) = None
 element_after (body.NodeAttr id key old new) = option_map (element.NodeAttr id key) new
 element_after (body.EdgeAttr id key old new) = option_map (element.EdgeAttr id key) new
+element_after (body.Message src dst value) = None
 
 -- The event can happen in the graph: the element that it changes is as the event says, the one that
 -- it leaves has what it needs, and where it leaves none, no element needs the one with the id.

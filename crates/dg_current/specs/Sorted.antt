@@ -8,7 +8,7 @@ use Rattle.dg_graph.specs.declared.element.Element.TheVariants as element
 use Rattle.dg_graph.specs.Completion.{has_node}
 use Rattle.dg_graph.specs.Elements.{before, has}
 use Rattle.dg_current.specs.declared.element_id.ElementId.{ElementId}
-use Rattle.dg_current.specs.declared.element_id.ElementId.TheVariants.{Node, Edge, NodeValue, EdgeValue}
+use Rattle.dg_current.specs.declared.element_id.ElementId.TheVariants.{Node, Edge, NodeValue, EdgeValue, Message}
 use Rattle.dg_current.specs.ElementIds.{element_id_of, at}
 
 -- the least element with the id, in the order of elements
@@ -17,6 +17,7 @@ least (Node id) = element.Node id
 least (Edge id) = element.Edge id 0 0 false
 least (NodeValue key id) = element.NodeAttr id key 0
 least (EdgeValue key id) = element.EdgeAttr id key 0
+least (Message value src dst) = element.Message src dst value
 
 -- the items up to the index are before the element, and none from there on is
 pub record IsFirstFrom (x : Element) (items : List Element) (index : ℕ) : Type 0 where
@@ -34,17 +35,19 @@ holder_of (element.Node id) = None
 holder_of (element.Edge id src dst directed) = None
 holder_of (element.NodeAttr id key value) = Some (Node id)
 holder_of (element.EdgeAttr id key value) = Some (Edge id)
+holder_of (element.Message src dst value) = None
 
 -- what a value stands at is in the set
 abbrev pub is_held : List Element → Element → Bool
 is_held set x = option_map_or (λ p. is_some (at set p)) (holder_of x) true
 
--- the two ends of an edge are in the set
+-- the two ends of an edge are in the set; a message is in no graph
 abbrev pub has_ends : List Element → Element → Bool
 has_ends set (element.Node id) = true
 has_ends set (element.Edge id src dst directed) = has_node set src && has_node set dst
 has_ends set (element.NodeAttr id key value) = true
 has_ends set (element.EdgeAttr id key value) = true
+has_ends set (element.Message src dst value) = false
 
 -- the element is a value at the one with the id
 abbrev pub is_value_at : ElementId → Element → Bool
@@ -58,6 +61,7 @@ least_value_at (Node id) = element.NodeAttr id 0 0
 least_value_at (Edge id) = element.EdgeAttr id 0 0
 least_value_at (NodeValue key id) = element.NodeAttr id 0 0
 least_value_at (EdgeValue key id) = element.EdgeAttr id 0 0
+least_value_at (Message value src dst) = element.NodeAttr 0 0 0
 
 -- the element is an edge with this end
 abbrev pub has_end : ℕ → Element → Bool
@@ -65,6 +69,7 @@ has_end id (element.Node n) = false
 has_end id (element.Edge n src dst directed) = src == id || dst == id
 has_end id (element.NodeAttr n key value) = false
 has_end id (element.EdgeAttr n key value) = false
+has_end id (element.Message src dst value) = false
 
 -- The numbers are the ends of the edges of the set in their order, each as often as edges have it.
 pub record AreEndsOf (set : List Element) (ends : List ℕ) : Type 0 where

@@ -88,6 +88,7 @@ fn complete(graph: &HeldGraph, what: &What) -> Result<Body, u8>
         What::UnsetNode { id, key } => unset_node(graph, id, key),
         What::SetEdge { id, key, value } => set_edge(graph, id, key, value),
         What::UnsetEdge { id, key } => unset_edge(graph, id, key),
+        What::Message { src, dst, value } => message(graph, src, dst, value),
     }
 }
 
@@ -219,6 +220,16 @@ fn unset_edge(graph: &HeldGraph, id: u64, key: u32) -> Result<Body, u8>
     }
 }
 
+fn message(graph: &HeldGraph, src: u64, dst: u64, value: u32) -> Result<Body, u8>
+    ensures { result ≡ complete (what.Message src dst value) graph.now.set }
+{
+    if has_nodes(graph, src, dst) {
+        Ok(Body::Message { src, dst, value })
+    } else {
+        Err(REASON_NO_END)
+    }
+}
+
 /// Whether some change comes to this in the graph.
 pub(crate) fn is_change_of(graph: &HeldGraph, body: &Body) -> bool
     ensures { result ≡ is_change_of graph.now.set body.now }
@@ -249,6 +260,7 @@ pub(crate) fn is_change_of(graph: &HeldGraph, body: &Body) -> bool
         Body::EdgeAttr { id, key, old, new } => {
             edge_of(graph, id).is_some() && is_value_change(edge_value(graph, id, key), old, new)
         }
+        Body::Message { src, dst, .. } => has_nodes(graph, src, dst),
     }
 }
 

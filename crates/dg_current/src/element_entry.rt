@@ -73,7 +73,7 @@ pub(crate) fn touch_needs(
     ensures uses { KeepsUses elements.old.entries elements.new.entries }
 {
     match *element {
-        Element::Node { .. } => Ok(()),
+        Element::Node { .. } | Element::Message { .. } => Ok(()),
         Element::Edge { src, dst, .. } => {
             touch(elements, base, ElementId::Node(src))?;
             touch(elements, base, ElementId::Node(dst))
@@ -146,7 +146,7 @@ pub(crate) fn count_in(elements: &mut IndexMap<ElementId, ElementEntry>, element
     ensures ids { (p : ElementId) → has_entry elements.new.entries p ≡ has_entry elements.old.entries p }
 {
     match *element {
-        Element::Node { .. } => {}
+        Element::Node { .. } | Element::Message { .. } => {}
         Element::Edge { src, dst, .. } => {
             count_up(elements, ElementId::Node(src));
             if src != dst {
@@ -167,7 +167,7 @@ pub(crate) fn count_out(elements: &mut IndexMap<ElementId, ElementEntry>, elemen
     ensures ids { (p : ElementId) → has_entry elements.new.entries p ≡ has_entry elements.old.entries p }
 {
     match *element {
-        Element::Node { .. } => {}
+        Element::Node { .. } | Element::Message { .. } => {}
         Element::Edge { src, dst, .. } => {
             count_down(elements, ElementId::Node(src));
             if src != dst {

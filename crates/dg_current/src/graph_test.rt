@@ -29,7 +29,7 @@ fn holder_of(element: &Element) -> Option<ElementId>
     ensures { result ≡ holder_of element.now }
 {
     match *element {
-        Element::Node { .. } | Element::Edge { .. } => None,
+        Element::Node { .. } | Element::Edge { .. } | Element::Message { .. } => None,
         Element::NodeAttr { id, .. } => Some(ElementId::Node(id)),
         Element::EdgeAttr { id, .. } => Some(ElementId::Edge(id)),
     }
@@ -90,18 +90,19 @@ fn is_node(nodes: &[u64], id: u64) -> bool
     stands_as_numbered(nodes, id) || nodes.binary_search(&id).is_ok()
 }
 
-// Whether the ends of the element, where it is an edge, are among the nodes.
+// Whether the ends of the element, where it is an edge, are among the nodes; no for a message, which no graph has.
 fn has_ends(items: &[Element], nodes: &[u64], element: &Element) -> bool
     requires { AreNodesOf items.now nodes.now }
     ensures { result ≡ has_ends items.now element.now }
 {
     match *element {
         Element::Edge { src, dst, .. } => is_node(nodes, src) && is_node(nodes, dst),
+        Element::Message { .. } => false,
         _ => true,
     }
 }
 
-// Whether the ends of all edges are among the nodes.
+// Whether the ends of all edges are among the nodes, and there is no message.
 fn edges_have_ends(items: &[Element], nodes: &[u64]) -> bool
     requires { AreNodesOf items.now nodes.now }
     ensures { result ≡ list_all (has_ends items.now) items.now }

@@ -16,6 +16,8 @@ pub(crate) enum Held {
     Edge { directed: bool, src: u64, dst: u64 },
     /// The value of the id's key.
     Value(u32),
+    /// The message of the id: no graph has one.
+    Message,
 }
 
 impl Held {
@@ -32,6 +34,7 @@ impl Held {
                 ..
             } => Held::Edge { directed, src, dst },
             Element::NodeAttr { value, .. } | Element::EdgeAttr { value, .. } => Held::Value(value),
+            Element::Message { .. } => Held::Message,
         }
     }
 
@@ -57,6 +60,9 @@ impl Held {
                 key,
                 value,
             }),
+            (ElementId::Message { value, src, dst }, Held::Message) => {
+                Some(Element::Message { src, dst, value })
+            }
             _ => None,
         }
     }

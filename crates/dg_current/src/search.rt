@@ -23,6 +23,7 @@ pub(crate) fn least(id: ElementId) -> Element
         },
         ElementId::NodeValue { key, id } => Element::NodeAttr { id, key, value: 0 },
         ElementId::EdgeValue { key, id } => Element::EdgeAttr { id, key, value: 0 },
+        ElementId::Message { value, src, dst } => Element::Message { src, dst, value },
     }
 }
 
@@ -86,6 +87,11 @@ fn first_value(id: ElementId) -> Element
         },
         ElementId::Edge(id) | ElementId::EdgeValue { id, .. } => Element::EdgeAttr {
             id,
+            key: 0,
+            value: 0,
+        },
+        ElementId::Message { .. } => Element::NodeAttr {
+            id: 0,
             key: 0,
             value: 0,
         },

@@ -1,8 +1,8 @@
 -- The sets of an interior node's delta.
-use Rattle.std.proofs.Common.{◌≡◌, ◌-◌, ◌≤◌, suc, Bool, true, false, ◌&&◌, ◌||◌, List, [], ◌∷◌, ◌++◌, length, get_or, map, filter, refl, sym, ap, subst, ◌∙◌, arith}
+use Rattle.std.proofs.Common.{◌≡◌, ℕ, ◌-◌, ◌≤◌, suc, Bool, true, false, ◌&&◌, ◌||◌, List, [], ◌∷◌, ◌++◌, length, get_or, map, filter, refl, sym, ap, subst, ◌∙◌, arith}
 use Rattle.std.proofs.lemmas.List.{map-append}
 use Rattle.dg_graph.specs.declared.element.Element.{Element}
-use Rattle.dg_graph.specs.DifferentialFunction.{part, all_of, halved, halved_last}
+use Rattle.dg_graph.specs.DifferentialFunction.{part, all_of, parted, parted_last}
 use Rattle.dg_graph.specs.Composition.{Delta}
 use Rattle.dg_graph.specs.Elements.{IsSet, has}
 use Rattle.dg_graph.specs.Sets.{unioned}
@@ -48,19 +48,19 @@ module _ (e : Delta → List Element) where
       ∙ ap (λ l. has (all_of l) x) (sym (map-append e front back) ∙ ap (map e) (sym cut))) in
       u ∙ (λ i. unioned (a i) (b i)) ∙ joined_is
 
--- ---- the last child's half
+-- ---- the last child's part
 
-pub halved_last_is : (ways : List Delta) (d : Delta) → 1 ≤ length ways → halved (get_or ways (length ways - 1) d) ≡ halved_last ways
-halved_last_is [] d some = absurd (omega arith)
-halved_last_is (x ∷ []) d some = refl
-halved_last_is (x ∷ y ∷ more) d some =
-    ap (λ n. halved (get_or (x ∷ y ∷ more) n d)) (let e : suc (suc (length more)) - 1 ≡ suc (suc (length more) - 1) = omega arith in e)
-    ∙ halved_last_is (y ∷ more) d (omega arith)
+pub parted_last_is : (r : ℕ) (ways : List Delta) (d : Delta) → 1 ≤ length ways → parted r (get_or ways (length ways - 1) d) ≡ parted_last r ways
+parted_last_is r [] d some = absurd (omega arith)
+parted_last_is r (x ∷ []) d some = refl
+parted_last_is r (x ∷ y ∷ more) d some =
+    ap (λ n. parted r (get_or (x ∷ y ∷ more) n d)) (let e : suc (suc (length more)) - 1 ≡ suc (suc (length more) - 1) = omega arith in e)
+    ∙ parted_last_is r (y ∷ more) d (omega arith)
 
-pub apart_halved : (a b : List Element) → AreApart a b → AreApart (filter (λ x. part x 128) a) (filter (λ x. part x 128) b)
-apart_halved a b apart x e =
-    has-filter (λ x. part x 128) b x
-    ∙ by (part x 128) (has a x) (has b x) (apart x) (sym (has-filter (λ x. part x 128) a x) ∙ e)
+pub apart_parted : (r : ℕ) (a b : List Element) → AreApart a b → AreApart (filter (λ x. part x r) a) (filter (λ x. part x r) b)
+apart_parted r a b apart x e =
+    has-filter (λ x. part x r) b x
+    ∙ by (part x r) (has a x) (has b x) (apart x) (sym (has-filter (λ x. part x r) a x) ∙ e)
   where
     by : (p a b : Bool) → (a ≡ true → b ≡ false) → (p && a) ≡ true → (p && b) ≡ false
     by true a b f e = f e

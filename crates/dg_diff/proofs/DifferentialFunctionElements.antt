@@ -5,8 +5,8 @@ use Rattle.std.proofs.lemmas.List.{take_rest, get_or-drop}
 use Rattle.std.proofs.lemmas.List.Folds.{list_all_more}
 use Rattle.dg_graph.specs.declared.element.Element.{Element}
 use Rattle.dg_graph.specs.declared.function.Function.{Function}
-use Rattle.dg_graph.specs.declared.function.Function.TheVariants.{Intersection, Union, Balanced}
-use Rattle.dg_graph.specs.DifferentialFunction.{part, in_first, in_last, in_combined}
+use Rattle.dg_graph.specs.declared.function.Function.TheVariants.{Intersection, Union, Balanced, Skewed}
+use Rattle.dg_graph.specs.DifferentialFunction.{part, in_first, in_last, in_skewed, in_combined}
 use Rattle.dg_graph.specs.Elements.{has}
 use Rattle.dg_graph.specs.Sets.{without_all}
 use Rattle.dg_graph.proofs.Sets.{has-filter, has-without_all, and_swap}
@@ -32,6 +32,7 @@ combined_one f (first ∷ other ∷ sets) set x h at = absurd (omega arith)
 combined_one Intersection (first ∷ []) set x h at = ap (λ s. has s x) at ∙ and_true (has first x)
 combined_one Union (first ∷ []) set x h at = ap (λ s. has s x) at ∙ or_false (has first x)
 combined_one Balanced (first ∷ []) set x h at = ap (λ s. has s x) at ∙ either (part x 128) (has first x)
+combined_one (Skewed r) (first ∷ []) set x h at = ap (λ s. has s x) at ∙ either (part x r) (has first x)
 
 -- ---- every set, and at least one
 
@@ -101,17 +102,16 @@ in_last_is : (sets : List (List Element)) (set : List Element) (x : Element) →
     → set ≡ get_or sets (length sets - 1) set → has set x ≡ in_last sets x
 in_last_is sets set x h at = ap (λ s. has s x) at ∙ in_last_from sets (length sets - 1) set x (omega arith)
 
--- the first set and the last, balanced, are all of them combined
-pub balanced_ends : (sets : List (List Element)) (f : Function) (first last : List Element) (x : Element) → 0 < length sets
-    → f ≡ Balanced → first ≡ get_or sets 0 first → last ≡ get_or sets (length sets - 1) last
-    → cond (part x 128) (has last x) (has first x) ≡ in_combined f sets x
-balanced_ends sets f first last x h is at_first at_last =
-    (λ t. cond (part x 128) (in_last_is sets last x h at_last t) (in_first_is sets first x h at_first t))
-    ∙ sym (ap (λ g. in_combined g sets x) is)
+-- so many of 256 from the last set and the others from the first
+pub skewed_ends : (r : ℕ) (sets : List (List Element)) (first last : List Element) (x : Element) → 0 < length sets
+    → first ≡ get_or sets 0 first → last ≡ get_or sets (length sets - 1) last
+    → cond (part x r) (has last x) (has first x) ≡ in_skewed r sets x
+skewed_ends r sets first last x h at_first at_last =
+    λ t. cond (part x r) (in_last_is sets last x h at_last t) (in_first_is sets first x h at_first t)
 
-pub in_half : (set whole half : List Element) → half ≡ filter (λ x. part x 128) set → set ≡ whole → (x : Element) → has half x ≡ (has whole x && part x 128)
-in_half set whole half is at x =
-    ap (λ s. has s x) is ∙ has-filter (λ x. part x 128) set x ∙ and_swap (part x 128) (has set x) ∙ ap (λ s. has s x && part x 128) at
+pub in_part : (r : ℕ) (set whole half : List Element) → half ≡ filter (λ x. part x r) set → set ≡ whole → (x : Element) → has half x ≡ (has whole x && part x r)
+in_part r set whole half is at x =
+    ap (λ s. has s x) is ∙ has-filter (λ x. part x r) set x ∙ and_swap (part x r) (has set x) ∙ ap (λ s. has s x && part x r) at
 
 -- ---- the union of several sets
 

@@ -10,8 +10,8 @@ use dg_graph::Function;
 use dg_set::Set;
 use std::alloc::AllocError;
 
-/// The elements whose hash has a top byte below this are in the last child's half: 128 of 256.
-const LAST_HALF: u16 = 128;
+/// The balanced function takes this many of 256 elements from the last child: half of them.
+pub(crate) const HALF: u16 = 128;
 
 /// The set of an interior node from those of its children, first to last. Its memory comes from the
 /// allocator of the first child. An `Err` says that memory ran out.
@@ -25,7 +25,8 @@ pub fn combine(f: Function, sets: &[Set]) -> Result<Set, AllocError>
     match f {
         Function::Intersection => meet_all(sets),
         Function::Union => union_all(sets),
-        Function::Balanced => balance(&sets[0], &sets[sets.len() - 1]),
+        Function::Balanced => skew(&sets[0], &sets[sets.len() - 1], HALF),
+        Function::Skewed(r) => skew(&sets[0], &sets[sets.len() - 1], r),
     }
 }
 
@@ -57,20 +58,20 @@ fn union_all(sets: &[Set]) -> Result<Set, AllocError>
     union_all(left)?.union(&union_all(right)?)
 }
 
-/// The elements of `last` in its half, and those of `first` in the other. Only elements that one of
-/// the two lacks are hashed.
-fn balance(first: &Set, last: &Set) -> Result<Set, AllocError>
-    ensures { IfOk result (λ set. (x : Element) → has set x ≡ (if part x 128 then has last.now x else has first.now x)) }
+/// The elements of `last` in its part, `r` of 256, and those of `first` in the other. Only elements that
+/// one of the two lacks are hashed.
+fn skew(first: &Set, last: &Set, r: u16) -> Result<Set, AllocError>
+    ensures { IfOk result (λ set. (x : Element) → has set x ≡ (if part x r then has last.now x else has first.now x)) }
 {
     let (gone, come) = first.differences(last)?;
-    first.replaced(&last_half(gone), &last_half(come))
+    first.replaced(&last_part(gone, r), &last_part(come, r))
 }
 
-/// The elements of the set that are in the last child's half. Takes no memory.
-pub(crate) fn last_half(set: Set) -> Set
-    ensures { result ≡ filter (λ x. part x 128) set }
+/// The elements of the set that are in the last child's part, `r` of 256. Takes no memory.
+pub(crate) fn last_part(set: Set, r: u16) -> Set
+    ensures { result ≡ filter (λ x. part x r) set }
 {
     let mut items = set.into_items();
-    items.retain(|element| part(element, LAST_HALF));
+    items.retain(|element| part(element, r));
     Set::from_rising(items)
 }

@@ -1,6 +1,6 @@
 //! The hash by which a balanced node takes elements of its first or its last child.
 ghost use Rattle.std.specs.Prelude.{◌≡◌, ◌∷◌, ◌++◌, []};
-ghost use Rattle.dg_graph.specs.declared.element.Element.TheVariants.{Edge};
+ghost use Rattle.dg_graph.specs.declared.element.Element.TheVariants.{Edge, Message};
 ghost use Rattle.dg_graph.specs.DifferentialFunction.{canonical, fnv, fnv_from, part};
 ghost use Rattle.dg_graph.specs.Columns.{four, eight};
 
@@ -27,6 +27,9 @@ const KIND_NODE_ATTR: u8 = 3;
 /// The byte before the fields of an edge's attribute.
 const KIND_EDGE_ATTR: u8 = 4;
 
+/// The byte before a message's fields.
+const KIND_MESSAGE: u8 = 5;
+
 /// Whether the top byte of the 64-bit FNV-1a hash of the element's bytes is below `r`: never for 0,
 /// and always from 256 on. docs/FORMATS.md has the bytes.
 pub fn part(element: &Element, r: u16) -> bool
@@ -49,6 +52,7 @@ fn hash(element: &Element) -> u64
         } => hash_edge(id, src, dst, directed),
         Element::NodeAttr { id, key, value } => hash_attribute(KIND_NODE_ATTR, id, key, value),
         Element::EdgeAttr { id, key, value } => hash_attribute(KIND_EDGE_ATTR, id, key, value),
+        Element::Message { src, dst, value } => hash_message(src, dst, value),
     }
 }
 
@@ -67,6 +71,14 @@ fn hash_attribute(kind: u8, id: u64, key: u32, value: u32) -> u64
 {
     let named = with_u64(with_byte(HASH_START, kind), id);
     with_u32(with_u32(named, key), value)
+}
+
+/// The hash of a message's bytes.
+fn hash_message(src: u64, dst: u64, value: u32) -> u64
+    ensures { result ≡ fnv (canonical (Message src dst value)) }
+{
+    let from = with_u64(with_byte(HASH_START, KIND_MESSAGE), src);
+    with_u32(with_u64(from, dst), value)
 }
 
 /// The hash, gone on by the bytes of a number.

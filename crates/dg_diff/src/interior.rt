@@ -2,10 +2,10 @@
 
 ghost use Rattle.std.specs.Prelude.{◌≡◌, ◌≤◌, length, map, IfOk};
 ghost use Rattle.dg_graph.specs.Elements.{IsSet};
-ghost use Rattle.dg_graph.specs.DifferentialFunction.{all_of, halved, inward};
+ghost use Rattle.dg_graph.specs.DifferentialFunction.{all_of, parted, inward};
 ghost use Rattle.dg_diff.specs.Sides.{on_side};
 
-use crate::differential::last_half;
+use crate::differential::{HALF, last_part};
 use dg_delta::Delta;
 use dg_graph::Function;
 use dg_set::Set;
@@ -48,7 +48,11 @@ pub fn inward(alloc: Global, function: Function, ways: &[Delta]) -> Result<Delta
         }
         Function::Balanced => {
             let last = ways.len() - 1;
-            halve(&ways[last])
+            part_of(&ways[last], HALF)
+        }
+        Function::Skewed(r) => {
+            let last = ways.len() - 1;
+            part_of(&ways[last], r)
         }
     }
 }
@@ -70,10 +74,10 @@ fn all(ways: &[Delta], side: Side) -> Result<Set, AllocError>
     all(front, side)?.union(&all(back, side)?)
 }
 
-/// The elements of the delta that are in the last child's half.
-fn halve(delta: &Delta) -> Result<Delta, AllocError>
-    ensures { IfOk result (λ d. d ≡ halved delta.now) }
+/// The elements of the delta that are in the last child's part, `r` of 256.
+fn part_of(delta: &Delta, r: u16) -> Result<Delta, AllocError>
+    ensures { IfOk result (λ d. d ≡ parted r delta.now) }
 {
     let (minus, plus) = delta.copy()?.into_sets();
-    Ok(Delta::of(last_half(minus), last_half(plus)))
+    Ok(Delta::of(last_part(minus, r), last_part(plus, r)))
 }

@@ -12,7 +12,7 @@ pub use dg_graph::{Body, Change, Column, Columns, Element, Event, Function, What
 use std::cmp::Ordering;
 
 /// The element that the event removes, and the element that it adds. An attribute whose value goes
-/// to itself removes and adds nothing.
+/// to itself removes and adds nothing, and neither does a message.
 pub fn effect(event: &Event) -> (Option<Element>, Option<Element>)
     ensures removed { result.0 ≡ removed_by event.now.body }
     ensures added { result.1 ≡ added_by event.now.body }
@@ -59,6 +59,7 @@ pub fn effect(event: &Event) -> (Option<Element>, Option<Element>)
             old.map(|value| Element::EdgeAttr { id, key, value }),
             new.map(|value| Element::EdgeAttr { id, key, value }),
         ),
+        Body::Message { .. } => (None, None),
     }
 }
 
@@ -107,6 +108,7 @@ pub fn reverse(event: &Event) -> Event
             old: new,
             new: old,
         },
+        Body::Message { src, dst, value } => Body::Message { src, dst, value },
     };
     Event {
         time: event.time,
@@ -122,6 +124,7 @@ pub fn column_of(element: &Element) -> Column
         Element::Node { .. } | Element::Edge { .. } => Column::Structure,
         Element::NodeAttr { .. } => Column::NodeAttr,
         Element::EdgeAttr { .. } => Column::EdgeAttr,
+        Element::Message { .. } => Column::Transient,
     }
 }
 
@@ -133,6 +136,7 @@ pub fn asks(cols: Columns, column: Column) -> bool
         Column::Structure => true,
         Column::NodeAttr => cols.nodes_attr,
         Column::EdgeAttr => cols.edges_attr,
+        Column::Transient => cols.transient,
     }
 }
 

@@ -54,6 +54,7 @@ node_attr_found id key (element.NodeAttr n k w) e v is =
     let value : w ≡ v = cc in
     λ i. element.NodeAttr (eqb-true n id parts.0 i) (eqb-true k key parts.1 i) (value i)
 node_attr_found id key (element.EdgeAttr n k w) e v is = absurd (false≢true e)
+node_attr_found id key (element.Message s d w) e v is = absurd (false≢true e)
 
 pub edge_attr_found : (id key : ℕ) (x : Element) → is_edge_value id key x ≡ true → (v : ℕ) → value_in x ≡ Some v → x ≡ element.EdgeAttr id key v
 edge_attr_found id key (element.Node n) e v is = absurd (false≢true e)
@@ -63,18 +64,21 @@ edge_attr_found id key (element.EdgeAttr n k w) e v is =
     let parts = and_parts (eqb n id) (eqb k key) e in
     let value : w ≡ v = cc in
     λ i. element.EdgeAttr (eqb-true n id parts.0 i) (eqb-true k key parts.1 i) (value i)
+edge_attr_found id key (element.Message s d w) e v is = absurd (false≢true e)
 
 pub node_valued : (id key : ℕ) (x : Element) → is_node_value id key x ≡ true → is_some (value_in x) ≡ true
 node_valued id key (element.Node n) e = absurd (false≢true e)
 node_valued id key (element.Edge n s d b) e = absurd (false≢true e)
 node_valued id key (element.NodeAttr n k w) e = refl
 node_valued id key (element.EdgeAttr n k w) e = absurd (false≢true e)
+node_valued id key (element.Message s d w) e = absurd (false≢true e)
 
 pub edge_valued : (id key : ℕ) (x : Element) → is_edge_value id key x ≡ true → is_some (value_in x) ≡ true
 edge_valued id key (element.Node n) e = absurd (false≢true e)
 edge_valued id key (element.Edge n s d b) e = absurd (false≢true e)
 edge_valued id key (element.NodeAttr n k w) e = absurd (false≢true e)
 edge_valued id key (element.EdgeAttr n k w) e = refl
+edge_valued id key (element.Message s d w) e = absurd (false≢true e)
 
 -- what is in the set is found
 pub find_some : (t : Element → Bool) (xs : List Element) (x : Element) → has xs x ≡ true → t x ≡ true → is_some (find t xs) ≡ true

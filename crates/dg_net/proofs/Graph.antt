@@ -49,6 +49,7 @@ needs_keep old new (element.Edge id s d b) f g h =
     λ i. first i && last i
 needs_keep old new (element.NodeAttr id key v) f g h = f id (eq-eqb id id refl) h
 needs_keep old new (element.EdgeAttr id key v) f g h = g id (eq-eqb id id refl) h
+needs_keep old new (element.Message s d v) f g h = absurd (false≢true h)
 
 -- an edge that stays is found still
 edge_keeps : (old new : List Element) (id : ℕ) → ((z : Element) → is_edge id z ≡ true → has old z ≡ true → has new z ≡ true)
@@ -102,6 +103,7 @@ clashes (element.Node id) y = false
 clashes (element.Edge id s d b) y = is_edge id y
 clashes (element.NodeAttr id key v) y = is_node_value id key y
 clashes (element.EdgeAttr id key v) y = is_edge_value id key y
+clashes (element.Message s d v) y = false
 
 module _ (x : Element) (set : List Element) (g : IsGraph set) (fed : has_needs set x ≡ true)
     (alone : (y : Element) → has set y ≡ true → clashes x y ≡ false) where
@@ -262,3 +264,4 @@ module _ (set : List Element) (g : IsGraph set) where
       value_graph set g (is_edge_value id key) (element.EdgeAttr id key) (edge_attr_found id key) (edge_valued id key)
       (g.one_edge_value id key) (λ v y. refl) (λ v n is. cc) (λ v n f. false≢true f) (λ v. parts.0) old new
       (old_is (edge_value set id key) old new parts.1)
+  graph_forwards (body.Message src dst value) e = g

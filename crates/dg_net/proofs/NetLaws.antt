@@ -90,6 +90,7 @@ module _ (set : List Element) (g : IsGraph set) where
       let value = (and_parts (is_some (edge_of set id)) (is_value_change (edge_value set id key) old new) e).1 in
       value_removed set (is_edge_value id key) (element.EdgeAttr id key) (edge_attr_found id key) (edge_valued id key) (λ v. two_itself id key)
       (g.one_edge_value id key) old new (old_is (edge_value set id key) old new value)
+  removed_there (body.Message src dst value) e = tt
 
   added_absent : (b : Body) → is_change_of set b ≡ true → IfSome (added_by b) (λ x. has set x ≡ false)
   added_absent (body.NodeAdded id) e = not-true (has_node set id) e
@@ -106,6 +107,7 @@ module _ (set : List Element) (g : IsGraph set) where
       let value = (and_parts (is_some (edge_of set id)) (is_value_change (edge_value set id key) old new) e).1 in
       value_added set (is_edge_value id key) (element.EdgeAttr id key) (edge_attr_found id key) (edge_valued id key) (λ v. two_itself id key)
       (g.one_edge_value id key) old new (old_is (edge_value set id key) old new value)
+  added_absent (body.Message src dst value) e = tt
 
 pub changes_are_exact : ChangesAreExact
 changes_are_exact set [] g changes = tt

@@ -5,18 +5,18 @@ use Rattle.std.specs.List.{count_by}
 use Rattle.std.proofs.lemmas.List.Sums.{count_by-le-length}
 use Rattle.dg_graph.specs.declared.element.Element.{Element}
 use Rattle.dg_graph.specs.declared.element.Columns.{Columns}
-use Rattle.dg_graph.specs.declared.element.Element.TheVariants.{Node, Edge, NodeAttr, EdgeAttr}
+use Rattle.dg_graph.specs.declared.element.Element.TheVariants.{Node, Edge, NodeAttr, EdgeAttr, Message}
 use Rattle.dg_graph.specs.Elements.{IsSet, has, put, take_out, with_one, element_cmp, asks, column_of, shown}
 use Rattle.dg_graph.proofs.Sets.{put_by}
 use Rattle.dg_cells.specs.Rows.{Row}
 use Rattle.dg_query.specs.declared.answers.Counts.{Counts}
 use Rattle.dg_pool.specs.Graphs.{given, picked}
-use Rattle.dg_query.specs.Queries.{is_a_node, is_an_edge, is_a_node_attr, is_an_edge_attr, counts_of}
+use Rattle.dg_query.specs.Queries.{is_a_node, is_an_edge, is_a_node_attr, is_an_edge_attr, is_a_message, counts_of}
 use Rattle.dg_pool.specs.Counts.{kind_count, one_more, one_less, counts_shown}
 use Rattle.dg_pool.proofs.SetCounts.{count-put, count-take_out, count-cons, count-filter}
 
-counts_by : (n e a b n2 e2 a2 b2 : ℕ) → n ≡ n2 → e ≡ e2 → a ≡ a2 → b ≡ b2 → let c : Counts = record { nodes = n; edges = e; node_attrs = a; edge_attrs = b } in let d : Counts = record { nodes = n2; edges = e2; node_attrs = a2; edge_attrs = b2 } in c ≡ d
-counts_by n e a b n2 e2 a2 b2 p q r s = λ i. record { nodes = p i; edges = q i; node_attrs = r i; edge_attrs = s i }
+counts_by : {c d : Counts} → c.nodes ≡ d.nodes → c.edges ≡ d.edges → c.node_attrs ≡ d.node_attrs → c.edge_attrs ≡ d.edge_attrs → c.messages ≡ d.messages → c ≡ d
+counts_by p q r s t = λ i. record { nodes = p i; edges = q i; node_attrs = r i; edge_attrs = s i; messages = t i }
 
 more : (n m : ℕ) → n ≡ 1 + m → n ≡ m + 1
 more n m e = omega arith
@@ -32,16 +32,18 @@ same_too n m e = omega arith
 
 -- with its counts in a record of variables, one more
 more_by : (x : Element) (set after : List Element) → ((p : Element → Bool) → count_by p after ≡ cond (p x) 1 0 + count_by p set) → counts_of after ≡ one_more (counts_of set) x
-more_by (Node id) set after f = counts_by _ _ _ _ _ _ _ _ (more _ _ (f is_a_node)) (same_too _ _ (f is_an_edge)) (same_too _ _ (f is_a_node_attr)) (same_too _ _ (f is_an_edge_attr))
-more_by (Edge id src dst directed) set after f = counts_by _ _ _ _ _ _ _ _ (same_too _ _ (f is_a_node)) (more _ _ (f is_an_edge)) (same_too _ _ (f is_a_node_attr)) (same_too _ _ (f is_an_edge_attr))
-more_by (NodeAttr id key value) set after f = counts_by _ _ _ _ _ _ _ _ (same_too _ _ (f is_a_node)) (same_too _ _ (f is_an_edge)) (more _ _ (f is_a_node_attr)) (same_too _ _ (f is_an_edge_attr))
-more_by (EdgeAttr id key value) set after f = counts_by _ _ _ _ _ _ _ _ (same_too _ _ (f is_a_node)) (same_too _ _ (f is_an_edge)) (same_too _ _ (f is_a_node_attr)) (more _ _ (f is_an_edge_attr))
+more_by (Node id) set after f = counts_by (more _ _ (f is_a_node)) (same_too _ _ (f is_an_edge)) (same_too _ _ (f is_a_node_attr)) (same_too _ _ (f is_an_edge_attr)) (same_too _ _ (f is_a_message))
+more_by (Edge id src dst directed) set after f = counts_by (same_too _ _ (f is_a_node)) (more _ _ (f is_an_edge)) (same_too _ _ (f is_a_node_attr)) (same_too _ _ (f is_an_edge_attr)) (same_too _ _ (f is_a_message))
+more_by (NodeAttr id key value) set after f = counts_by (same_too _ _ (f is_a_node)) (same_too _ _ (f is_an_edge)) (more _ _ (f is_a_node_attr)) (same_too _ _ (f is_an_edge_attr)) (same_too _ _ (f is_a_message))
+more_by (EdgeAttr id key value) set after f = counts_by (same_too _ _ (f is_a_node)) (same_too _ _ (f is_an_edge)) (same_too _ _ (f is_a_node_attr)) (more _ _ (f is_an_edge_attr)) (same_too _ _ (f is_a_message))
+more_by (Message src dst value) set after f = counts_by (same_too _ _ (f is_a_node)) (same_too _ _ (f is_an_edge)) (same_too _ _ (f is_a_node_attr)) (same_too _ _ (f is_an_edge_attr)) (more _ _ (f is_a_message))
 
 less_by : (x : Element) (set after : List Element) → ((p : Element → Bool) → count_by p set ≡ cond (p x) 1 0 + count_by p after) → counts_of after ≡ one_less (counts_of set) x
-less_by (Node id) set after f = counts_by _ _ _ _ _ _ _ _ (less _ _ (f is_a_node)) (same _ _ (f is_an_edge)) (same _ _ (f is_a_node_attr)) (same _ _ (f is_an_edge_attr))
-less_by (Edge id src dst directed) set after f = counts_by _ _ _ _ _ _ _ _ (same _ _ (f is_a_node)) (less _ _ (f is_an_edge)) (same _ _ (f is_a_node_attr)) (same _ _ (f is_an_edge_attr))
-less_by (NodeAttr id key value) set after f = counts_by _ _ _ _ _ _ _ _ (same _ _ (f is_a_node)) (same _ _ (f is_an_edge)) (less _ _ (f is_a_node_attr)) (same _ _ (f is_an_edge_attr))
-less_by (EdgeAttr id key value) set after f = counts_by _ _ _ _ _ _ _ _ (same _ _ (f is_a_node)) (same _ _ (f is_an_edge)) (same _ _ (f is_a_node_attr)) (less _ _ (f is_an_edge_attr))
+less_by (Node id) set after f = counts_by (less _ _ (f is_a_node)) (same _ _ (f is_an_edge)) (same _ _ (f is_a_node_attr)) (same _ _ (f is_an_edge_attr)) (same _ _ (f is_a_message))
+less_by (Edge id src dst directed) set after f = counts_by (same _ _ (f is_a_node)) (less _ _ (f is_an_edge)) (same _ _ (f is_a_node_attr)) (same _ _ (f is_an_edge_attr)) (same _ _ (f is_a_message))
+less_by (NodeAttr id key value) set after f = counts_by (same _ _ (f is_a_node)) (same _ _ (f is_an_edge)) (less _ _ (f is_a_node_attr)) (same _ _ (f is_an_edge_attr)) (same _ _ (f is_a_message))
+less_by (EdgeAttr id key value) set after f = counts_by (same _ _ (f is_a_node)) (same _ _ (f is_an_edge)) (same _ _ (f is_a_node_attr)) (less _ _ (f is_an_edge_attr)) (same _ _ (f is_a_message))
+less_by (Message src dst value) set after f = counts_by (same _ _ (f is_a_node)) (same _ _ (f is_an_edge)) (same _ _ (f is_a_node_attr)) (same _ _ (f is_an_edge_attr)) (less _ _ (f is_a_message))
 
 pub counts-put : (x : Element) (set : List Element) → has set x ≡ false → counts_of (put x set) ≡ one_more (counts_of set) x
 counts-put x set e = more_by x set (put x set) (λ p. count-put p x set e)
@@ -62,15 +64,14 @@ counts-push xs y = more_by y xs (xs ++ y ∷ []) (λ p. count-push p xs y)
 
 pub kind-one_more : (c : Counts) (x : Element) → kind_count (one_more c x) x ≡ kind_count c x + 1
 kind-one_more c (Node id) = refl
-kind-one_more c (Edge id src dst directed) = refl
-kind-one_more c (NodeAttr id key value) = refl
-kind-one_more c (EdgeAttr id key value) = refl
+kind-one_more c _ = refl
 
 pub kind-most : (set : List Element) (x : Element) → kind_count (counts_of set) x ≤ length set
 kind-most set (Node id) = count_by-le-length is_a_node set
 kind-most set (Edge id src dst directed) = count_by-le-length is_an_edge set
 kind-most set (NodeAttr id key value) = count_by-le-length is_a_node_attr set
 kind-most set (EdgeAttr id key value) = count_by-le-length is_an_edge_attr set
+kind-most set (Message src dst value) = count_by-le-length is_a_message set
 
 -- a set with the element has one of its kind
 pub kind-least : (x : Element) (set : List Element) → IsSet set → has set x ≡ true → 1 ≤ kind_count (counts_of set) x
@@ -78,42 +79,40 @@ kind-least (Node id) set s e = let f = count-take_out is_a_node (Node id) set s 
 kind-least (Edge id src dst directed) set s e = let f = count-take_out is_an_edge (Edge id src dst directed) set s e in omega arith
 kind-least (NodeAttr id key value) set s e = let f = count-take_out is_a_node_attr (NodeAttr id key value) set s e in omega arith
 kind-least (EdgeAttr id key value) set s e = let f = count-take_out is_an_edge_attr (EdgeAttr id key value) set s e in omega arith
+kind-least (Message src dst value) set s e = let f = count-take_out is_a_message (Message src dst value) set s e in omega arith
 
 -- ---- in the columns that are asked for
 
 module _ (set : List Element) (cols : Columns) where
   node_asks : (x : Element) → is_a_node x ≡ true → asks cols (column_of x) ≡ true
   node_asks (Node id) e = refl
-  node_asks (Edge id src dst directed) e = refl
-  node_asks (NodeAttr id key value) e = cc
-  node_asks (EdgeAttr id key value) e = cc
+  node_asks _ e = cc
 
   edge_asks : (x : Element) → is_an_edge x ≡ true → asks cols (column_of x) ≡ true
-  edge_asks (Node id) e = refl
   edge_asks (Edge id src dst directed) e = refl
-  edge_asks (NodeAttr id key value) e = cc
-  edge_asks (EdgeAttr id key value) e = cc
+  edge_asks _ e = cc
 
   node_attr_asks : (x : Element) → is_a_node_attr x ≡ true → asks cols (column_of x) ≡ cols.nodes_attr
-  node_attr_asks (Node id) e = cc
-  node_attr_asks (Edge id src dst directed) e = cc
   node_attr_asks (NodeAttr id key value) e = refl
-  node_attr_asks (EdgeAttr id key value) e = cc
+  node_attr_asks _ e = cc
 
   edge_attr_asks : (x : Element) → is_an_edge_attr x ≡ true → asks cols (column_of x) ≡ cols.edges_attr
-  edge_attr_asks (Node id) e = cc
-  edge_attr_asks (Edge id src dst directed) e = cc
-  edge_attr_asks (NodeAttr id key value) e = cc
   edge_attr_asks (EdgeAttr id key value) e = refl
+  edge_attr_asks _ e = cc
+
+  message_asks : (x : Element) → is_a_message x ≡ true → asks cols (column_of x) ≡ cols.transient
+  message_asks (Message src dst value) e = refl
+  message_asks _ e = cc
 
   abbrev asked : Element → Bool
   asked x = asks cols (column_of x)
 
   pub counts-shown : counts_shown (counts_of set) cols ≡ counts_of (shown set cols)
   counts-shown =
-      sym (counts_by _ _ _ _ _ _ _ _
+      sym (counts_by
       (count-filter is_a_node asked true node_asks set) (count-filter is_an_edge asked true edge_asks set)
-      (count-filter is_a_node_attr asked cols.nodes_attr node_attr_asks set) (count-filter is_an_edge_attr asked cols.edges_attr edge_attr_asks set))
+      (count-filter is_a_node_attr asked cols.nodes_attr node_attr_asks set) (count-filter is_an_edge_attr asked cols.edges_attr edge_attr_asks set)
+      (count-filter is_a_message asked cols.transient message_asks set))
 
 -- ---- no more than there are cells
 

@@ -2,7 +2,7 @@
 use Rattle.std.specs.Prelude.{◌≡◌, ℕ, ◌+◌, ◌-◌, List, Some, length, slice_index_or, if◌then◌else◌}
 use Rattle.dg_graph.specs.declared.element.Columns.{Columns}
 use Rattle.dg_graph.specs.declared.element.Element.{Element}
-use Rattle.dg_graph.specs.declared.element.Element.TheVariants.{Node, Edge, NodeAttr, EdgeAttr}
+use Rattle.dg_graph.specs.declared.element.Element.TheVariants.{Node, Edge, NodeAttr, EdgeAttr, Message}
 use Rattle.dg_query.specs.declared.answers.Counts.{Counts}
 use Rattle.dg_query.specs.Queries.{counts_of}
 use Rattle.dg_pool.specs.declared.slots.Base.{Base}
@@ -15,6 +15,7 @@ kind_count c (Node id) = c.nodes
 kind_count c (Edge id src dst directed) = c.edges
 kind_count c (NodeAttr id key value) = c.node_attrs
 kind_count c (EdgeAttr id key value) = c.edge_attrs
+kind_count c (Message src dst value) = c.messages
 
 -- one more of the element's kind
 abbrev pub one_more : Counts → Element → Counts
@@ -22,6 +23,7 @@ one_more c (Node id) = record c { nodes = c.nodes + 1 }
 one_more c (Edge id src dst directed) = record c { edges = c.edges + 1 }
 one_more c (NodeAttr id key value) = record c { node_attrs = c.node_attrs + 1 }
 one_more c (EdgeAttr id key value) = record c { edge_attrs = c.edge_attrs + 1 }
+one_more c (Message src dst value) = record c { messages = c.messages + 1 }
 
 -- one less
 abbrev pub one_less : Counts → Element → Counts
@@ -29,9 +31,10 @@ one_less c (Node id) = record c { nodes = c.nodes - 1 }
 one_less c (Edge id src dst directed) = record c { edges = c.edges - 1 }
 one_less c (NodeAttr id key value) = record c { node_attrs = c.node_attrs - 1 }
 one_less c (EdgeAttr id key value) = record c { edge_attrs = c.edge_attrs - 1 }
+one_less c (Message src dst value) = record c { messages = c.messages - 1 }
 
 abbrev pub no_elements : Counts
-no_elements = record { nodes = 0; edges = 0; node_attrs = 0; edge_attrs = 0 }
+no_elements = record { nodes = 0; edges = 0; node_attrs = 0; edge_attrs = 0; messages = 0 }
 
 -- the counts of a graph that is cut to the columns
 abbrev pub counts_shown : Counts → Columns → Counts
@@ -40,6 +43,7 @@ counts_shown c cols = record {
   edges = c.edges;
   node_attrs = if cols.nodes_attr then c.node_attrs else 0;
   edge_attrs = if cols.edges_attr then c.edge_attrs else 0;
+  messages = if cols.transient then c.messages else 0;
 }
 
 -- the counts with this number

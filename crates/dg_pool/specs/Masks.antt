@@ -32,4 +32,5 @@ pub record AreMasks (slots : List SlotState) (masks : Masks) : Type 0 where
   pub structure : IsAskingMask column.Structure slots masks.structure
   pub node_attr : IsAskingMask column.NodeAttr slots masks.node_attr
   pub edge_attr : IsAskingMask column.EdgeAttr slots masks.edge_attr
+  pub transient : IsAskingMask column.Transient slots masks.transient
   pub swept : IsSweptMask slots masks.swept

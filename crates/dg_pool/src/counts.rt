@@ -15,6 +15,7 @@ pub(crate) const NO_ELEMENTS: Counts = Counts {
     edges: 0,
     node_attrs: 0,
     edge_attrs: 0,
+    messages: 0,
 };
 
 /// The counts of slots that all have the empty graph.
@@ -36,6 +37,7 @@ pub(crate) fn one_more(counts: Counts, element: &Element) -> Counts
         Element::Edge { .. } => more.edges += 1,
         Element::NodeAttr { .. } => more.node_attrs += 1,
         Element::EdgeAttr { .. } => more.edge_attrs += 1,
+        Element::Message { .. } => more.messages += 1,
     }
     more
 }
@@ -51,6 +53,7 @@ pub(crate) fn one_less(counts: Counts, element: &Element) -> Counts
         Element::Edge { .. } => less.edges -= 1,
         Element::NodeAttr { .. } => less.node_attrs -= 1,
         Element::EdgeAttr { .. } => less.edge_attrs -= 1,
+        Element::Message { .. } => less.messages -= 1,
     }
     less
 }
@@ -68,6 +71,13 @@ pub(crate) fn with_change(counts: Counts, element: &Element, on: bool) -> Counts
     }
 }
 
+// The count, where its column is asked for.
+fn if_asked(asked: bool, count: u64) -> u64
+    ensures { result ≡ (if asked then count else 0) }
+{
+    if asked { count } else { 0 }
+}
+
 /// The counts of a graph that is cut to the columns.
 pub(crate) fn counts_shown(counts: Counts, cols: Columns) -> Counts
     ensures { result ≡ counts_shown counts cols }
@@ -75,16 +85,9 @@ pub(crate) fn counts_shown(counts: Counts, cols: Columns) -> Counts
     Counts {
         nodes: counts.nodes,
         edges: counts.edges,
-        node_attrs: if cols.nodes_attr {
-            counts.node_attrs
-        } else {
-            0
-        },
-        edge_attrs: if cols.edges_attr {
-            counts.edge_attrs
-        } else {
-            0
-        },
+        node_attrs: if_asked(cols.nodes_attr, counts.node_attrs),
+        edge_attrs: if_asked(cols.edges_attr, counts.edge_attrs),
+        messages: if_asked(cols.transient, counts.messages),
     }
 }
 
@@ -115,5 +118,7 @@ pub(crate) fn count_kinds(items: &[Element]) -> Counts
 pub(crate) fn room_for(counts: Counts) -> usize {
     let structure = counts.nodes.saturating_add(counts.edges);
     let attributes = counts.node_attrs.saturating_add(counts.edge_attrs);
-    structure.saturating_add(attributes) as usize
+    structure
+        .saturating_add(attributes)
+        .saturating_add(counts.messages) as usize
 }

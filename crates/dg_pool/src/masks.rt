@@ -16,6 +16,7 @@ pub(crate) struct Masks {
     pub(crate) structure: [u64; 4],
     pub(crate) node_attr: [u64; 4],
     pub(crate) edge_attr: [u64; 4],
+    pub(crate) transient: [u64; 4],
     // both bits of the slots that the sweep clears
     pub(crate) swept: [u64; 4],
 }
@@ -82,6 +83,7 @@ pub(crate) fn masks_of(slots: &[SlotState; 128]) -> Masks
         structure: asking_mask(slots, Column::Structure),
         node_attr: asking_mask(slots, Column::NodeAttr),
         edge_attr: asking_mask(slots, Column::EdgeAttr),
+        transient: asking_mask(slots, Column::Transient),
         swept: swept_mask(slots),
     }
 }

@@ -25,6 +25,7 @@ pub(crate) fn is_needed(row: &Row, masks: &Masks) -> bool
         Column::Structure => meets(row, &masks.structure),
         Column::NodeAttr => meets(row, &masks.node_attr),
         Column::EdgeAttr => meets(row, &masks.edge_attr),
+        Column::Transient => meets(row, &masks.transient),
     }
 }
 

@@ -7,7 +7,7 @@ use Rattle.std.specs.List.Sorted.{IsPartitionPoint, IsPartitionedBy, ties}
 use Rattle.std.specs.Option.{option_to_list}
 use Rattle.std.specs.Ordering.{is_lt, nat_cmp}
 use Rattle.dg_graph.specs.declared.element.Element.{Element}
-use Rattle.dg_graph.specs.declared.element.Element.TheVariants.{Node, Edge, NodeAttr, EdgeAttr}
+use Rattle.dg_graph.specs.declared.element.Element.TheVariants.{Edge}
 use Rattle.dg_query.specs.declared.answers.Neighbour.{Neighbour}
 use Rattle.dg_query.specs.declared.answers.Side.TheVariants as side
 use Rattle.dg_query.specs.Queries.{is_an_edge, edge_at, neighbours_of}
@@ -38,10 +38,8 @@ one_walked f was now x from behind all pushed is before =
 
 edges_alone : (set : List Element) (n : ℕ) → neighbours_of (filter is_an_edge set) n ≡ neighbours_of set n
 edges_alone [] n = refl
-edges_alone (Node id ∷ set) n = edges_alone set n
 edges_alone (Edge id src dst directed ∷ set) n = ap (cons_option (edge_at n (Edge id src dst directed))) (edges_alone set n)
-edges_alone (NodeAttr id key value ∷ set) n = edges_alone set n
-edges_alone (EdgeAttr id key value ∷ set) n = edges_alone set n
+edges_alone (_ ∷ set) n = edges_alone set n
 
 pub same_edges : (a b : List Element) (ends : List EdgeEnd) → filter is_an_edge a ≡ filter is_an_edge b → IsAdjacencyOf a ends → IsAdjacencyOf b ends
 same_edges a b ends same of n = of n ∙ sym (edges_alone a n) ∙ ap (λ set. neighbours_of set n) same ∙ edges_alone b n

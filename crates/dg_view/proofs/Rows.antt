@@ -1,7 +1,7 @@
 -- Worked rows.
 use Rattle.std.specs.Prelude.{◌≡◌, true, false, List, [], ◌∷◌, refl}
 use Rattle.dg_graph.specs.declared.element.Element.{Element}
-use Rattle.dg_graph.specs.declared.element.Element.TheVariants.{Node, Edge, NodeAttr}
+use Rattle.dg_graph.specs.declared.element.Element.TheVariants.{Node, Edge, NodeAttr, Message}
 use Rattle.dg_query.specs.declared.answers.Side.TheVariants as side
 use Rattle.dg_query.specs.Queries.{counts_of, neighbours_of, values_of}
 use Rattle.dg_view.specs.declared.ends.EdgeEnd.{EdgeEnd}
@@ -10,9 +10,12 @@ use Rattle.dg_view.specs.EdgeEnds.{edges_ending_at}
 graph : List Element
 graph = Node 1 ∷ Node 2 ∷ Edge 5 1 2 true ∷ Edge 6 2 2 true ∷ Edge 7 2 1 false ∷ NodeAttr 1 0 1 ∷ NodeAttr 2 0 1 ∷ []
 
-counted : counts_of graph ≡ record { nodes = 2; edges = 3; node_attrs = 2; edge_attrs = 0 }
+counted : counts_of graph ≡ record { nodes = 2; edges = 3; node_attrs = 2; edge_attrs = 0; messages = 0 }
 unfolding graph
 counted = refl
+
+told : counts_of (Message 1 2 0 ∷ []) ≡ record { nodes = 0; edges = 0; node_attrs = 0; edge_attrs = 0; messages = 1 }
+told = refl
 
 beside : neighbours_of graph 2 ≡ record { edge = 5; node = 1; side = side.Inward } ∷ record { edge = 6; node = 2; side = side.Out } ∷ record { edge = 7; node = 1; side = side.Both } ∷ []
 unfolding graph

@@ -5,7 +5,7 @@ use Rattle.std.proofs.lemmas.Bool.Decides.{nat_tests}
 use Rattle.std.proofs.lemmas.List.{append-nil}
 use Rattle.std.proofs.lemmas.List.Sums.{sum_by-cons}
 use Rattle.dg_graph.specs.declared.element.Element.{Element}
-use Rattle.dg_graph.specs.declared.element.Element.TheVariants.{Node, Edge, NodeAttr, EdgeAttr}
+use Rattle.dg_graph.specs.declared.element.Element.TheVariants.{Edge, NodeAttr}
 use Rattle.dg_graph.specs.Elements.{before}
 use Rattle.dg_query.specs.declared.answers.Neighbour.{Neighbour}
 use Rattle.dg_query.specs.declared.answers.Side.TheVariants as side
@@ -18,10 +18,8 @@ later x set = filter (λ y. not (before y x)) set
 
 -- no edge comes before the first one
 none_before : (n : ℕ) (x : Element) → before x (Edge 0 0 0 false) ≡ true → edge_at n x ≡ None
-none_before n (Node id) e = refl
 none_before n (Edge id src dst directed) e = absurd (grind (arith, nat_tests))
-none_before n (NodeAttr id key value) e = refl
-none_before n (EdgeAttr id key value) e = refl
+none_before n _ e = refl
 
 -- what gives nothing before an element may be passed over
 pub passed_over : {B : Type 0} (f : Element → Option B) (x : Element) (set : List Element) → ((y : Element) → before y x ≡ true → f y ≡ None) → filter_map f (later x set) ≡ filter_map f set
@@ -49,22 +47,18 @@ none_up_to f x (y ∷ set) none e = by (before x y) refl (none_up_to f x set non
 
 -- no edge comes behind the first attribute
 pub no_edge_behind : (n : ℕ) (x : Element) → before (NodeAttr 0 0 0) x ≡ true → edge_at n x ≡ None
-no_edge_behind n (Node id) e = refl
 no_edge_behind n (Edge id src dst directed) e = cc
-no_edge_behind n (NodeAttr id key value) e = refl
-no_edge_behind n (EdgeAttr id key value) e = refl
+no_edge_behind n _ e = refl
 
 -- a node has no more edges than the graph
 one_edge : (n : ℕ) (x : Element) (list : List Neighbour) → length (cons_option (edge_at n x) list) ≤ cond (is_an_edge x) 1 0 + length list
-one_edge n (Node id) list = omega arith
 one_edge n (Edge id src dst directed) list = by (eqb src n) (eqb dst n)
   where
     by : (a b : Bool) → length (cons_option (cond a (Some (record { edge = id; node = dst; side = side_as directed side.Out })) (cond b (Some (record { edge = id; node = src; side = side_as directed side.Inward })) None)) list) ≤ 1 + length list
     by true b = omega arith
     by false true = omega arith
     by false false = omega arith
-one_edge n (NodeAttr id key value) list = omega arith
-one_edge n (EdgeAttr id key value) list = omega arith
+one_edge n _ list = omega arith
 
 pub most_edges : (n : ℕ) (set : List Element) → length (neighbours_of set n) ≤ count_by is_an_edge set
 most_edges n [] = omega arith

@@ -1,7 +1,7 @@
 -- What a walk over the members of a slot looks at.
 use Rattle.std.specs.Prelude.{◌≡◌, ℕ, ◌==◌, ◌&&◌, false, if◌then◌else◌, List, [], ◌∷◌, Option, Some, None}
 use Rattle.dg_graph.specs.declared.element.Element.{Element}
-use Rattle.dg_graph.specs.declared.element.Element.TheVariants.{Node, Edge, NodeAttr, EdgeAttr}
+use Rattle.dg_graph.specs.declared.element.Element.TheVariants.{NodeAttr}
 use Rattle.dg_graph.specs.Elements.{before}
 
 -- none of the set stands before the element
@@ -11,7 +11,5 @@ NoneBefore x (y ∷ set) = (before y x ≡ false) × NoneBefore x set
 
 -- the value, if the element is a value of the key at the node
 abbrev pub value_of_key : ℕ → ℕ → Element → Option ℕ
-value_of_key n key (Node id) = None
-value_of_key n key (Edge id src dst directed) = None
 value_of_key n key (NodeAttr id k value) = if id == n && k == key then Some value else None
-value_of_key n key (EdgeAttr id k value) = None
+value_of_key n key _ = None

@@ -21,6 +21,7 @@ fn sum(counts: Counts) -> u64 {
         .saturating_add(counts.edges)
         .saturating_add(counts.node_attrs)
         .saturating_add(counts.edge_attrs)
+        .saturating_add(counts.messages)
 }
 
 /// The members.

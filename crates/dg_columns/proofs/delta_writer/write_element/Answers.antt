@@ -13,3 +13,7 @@ returns-in-NodeAttr c =
       | inl e ↦ appended _ _ _ _ _ c.extend_from_slice-in-NodeAttr.ensures.items (c.attr_bytes.ensures ∙ ap element_bytes (sym e))
       | inr e ↦ appended _ _ _ _ _ c.extend_from_slice-in-NodeAttr.ensures.items (c.attr_bytes.ensures ∙ ap element_bytes (sym e))
     ]
+
+pub returns-in-Message : goal.returns-in-Message
+returns-in-Message c =
+    appended _ _ _ _ _ c.extend_from_slice-in-Message.ensures.items (c.message_bytes.ensures ∙ ap element_bytes (sym c.in-Message.is))

@@ -29,3 +29,7 @@ returns-in-NodeAttr c =
       | inl e ↦ appended _ _ _ _ _ c.extend_from_slice-in-NodeAttr.ensures.items (c.change_event.ensures ∙ spelled_as c.args.position c.args.event.now.time _ _ e)
       | inr e ↦ appended _ _ _ _ _ c.extend_from_slice-in-NodeAttr.ensures.items (c.change_event.ensures ∙ spelled_as c.args.position c.args.event.now.time _ _ e)
     ]
+
+pub returns-in-Message : goal.returns-in-Message
+returns-in-Message c =
+    appended _ _ _ _ _ c.extend_from_slice-in-Message.ensures.items (c.message_event.ensures ∙ spelled_as c.args.position c.args.event.now.time _ _ c.in-Message.is)

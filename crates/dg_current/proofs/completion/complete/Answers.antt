@@ -13,3 +13,6 @@ returns-in-SetEdge c = c.set_edge.ensures ∙ ap (λ w. complete w c.args.graph.
 
 pub returns-in-UnsetEdge : goal.returns-in-UnsetEdge
 returns-in-UnsetEdge c = c.unset_edge.ensures ∙ ap (λ w. complete w c.args.graph.now.set) (sym c.in-UnsetEdge.is)
+
+pub returns-in-Message : goal.returns-in-Message
+returns-in-Message c = c.message.ensures ∙ ap (λ w. complete w c.args.graph.now.set) (sym c.in-Message.is)

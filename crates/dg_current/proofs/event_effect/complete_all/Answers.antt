@@ -19,7 +19,8 @@ apply-requires-clause-graph c =
 
 pub apply-requires-clause-happens : goal.apply-requires-clause-happens
 apply-requires-clause-happens c =
-    event_happens c.loop-change.graph.set c.loop-change.from (slice_index_or c.args.changes.now c.loop-change.change-index past) c.in-Ok.event (sym c.in-Ok.ensures)
+    event_happens c.loop-change.graph.set
+    (led_is_graph c.args.graph.now.set c.loop-change.events.items c.loop-change.graph c.loop-change.invariant.led) c.loop-change.from (slice_index_or c.args.changes.now c.loop-change.change-index past) c.in-Ok.event (sym c.in-Ok.ensures)
 
 pub loop-change-preserved : goal.loop-change-preserved
 loop-change-preserved c =
@@ -30,7 +31,7 @@ loop-change-preserved c =
     let changes = c.args.changes.now in
     let pushed : c.push.new.self.items ≡ events ++ e ∷ [] =
     c.push.ensures.items ∙ ap (λ r. if is_ok r then events ++ e ∷ [] else events) c.unwrap.ensures in
-    let happens = event_happens old.graph.set old.from (slice_index_or changes old.change-index past) e (sym c.in-Ok.ensures) in
+    let happens = event_happens old.graph.set (led_is_graph start events old.graph old.invariant.led) old.from (slice_index_or changes old.change-index past) e (sym c.in-Ok.ensures) in
     let due =
     goes_on_at (completed 1 c.args.earliest start (all_changes changes)) events (old.line + 1) old.from old.graph.set changes old.change-index past
     c.loop-change-test.true old.invariant.due e (sym c.in-Ok.ensures) in

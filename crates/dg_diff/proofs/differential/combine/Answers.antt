@@ -1,7 +1,8 @@
-use Rattle.std.proofs.Common.{ap, ◌∙◌}
+use Rattle.std.proofs.Common.{ap, sym, ◌∙◌}
 use Rattle.std.proofs.lemmas.Result.{IfOk-weaker}
+use Rattle.dg_graph.specs.DifferentialFunction.{in_combined}
 use Rattle.dg_graph.specs.Elements.{has}
-use Rattle.dg_diff.proofs.DifferentialFunctionElements.{combined_one, balanced_ends}
+use Rattle.dg_diff.proofs.DifferentialFunctionElements.{combined_one, skewed_ends}
 use Rattle.dg_diff.proofs.differential.combine.Goals as goal
 
 pub returns-then-sets-eq1 : goal.returns-then-sets-eq1
@@ -17,8 +18,20 @@ pub returns-in-Balanced : goal.returns-in-Balanced
 returns-in-Balanced c =
     let first = c.index-sets-0-in-Balanced in
     let last = c.index-sets-sets in
-    IfOk-weaker c.balance.result _ _
+    IfOk-weaker c.skew.result _ _
     (λ set is x.
     is x
-    ∙ balanced_ends c.args.sets.now c.args.f first.result last.result x c.requires c.in-Balanced.is first.is last.is)
-    c.balance.ensures
+    ∙ skewed_ends 128 c.args.sets.now first.result last.result x c.requires first.is last.is
+    ∙ ap (λ f. in_combined f c.args.sets.now x) (sym c.in-Balanced.is))
+    c.skew.ensures
+
+pub returns-in-Skewed : goal.returns-in-Skewed
+returns-in-Skewed c =
+    let first = c.index-sets-0-in-Skewed in
+    let last = c.index-sets-sets-in-Skewed in
+    IfOk-weaker c.skew-in-Skewed.result _ _
+    (λ set is x.
+    is x
+    ∙ skewed_ends c.in-Skewed.r c.args.sets.now first.result last.result x c.requires first.is last.is
+    ∙ ap (λ f. in_combined f c.args.sets.now x) (sym c.in-Skewed.is))
+    c.skew-in-Skewed.ensures

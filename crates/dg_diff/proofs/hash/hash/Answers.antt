@@ -10,3 +10,6 @@ returns-in-NodeAttr c = c.hash_attribute.ensures ∙ sym (ap (λ x. fnv (canonic
 
 pub returns-in-EdgeAttr : goal.returns-in-EdgeAttr
 returns-in-EdgeAttr c = c.hash_attribute-in-EdgeAttr.ensures ∙ sym (ap (λ x. fnv (canonical x)) c.in-EdgeAttr.is)
+
+pub returns-in-Message : goal.returns-in-Message
+returns-in-Message c = c.hash_message.ensures ∙ sym (ap (λ x. fnv (canonical x)) c.in-Message.is)

@@ -17,3 +17,8 @@ pub returns-in-EdgeAttr : goal.returns-in-EdgeAttr
 returns-in-EdgeAttr c = λ slots fit masks.
     let m = c.meets-in-EdgeAttr.ensures in
     needed_by_mask slots fit column.EdgeAttr c.args.masks.now.edge_attr c.args.row.now masks.edge_attr (sym c.column_of.ensures ∙ c.in-EdgeAttr.is) (sym c.is_current.ensures ∙ c.if-is_current.false) c.meets-in-EdgeAttr.result m.some m.none
+
+pub returns-in-Transient : goal.returns-in-Transient
+returns-in-Transient c = λ slots fit masks.
+    let m = c.meets-in-Transient.ensures in
+    needed_by_mask slots fit column.Transient c.args.masks.now.transient c.args.row.now masks.transient (sym c.column_of.ensures ∙ c.in-Transient.is) (sym c.is_current.ensures ∙ c.if-is_current.false) c.meets-in-Transient.result m.some m.none

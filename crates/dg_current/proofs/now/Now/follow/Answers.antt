@@ -11,8 +11,12 @@ use Rattle.dg_current.proofs.now.Now.follow.Goals as goal
 
 pub apply-requires-clause-happens : goal.apply-requires-clause-happens
 apply-requires-clause-happens c =
+    let held = c.self.inside.held in
+    let events = c.self.inside.pending.items in
     let set = c.ready_for_event.new.graph.set in
-    followed_still set set c.args.event.now.body c.is_change_of.result refl c.is_change_of.ensures c.if-not-is_change_of.false
+    let before : IsGraph set =
+    subst (λ (h : HeldGraphState). IsGraph h.set) (sym c.in_ok-ready_for_event.ensures) (led_is_graph (rewound held.set events) events held c.self.invariant) in
+    followed_still set set c.args.event.now.body c.is_change_of.result before refl c.is_change_of.ensures c.if-not-is_change_of.false
 
 pub invariant_of-self-2 : goal.invariant_of-self-2
 invariant_of-self-2 c =
@@ -23,6 +27,6 @@ invariant_of-self-2 c =
     let none : events ≡ [] = ap (λ (s : NowState). s.pending) c.self.view_is ∙ c.requires.none_pending in
     let before : IsGraph set =
     subst (λ (h : HeldGraphState). IsGraph h.set) (sym c.in_ok-ready_for_event.ensures) (led_is_graph (rewound held.set events) events held c.self.invariant) in
-    let happens : CanHappen set b = followed_still set set b c.is_change_of.result refl c.is_change_of.ensures c.if-not-is_change_of.false in
+    let happens : CanHappen set b = followed_still set set b c.is_change_of.result before refl c.is_change_of.ensures c.if-not-is_change_of.false in
     let after : IsGraph c.apply.new.graph.set = subst IsGraph (sym c.in_ok-apply.ensures.set) (graph_forwards set b before happens) in
     subst (λ (es : List Event). Led (rewound c.apply.new.graph.set es) es c.apply.new.graph) (sym none) (led_none c.apply.new.graph after)
