@@ -1,5 +1,6 @@
 pub mod OlderSteps
 pub mod StepsBack
+pub mod NothingChains
 pub mod InteriorDeltaWays
 pub mod InteriorDeltaGroups
 pub mod InteriorDeltaSteps

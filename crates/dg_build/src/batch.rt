@@ -1,6 +1,6 @@
 //! The segment of a batch.
 
-ghost use Rattle.std.specs.Prelude.{◌≡◌, ◌≤◌, ◌<◌, ◌+◌, ◌-◌, ◌*◌, ◌^◌, ◌++◌, [], ℕ, List, length, map, take, drop, min, true, All, IfOk, IfErr, OnOk};
+ghost use Rattle.std.specs.Prelude.{◌≡◌, ◌≤◌, ◌<◌, ◌+◌, ◌-◌, ◌*◌, ◌^◌, ◌++◌, [], ℕ, List, length, map, take, drop, min, true, false, All, IfOk, IfErr, OnOk};
 ghost use Rattle.dg_graph.specs.declared.event.Event.{Event};
 ghost use Rattle.dg_graph.specs.ExactEvents.{AreChangesOf};
 ghost use Rattle.dg_graph.specs.Replay.{replay};
@@ -9,10 +9,10 @@ ghost use Rattle.dg_history.specs.History.{first_time_of, last_time_from};
 ghost use Rattle.dg_columns.specs.NamesInRange.{NamesFit};
 ghost use Rattle.dg_index.specs.Hierarchy.{leaves, numbers};
 ghost use Rattle.dg_index.specs.IndexRecords.{Events, deltas_due, recent_of, record_among};
-ghost use Rattle.dg_index.specs.FileOfHistory.{segment_of, stored};
-ghost use Rattle.dg_index.specs.OpenedIndex.{list_bytes_max, list_row, may_be_listed};
+ghost use Rattle.dg_index.specs.FileOfHistory.{segment_of, stored, stored_in};
+ghost use Rattle.dg_index.specs.OpenedIndex.{AreUnheard, list_bytes_max, list_row, may_be_listed};
 ghost use Rattle.dg_build.specs.OlderSteps.{AreOlderSteps, IsTopDue, older_in_time};
-ghost use Rattle.dg_build.specs.SpelledRecords.{IsFaultBelow, last_in_rows, stored_cut};
+ghost use Rattle.dg_build.specs.SpelledRecords.{IsFaultBelow, last_in_rows, stored_cut, written_columns, written_segment};
 ghost use Rattle.dg_build.specs.GivenDeltas.{AddsSuch, AreGiven, IsFaultOfSuch};
 ghost use Rattle.dg_build.specs.declared.fault.BuildFault.TheVariants.{Memory};
 
@@ -46,6 +46,7 @@ fn first_count(l: usize, recent: &[Event], events: &[Event]) -> usize
 fn add_batch(
     alloc: Global,
     params: Params,
+    messages: bool,
     before: usize,
     recent: &[Event],
     events: &[Event],
@@ -62,9 +63,9 @@ fn add_batch(
     requires older { length older_steps.now ≡ length (older_in_time params.k (leaves params before) (leaves params (before + length events.now))) }
     requires bare { (segment.old.lists ≡ []) × (segment.old.deltas ≡ []) }
     ensures written { OnOk result (segment.new ≡ record segment.old {
-      lists = map (λ i. stored_cut (take params.l (drop (i * params.l) (recent.now ++ events.now)))) (numbers 0 (leaves params (before + length events.now) - leaves params before));
+      lists = map (λ i. stored_cut messages (take params.l (drop (i * params.l) (recent.now ++ events.now)))) (numbers 0 (leaves params (before + length events.now) - leaves params before));
       deltas = segment.new.deltas;
-      piece = stored (Events (drop (leaves params (before + length events.now) * params.l - before) events.now));
+      piece = written_columns messages (stored (Events (drop (leaves params (before + length events.now) * params.l - before) events.now)));
     }) }
     ensures count { OnOk result (length segment.new.deltas ≡ length (deltas_due params.k (leaves params before) (leaves params (before + length events.now)))) }
     ensures is { OnOk result ((past : List Event) → length past ≡ before → recent.now ≡ recent_of params past
@@ -87,7 +88,7 @@ fn add_batch(
     let later = behind(events, cut);
     let list = first_list(alloc, recent, &events[..cut])?;
     let first = list.as_slice();
-    add_lists(alloc, l, after - m, first, later, segment)?;
+    add_lists(alloc, messages, l, after - m, first, later, segment)?;
     add_interior(
         alloc,
         params,
@@ -101,7 +102,7 @@ fn add_batch(
         segment,
     )?;
     let piece = behind(events, (after * l).saturating_sub(before));
-    set_piece(alloc, piece, segment)?;
+    set_piece(alloc, messages, piece, segment)?;
     Ok(())
 }
 
@@ -113,13 +114,15 @@ fn add_batch(
 /// has the steps of the older children of the due nodes, in the order of time, which has those of the greatest
 /// height first: the exact delta from each to the next, and from the last to the last leaf that was there before
 /// (to the empty graph where there was none). `segment` comes with the number of the batch's events, its first
-/// and its last time, and its new names, and without a list or a delta.
+/// and its last time, and its new names, and without a list or a delta. The columns of its lists and of its piece are
+/// written with those of `messages`, or without, as in the first form, which has none.
 ///
 /// `Memory` says that memory ran out, or that the segment would have 2^32 lists or deltas, or 2^63 bytes,
 /// or more. `Wide` names the first due delta that cannot be written, which no history brings about.
 pub fn build(
     alloc: Global,
     params: Params,
+    messages: bool,
     before: usize,
     recent: &[Event],
     events: &[Event],
@@ -146,7 +149,8 @@ pub fn build(
         → (IsTopDue params.k (leaves params before) (leaves params (before + length events.now)) → now.now ≡ replay past)
         → AreChangesOf [] (past ++ events.now) → AreOlderSteps params past (leaves params (before + length events.now)) older_steps.now
         → segment.events ≡ length events.now → segment.first ≡ first_time_of events.now → segment.last ≡ last_time_from 0 events.now
-        → s ≡ segment_of params past (record { names = segment.names; events = events.now })) }
+        → s ≡ written_segment messages (segment_of params past (record { names = segment.names; events = events.now }))) }
+    ensures unheard { IfOk result (λ s. messages ≡ false → AreUnheard (stored_in s)) }
     ensures fault { IfErr result (λ e. (past : List Event) → length past ≡ before → recent.now ≡ recent_of params past
         → (IsTopDue params.k (leaves params before) (leaves params (before + length events.now)) → now.now ≡ replay past)
         → AreChangesOf [] (past ++ events.now) → AreOlderSteps params past (leaves params (before + length events.now)) older_steps.now
@@ -159,6 +163,7 @@ pub fn build(
     add_batch(
         alloc,
         params,
+        messages,
         before,
         recent,
         events,
@@ -166,5 +171,6 @@ pub fn build(
         older_steps,
         &mut segment,
     )?;
+    segment.facts();
     Ok(segment)
 }

@@ -10,7 +10,7 @@ ghost use Rattle.dg_build.specs.SpelledRecords.{IsFaultBelow, IsFaultOfDeltas};
 ghost use Rattle.dg_build.specs.GivenDeltas.{AreAdded, later_downs, later_steps};
 ghost use Rattle.dg_build.specs.declared.fault.BuildFault.TheVariants.{Memory};
 
-use crate::family::{add_downs, chain_on, next_step, ways};
+use crate::family::{add_downs, chain_on, chain_with, next_step, ways};
 use crate::fault::BuildFault;
 use dg_delta::Delta;
 use dg_diff::inward;
@@ -57,14 +57,6 @@ fn step_across(last: Delta, row: &mut VecDeque<Delta>) -> Result<Delta, AllocErr
     chain_on(&last, next_step(row))
 }
 
-// The exact step from a node to the next one, by that to the first child of this one, and the delta from the
-// child to it. An `Err` says that memory ran out.
-fn step_up(step: Delta, inner: &Delta) -> Result<Delta, AllocError>
-    ensures { IfOk result (λ whole. whole ≡ chained step inner.now) }
-{
-    step.chain(inner)
-}
-
 // Makes the interior node behind another one, by the delta from that one to its last child, and the exact
 // steps from that child on, which are taken from the front of the row. Answers it behind the exact step to it
 // from the other node. An `Err` says that memory ran out.
@@ -83,7 +75,7 @@ fn linked_node(
 {
     let step = step_across(last, row)?;
     let node = interior_node(alloc, params, row)?;
-    let step = step_up(step, &node.inner)?;
+    let step = chain_with(step, &node.inner)?;
     Ok((step, node))
 }
 

@@ -1,7 +1,7 @@
 //! The children of an interior node, by exact deltas.
 
-ghost use Rattle.std.specs.Prelude.{◌≡◌, ◌≤◌, ◌++◌, ◌∷◌, [], false, None, List, length, map, take, drop, IfOk, IfErr, OnOk};
-ghost use Rattle.dg_graph.specs.Composition.{Delta, chained};
+ghost use Rattle.std.specs.Prelude.{◌≡◌, ◌↔◌, ◌≤◌, ◌++◌, ◌∷◌, [], false, None, List, length, map, take, drop, IfOk, IfErr, OnOk, IsTrue};
+ghost use Rattle.dg_graph.specs.Composition.{Delta, IsDelta, chained, nothing};
 ghost use Rattle.dg_index.specs.ExactSteps.{downs, ways_of};
 ghost use Rattle.dg_build.specs.InteriorDeltas.{last_way, stored_delta};
 ghost use Rattle.dg_build.specs.SpelledRecords.{is_wide, first_wide, IsFaultOfDeltas};
@@ -21,11 +21,40 @@ pub(crate) fn next_step(row: &mut VecDeque<Delta>) -> Delta
     row.pop_front().unwrap()
 }
 
-// The exact delta over one and then a later one, which is let go of. An `Err` says that memory ran out.
+// Whether the delta changes nothing, as that between a node and its first child does where nothing is taken out.
+fn is_nothing(delta: &Delta) -> bool
+    ensures { IsTrue result ↔ delta.now ≡ nothing }
+{
+    delta.minus().len() == 0 && delta.plus().len() == 0
+}
+
+// Tells the proofs that its sets rise, and share no element. It does nothing.
+fn is_delta(delta: &Delta)
+    ensures { IsDelta delta.now }
+{
+    delta.minus();
+}
+
+// The exact delta over one and then a later one, which is let go of, or handed on where the first changes
+// nothing. An `Err` says that memory ran out.
 pub(crate) fn chain_on(delta: &Delta, later: Delta) -> Result<Delta, AllocError>
     ensures { IfOk result (λ whole. whole ≡ chained delta.now later) }
 {
+    if is_nothing(delta) {
+        is_delta(&later);
+        return Ok(later);
+    }
     delta.chain(&later)
+}
+
+// The same of a delta that is let go of and a later one, which is not.
+pub(crate) fn chain_with(delta: Delta, later: &Delta) -> Result<Delta, AllocError>
+    ensures { IfOk result (λ whole. whole ≡ chained delta later.now) }
+{
+    if is_nothing(later) {
+        return Ok(delta);
+    }
+    delta.chain(later)
 }
 
 /// The exact delta from the first node of a chain to each other one, by the exact steps from each node to

@@ -14,7 +14,7 @@ ghost use Rattle.dg_build.specs.GivenDeltas.{AreAdded, first_by, given_above, gi
 ghost use Rattle.dg_build.specs.declared.fault.BuildFault.TheVariants.{Memory};
 
 use crate::climb::{Interior, interior_node, later_nodes};
-use crate::family::add_downs;
+use crate::family::{add_downs, chain_with};
 use crate::fault::BuildFault;
 use crate::records::add_delta;
 use crate::row::row_steps;
@@ -63,7 +63,7 @@ fn delta_up(older: &[Delta], up: Delta, inner: &Delta) -> Result<Delta, AllocErr
     ensures { IfOk result (λ above. above ≡ up_by older.now up inner.now) }
 {
     if older.is_empty() {
-        up.chain(inner)
+        chain_with(up, inner)
     } else {
         inner.copy()
     }

@@ -1,6 +1,6 @@
 //! Writing lists, deltas and the piece of a segment.
 
-ghost use Rattle.std.specs.Prelude.{◌≡◌, ◌≤◌, ◌+◌, ◌*◌, ◌++◌, ◌∷◌, [], false, List, length, map, take, drop, All, IfErr, OnOk};
+ghost use Rattle.std.specs.Prelude.{◌≡◌, ◌≤◌, ◌+◌, ◌*◌, ◌++◌, ◌∷◌, [], false, List, length, map, take, drop, All, IfErr, IfOk, OnOk};
 ghost use Rattle.dg_graph.specs.declared.event.Event.{Event};
 ghost use Rattle.dg_graph.specs.Composition.{Delta};
 ghost use Rattle.dg_history.specs.History.{first_time_of, last_time_from};
@@ -9,7 +9,7 @@ ghost use Rattle.dg_index.specs.Hierarchy.{numbers};
 ghost use Rattle.dg_index.specs.IndexRecords.{Events};
 ghost use Rattle.dg_index.specs.FileOfHistory.{stored};
 ghost use Rattle.dg_build.specs.InteriorDeltas.{stored_delta};
-ghost use Rattle.dg_build.specs.SpelledRecords.{stored_cut, is_wide, IsFaultOfDeltas};
+ghost use Rattle.dg_build.specs.SpelledRecords.{stored_cut, written_columns, is_wide, IsFaultOfDeltas};
 
 use crate::fault::BuildFault;
 use crate::first_list::list_at;
@@ -40,28 +40,50 @@ fn last_time(events: &[Event]) -> u64
     }
 }
 
-// Gives the segment the columns of a closed list.
-fn add_list(alloc: Global, events: &[Event], segment: &mut Segment) -> Result<(), AllocError>
+// The column of the events' messages, which stays empty where messages are not written.
+fn message_column(alloc: Global, messages: bool, events: &[Event]) -> Result<Vec<u8>, AllocError>
     requires few { length events.now ≤ 65536 }
     requires names { All (λ e. NamesFit e.body) events.now }
-    ensures { OnOk result (segment.new ≡ record segment.old { lists = segment.old.lists ++ stored_cut events.now ∷ [] }) }
+    ensures { IfOk result (λ column. column.items ≡ (written_columns messages (stored (Events events.now))).transient) }
+{
+    if messages {
+        write_events(alloc, events, Column::Transient)
+    } else {
+        Ok(Vec::new(alloc))
+    }
+}
+
+// Gives the segment the columns of a closed list.
+fn add_list(
+    alloc: Global,
+    messages: bool,
+    events: &[Event],
+    segment: &mut Segment,
+) -> Result<(), AllocError>
+    requires few { length events.now ≤ 65536 }
+    requires names { All (λ e. NamesFit e.body) events.now }
+    ensures { OnOk result (segment.new ≡ record segment.old { lists = segment.old.lists ++ stored_cut messages events.now ∷ [] }) }
 {
     let structure = write_events(alloc, events, Column::Structure)?;
     let node_attrs = write_events(alloc, events, Column::NodeAttr)?;
     let edge_attrs = write_events(alloc, events, Column::EdgeAttr)?;
+    let transient = message_column(alloc, messages, events)?;
     segment.add_list(
         first_time(events),
         last_time(events),
         &structure,
         &node_attrs,
         &edge_attrs,
+        &transient,
     )
 }
 
 /// Gives the segment the columns of so many closed lists, of `l` events each: those of the first, and then
-/// those cut from the later events. An `Err` says that memory ran out, or that the segment would be too long.
+/// those cut from the later events; their messages too, or not. An `Err` says that memory ran out, or that the
+/// segment would be too long.
 pub(crate) fn add_lists(
     alloc: Global,
+    messages: bool,
     l: usize,
     count: usize,
     first: &[Event],
@@ -73,29 +95,31 @@ pub(crate) fn add_lists(
     requires long { count * l ≤ length first.now + length later.now }
     requires first_names { All (λ e. NamesFit e.body) first.now }
     requires later_names { All (λ e. NamesFit e.body) later.now }
-    ensures { OnOk result (segment.new ≡ record segment.old { lists = segment.old.lists ++ map (λ i. stored_cut (take l (drop (i * l) (first.now ++ later.now)))) (numbers 0 count) }) }
+    ensures { OnOk result (segment.new ≡ record segment.old { lists = segment.old.lists ++ map (λ i. stored_cut messages (take l (drop (i * l) (first.now ++ later.now)))) (numbers 0 count) }) }
 {
     for i in 0..count {
-        add_list(alloc, list_at(first, later, l, i), segment)?;
+        add_list(alloc, messages, list_at(first, later, l, i), segment)?;
     }
     Ok(())
 }
 
-/// Gives the segment the columns of its piece. An `Err` says that memory ran out, or that the segment would
-/// be too long.
+/// Gives the segment the columns of its piece, that of messages too, or not. An `Err` says that memory ran out, or
+/// that the segment would be too long.
 pub(crate) fn set_piece(
     alloc: Global,
+    messages: bool,
     events: &[Event],
     segment: &mut Segment,
 ) -> Result<(), AllocError>
     requires few { length events.now ≤ 65536 }
     requires names { All (λ e. NamesFit e.body) events.now }
-    ensures { OnOk result (segment.new ≡ record segment.old { piece = stored (Events events.now) }) }
+    ensures { OnOk result (segment.new ≡ record segment.old { piece = written_columns messages (stored (Events events.now)) }) }
 {
     let structure = write_events(alloc, events, Column::Structure)?;
     let node_attrs = write_events(alloc, events, Column::NodeAttr)?;
     let edge_attrs = write_events(alloc, events, Column::EdgeAttr)?;
-    segment.set_piece(&structure, &node_attrs, &edge_attrs)
+    let transient = message_column(alloc, messages, events)?;
+    segment.set_piece(&structure, &node_attrs, &edge_attrs, &transient)
 }
 
 // Whether a set of the delta has too many elements to be written.
@@ -105,7 +129,7 @@ fn is_wide(delta: &Delta) -> bool
     delta.minus().len() > SET_ELEMENTS_MAX || delta.plus().len() > SET_ELEMENTS_MAX
 }
 
-// Gives the segment the columns of a delta.
+// Gives the segment the three columns of a delta, which has no messages.
 fn spell_delta(alloc: Global, delta: &Delta, segment: &mut Segment) -> Result<(), AllocError>
     requires { is_wide delta.now ≡ false }
     ensures { OnOk result (segment.new ≡ record segment.old { deltas = segment.old.deltas ++ stored_delta delta.now ∷ [] }) }

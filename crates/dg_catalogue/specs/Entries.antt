@@ -3,7 +3,7 @@ use Rattle.std.specs.Prelude.{◌≡◌, ℕ, ◌+◌, ◌≤◌, List, Option, 
 use Rattle.std.specs.List.{All}
 use Rattle.std.specs.Map.{keys_of, values_of}
 use Rattle.dg_graph.specs.declared.element.Column.{Column}
-use Rattle.dg_graph.specs.declared.element.Column.TheVariants.{Structure, NodeAttr, EdgeAttr}
+use Rattle.dg_graph.specs.declared.element.Column.TheVariants.{Structure, NodeAttr, EdgeAttr, Transient}
 use Rattle.dg_index.specs.declared.entry.Ends.{Ends}
 use Rattle.dg_index.specs.declared.entry.Entry.{Entry}
 use Rattle.dg_index.specs.IndexGrowth.{columns_in}
@@ -25,12 +25,14 @@ abbrev pub column_length_in : Entry → Column → ℕ
 column_length_in e Structure = slice_index e.lengths 0
 column_length_in e NodeAttr = slice_index e.lengths 1
 column_length_in e EdgeAttr = slice_index e.lengths 2
+column_length_in e Transient = slice_index e.lengths 3
 
 -- the byte at which a column begins: the columns stand one after another
 abbrev pub offset_in : Entry → Column → ℕ
 offset_in e Structure = e.offset
 offset_in e NodeAttr = e.offset + slice_index e.lengths 0
 offset_in e EdgeAttr = e.offset + slice_index e.lengths 0 + slice_index e.lengths 1
+offset_in e Transient = e.offset + slice_index e.lengths 0 + slice_index e.lengths 1 + slice_index e.lengths 2
 
 -- the instants of the history, once a batch with these is added
 abbrev pub spanned : Option Ends → Ends → Ends

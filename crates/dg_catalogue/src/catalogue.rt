@@ -38,11 +38,12 @@ pub fn catalogue_limits()
 pub fn column_length(entry: &Entry, col: Column) -> u64
     ensures { result ≡ column_length_in entry.now col }
 {
-    let [structure, nodes_attr, edges_attr] = entry.lengths;
+    let [structure, nodes_attr, edges_attr, transient] = entry.lengths;
     match col {
         Column::Structure => structure,
         Column::NodeAttr => nodes_attr,
         Column::EdgeAttr => edges_attr,
+        Column::Transient => transient,
     }
 }
 
@@ -52,15 +53,16 @@ pub fn column_offset(entry: &Entry, col: Column) -> u64
     requires { IsInRange entry.now }
     ensures { result ≡ offset_in entry.now col }
 {
-    let [structure, nodes_attr, _] = entry.lengths;
+    let [structure, nodes_attr, edges_attr, _] = entry.lengths;
     match col {
         Column::Structure => entry.offset,
         Column::NodeAttr => entry.offset + structure,
         Column::EdgeAttr => entry.offset + structure + nodes_attr,
+        Column::Transient => entry.offset + structure + nodes_attr + edges_attr,
     }
 }
 
-/// What an index holds: for each key the lengths of its three columns, in bytes, and the offset of
+/// What an index holds: for each key the lengths of its four columns, in bytes, and the offset of
 /// the first; the first and last instant of each list, and those of the history.
 #[derive(Drop)]
 pub struct Catalogue {
@@ -126,11 +128,11 @@ impl Catalogue {
         Ok(())
     }
 
-    /// Adds a record, whose three columns have these lengths in bytes and stand one after another from
+    /// Adds a record, whose four columns have these lengths in bytes and stand one after another from
     /// the byte `offset` on. There is room for it, its key is not held yet, and `ends` is given exactly
     /// for a list, whose number is below `LISTS_MAX`. It ends at `BYTES_MAX` at the latest, and so many
     /// bytes have all records at the most. Takes no memory.
-    pub fn add(&mut self, key: Key, lengths: [u64; 3], offset: u64, ends: Option<Ends>)
+    pub fn add(&mut self, key: Key, lengths: [u64; 4], offset: u64, ends: Option<Ends>)
         requires room { 1 ≤ self.old.spare }
         requires lacks { entry_of self.old key ≡ None }
         requires in_range { offset + total lengths ≤ BYTES_MAX }
@@ -176,8 +178,8 @@ impl Catalogue {
         for i in 0..keys.len() {
             let row = rows[i];
             self.add(keys[i], row.lengths, offset, row.ends);
-            let [structure, nodes_attr, edges_attr] = row.lengths;
-            offset += structure + nodes_attr + edges_attr;
+            let [structure, nodes_attr, edges_attr, transient] = row.lengths;
+            offset += structure + nodes_attr + edges_attr + transient;
         }
     }
 

@@ -9,11 +9,11 @@ use Rattle.dg_history.specs.declared.node.Key.{Key}
 use Rattle.dg_history.specs.Keys.{same_key}
 use Rattle.dg_index.specs.ImageText.{is_within, gate_behind, eight_at}
 use Rattle.dg_catalogue.specs.Entries.{column_length_in, offset_in}
-use Rattle.dg_index.specs.OpenedIndex.{total, Opening, Opened, Directory, opening, bare, read_on, go_on_with, directory_next, directory_in, may_stand, if_it_may, keys_next, laid, rows_in, column_at}
+use Rattle.dg_index.specs.OpenedIndex.{total, Opening, Opened, Directory, opening, bare, read_on, go_on_with, directory_next, directory_in, may_stand, if_it_may, keys_next, laid, rows_in, column_at, is_marked, with_marker}
 use Rattle.dg_index.specs.declared.entry.Entry.{Entry}
 use Rattle.dg_index.specs.declared.entry.Row.{Row}
 use Rattle.dg_index.proofs.IndexRecordColumns.{Each, each_append}
-use Rattle.dg_index.proofs.OpenedSoFar.{was, one_more, opened_in}
+use Rattle.dg_index.proofs.OpenedSoFar.{was, one_more, opened_in, marked_parts}
 use Rattle.std.proofs.lemmas.List.Sums.{sum_by-cons}
 use Rattle.dg_catalogue.specs.Additions.{bytes_of_rows}
 use Rattle.dg_file.specs.Images.{IsOpenedAs}
@@ -54,13 +54,14 @@ next_within image x d e =
 
 read_within : (image : List ℕ) (x : Opened) (k : ℕ) (y : Opened) → read_on k image y ≡ Ok x → Each (IsWithin (length image)) y.index.records → Each (IsWithin (length image)) x.index.records
 read_within image x zero y is all = subst (λ (z : Opened). Each (IsWithin (length image)) z.index.records) (ap (opened_in x) is) all
-read_within image x (suc k) y is all = by (λ z e w. read_within image x k z e w) (get_or image (y.index.used - 1) 0 == 1) (directory_next y image) refl is
+read_within image x (suc k) y is all = by (λ z e w. read_within image x k z e w) (get_or image (y.index.used - 1) 0 == 1) (is_marked y image) (directory_next y image) refl is
   where
     by : ((z : Opened) → read_on k image z ≡ Ok x → Each (IsWithin (length image)) z.index.records → Each (IsWithin (length image)) x.index.records)
-        → (b : Bool) (o : Option Directory) → directory_next y image ≡ o → cond (not b) (Ok y) (go_on_with image y (read_on k image) o) ≡ Ok x → Each (IsWithin (length image)) x.index.records
-    by more false o n is = subst (λ (z : Opened). Each (IsWithin (length image)) z.index.records) (ap (opened_in x) is) all
-    by more true None n is = absurd cc
-    by more true (Some d) n is =
+        → (b m : Bool) (o : Option Directory) → directory_next y image ≡ o → cond (not b) (Ok y) (cond m (read_on k image (with_marker y)) (go_on_with image y (read_on k image) o)) ≡ Ok x → Each (IsWithin (length image)) x.index.records
+    by more false m o n is = subst (λ (z : Opened). Each (IsWithin (length image)) z.index.records) (ap (opened_in x) is) all
+    by more true true o n is = more (with_marker y) is all
+    by more true false None n is = absurd cc
+    by more true false (Some d) n is =
         more (one_more image y d) is
         (each_append (IsWithin (length image)) y.index.records (laid (y.index.used + 16 + eight_at image y.index.used) (keys_next y.index d.batch.events) (rows_in d)) all
         (laid_within (length image) (y.index.used + 16 + eight_at image y.index.used) (keys_next y.index d.batch.events) (rows_in d) (next_within image y d n)))
@@ -77,7 +78,7 @@ pub record_there : (image : List ℕ) (o : Opening) (k : Key) (e : Entry) → Is
 record_there image o k e opened is =
     let x : Opened = record { index = o; names = opened.0 } in
     let w = was image x opened.1 in
-    held_within (length image) o.records k e (read_within image x (length image) (bare w.params) w.read tt) is
+    held_within (length image) o.records k e (read_within image x (length image) (bare w.header.form w.header.params) w.read tt) is
 
 pub some_value : {A : Type 0} (x : Option A) → is_some x ≡ true → (y : A) × (x ≡ Some y)
 some_value None h = absurd cc
@@ -87,6 +88,7 @@ column_within : (e : Entry) (col : Column) (n : ℕ) → e.offset + total e.leng
 column_within e column.Structure n le = omega (arith, le)
 column_within e column.NodeAttr n le = omega (arith, le)
 column_within e column.EdgeAttr n le = omega (arith, le)
+column_within e column.Transient n le = omega (arith, le)
 
 pub column_there : (x : Option (List ℕ)) (o : Opening) (k : Key) (col : Column) (e : Entry) → lookup (same_key k) o.records ≡ Some e → IfSome x (λ image. IsOpenedAs image o) → HasRange x (offset_in e col) (column_length_in e col)
 column_there None o k col e is h = tt
@@ -96,6 +98,7 @@ column_is : (image : List ℕ) (e : Entry) (col : Column) → take (column_lengt
 column_is image e column.Structure = refl
 column_is image e column.NodeAttr = refl
 column_is image e column.EdgeAttr = refl
+column_is image e column.Transient = refl
 
 pub column_read : (x : Option (List ℕ)) (o : Opening) (k : Key) (col : Column) (e : Entry) (offset len : ℕ) (bytes : List ℕ) → lookup (same_key k) o.records ≡ Some e → offset ≡ offset_in e col → len ≡ column_length_in e col
     → IfSome x (λ image. bytes ≡ take len (drop offset image)) → IfSome x (λ image. IfSome (lookup (same_key k) o.records) (λ e. bytes ≡ column_at image e col))
@@ -113,15 +116,23 @@ next_used image x d e =
     let w2 = and_parts (nat_le (gate_behind image at + 1) (length image)) _ w.1 in
     leb-true _ _ w2.0
 
+marked_used : (image : List ℕ) (x : Opened) → is_marked x image ≡ true → x.index.used + 25 ≤ length image
+marked_used image x e =
+    let m = marked_parts x image e in
+    let w = and_parts (nat_le (x.index.used + 16) (length image)) _ m.1 in
+    let w2 = and_parts (nat_le (gate_behind image x.index.used + 1) (length image)) _ w.1 in
+    omega (arith, leb-true _ _ w2.0, m.2, m.3)
+
 read_used : (image : List ℕ) (x : Opened) (k : ℕ) (y : Opened) → read_on k image y ≡ Ok x → y.index.used ≤ length image → x.index.used ≤ length image
 read_used image x zero y is le = subst (λ (z : Opened). z.index.used ≤ length image) (ap (opened_in x) is) le
-read_used image x (suc k) y is le = by (λ z e w. read_used image x k z e w) (get_or image (y.index.used - 1) 0 == 1) (directory_next y image) refl is
+read_used image x (suc k) y is le = by (λ z e w. read_used image x k z e w) (get_or image (y.index.used - 1) 0 == 1) (is_marked y image) refl (directory_next y image) refl is
   where
     by : ((z : Opened) → read_on k image z ≡ Ok x → z.index.used ≤ length image → x.index.used ≤ length image)
-        → (b : Bool) (o : Option Directory) → directory_next y image ≡ o → cond (not b) (Ok y) (go_on_with image y (read_on k image) o) ≡ Ok x → x.index.used ≤ length image
-    by more false o n is = subst (λ (z : Opened). z.index.used ≤ length image) (ap (opened_in x) is) le
-    by more true None n is = absurd cc
-    by more true (Some d) n is = more (one_more image y d) is (next_used image y d n)
+        → (b m : Bool) → is_marked y image ≡ m → (o : Option Directory) → directory_next y image ≡ o → cond (not b) (Ok y) (cond m (read_on k image (with_marker y)) (go_on_with image y (read_on k image) o)) ≡ Ok x → x.index.used ≤ length image
+    by more false m em o n is = subst (λ (z : Opened). z.index.used ≤ length image) (ap (opened_in x) is) le
+    by more true true em o n is = more (with_marker y) is (omega (arith, marked_used image y em))
+    by more true false em None n is = absurd cc
+    by more true false em (Some d) n is = more (one_more image y d) is (next_used image y d n)
 
 or_false : (a b : Bool) → (a || b) ≡ false → a ≡ false
 or_false true b e = absurd cc
@@ -130,7 +141,7 @@ or_false false b e = refl
 pub used_within : (image : List ℕ) (x : Opened) → opening image ≡ Ok x → x.index.used ≤ length image
 used_within image x e =
     let w = was image x e in
-    read_used image x (length image) (bare w.params) w.read (ltb-false (length image) 18 (or_false (nat_lt (length image) 18) _ w.there))
+    read_used image x (length image) (bare w.header.form w.header.params) w.read (ltb-false (length image) 18 (or_false (nat_lt (length image) 18) _ w.there))
 
 pub ok_both : {T E : Type 0} (r : Result T E) (P Q R : T → Type 0) → ((t : T) → P t → Q t → R t) → IfOk r P → IfOk r Q → IfOk r R
 ok_both (Ok t) P Q R f p q = f t p q

@@ -2,28 +2,30 @@
 use Rattle.std.proofs.Common.{◌≡◌, ℕ, ◌+◌, ◌-◌, ◌<◌, ◌≤◌, true, false, cond, List, ◌++◌, length, get_or, take, drop, slice_range, Option, Some, None, refl, sym, ap, ◌∙◌, add-zero, arith}
 use Rattle.std.specs.Prelude.{◌&&◌, ◌||◌, ◌==◌, not, nat_lt, nat_le, IfSome, Err}
 use Rattle.std.proofs.lemmas.Bool.{le-ltb, lt-ltb, leb-true, eq-eqb, ne_eqb, cond_both, false_from_ne_true, and_parts}
+use Rattle.std.specs.Option.{option_map}
 use Rattle.std.proofs.lemmas.List.{take-take, take_at, get_or-take, get_or-drop}
 use Rattle.std.proofs.Math.Bool.{or-true}
 use Rattle.dg_disk.specs.Counts.{raised_by}
 use Rattle.dg_disk.specs.Image.{IsLengthOf, IsRangeOf, HasRange}
 use Rattle.dg_history.specs.declared.limits.TheConstants.{FILE_BYTES_MAX}
-use Rattle.dg_history.specs.declared.params.Params.{Params}
 use Rattle.dg_index.specs.ImageOfHistory.{is_blank}
-use Rattle.dg_index.specs.ImageText.{eight_at, gate_behind, is_within, params_in}
+use Rattle.dg_index.specs.ImageText.{eight_at, gate_behind, is_within, header_in}
 use Rattle.dg_index.specs.OpenedIndex.{opened_by, opening, No_index, Not_ours}
 use Rattle.dg_index.proofs.ImageTextRanges.{piece_eight}
-use Rattle.dg_index.proofs.OpenedSoFar.{params_same}
+use Rattle.dg_index.proofs.OpenedSoFar.{header_same}
+use Rattle.dg_file.specs.declared.header.Header.{Header as FoundHeader}
 use Rattle.dg_file.specs.declared.lengths.Lengths.{Lengths}
 use Rattle.dg_file.specs.declared.reads.Found.{Found}
 use Rattle.dg_file.specs.Directories.{fit_in, gate_after, segment_lengths_at}
-use Rattle.dg_file.specs.Headers.{IsFoundIn}
+use Rattle.dg_file.specs.Headers.{IsFoundIn, as_header}
+use Rattle.dg_file.proofs.DirectoryTexts.{none_map, some_map}
 use Rattle.dg_file.specs.Images.{taken_after}
 
 pub opened_blank : (image : List ℕ) → is_blank image ≡ true → opening image ≡ Err No_index
-opened_blank image e = ap (λ b. cond b (Err No_index) (opened_by image (params_in image))) e
+opened_blank image e = ap (λ b. cond b (Err No_index) (opened_by image (header_in image))) e
 
-opened_foreign : (image : List ℕ) → is_blank image ≡ false → params_in image ≡ None → opening image ≡ Err Not_ours
-opened_foreign image e p = ap (λ b. cond b (Err No_index) (opened_by image (params_in image))) e ∙ ap (opened_by image) p
+opened_foreign : (image : List ℕ) → is_blank image ≡ false → header_in image ≡ None → opening image ≡ Err Not_ours
+opened_foreign image e p = ap (λ b. cond b (Err No_index) (opened_by image (header_in image))) e ∙ ap (opened_by image) p
 
 within_is : (image : List ℕ) (at : ℕ) → is_within image at ≡ fit_in at (length image) (segment_lengths_at image at)
 within_is image at = refl
@@ -74,22 +76,23 @@ there : (header image : List ℕ) (len : ℕ) → 18 ≤ len → (len == 18 && n
 there header image len long test l h =
     λ i. le-ltb (length image) 18 (omega (arith, l)) i || (sym (test_is header image len l h) ∙ test) i
 
-params_are : (header image : List ℕ) → header ≡ take 18 image → params_in header ≡ params_in image
-params_are header image h =
-    params_same 17 header image (omega arith) (ap (take 17) h ∙ take-take 17 18 image (omega arith))
+header_are : (header image : List ℕ) → header ≡ take 18 image → header_in header ≡ header_in image
+header_are header image h =
+    header_same 17 header image (omega arith) (ap (take 17) h ∙ take-take 17 18 image (omega arith))
 
-pub foreign_image : (x : Option (List ℕ)) (len : ℕ) (header : List ℕ) → length header ≡ 18 → 18 ≤ len → (len == 18 && not (get_or header 0 0 == 1)) ≡ false → params_in header ≡ None → IsLengthOf x len → IsRangeOf x 0 header → IfSome x (λ image. opening image ≡ Err Not_ours)
+pub foreign_image : (x : Option (List ℕ)) (len : ℕ) (header : List ℕ) → length header ≡ 18 → 18 ≤ len → (len == 18 && not (get_or header 0 0 == 1)) ≡ false → option_map as_header (header_in header) ≡ None → IsLengthOf x len → IsRangeOf x 0 header → IfSome x (λ image. opening image ≡ Err Not_ours)
 foreign_image x len header long enough test none l h =
     some_both x (LengthIs len) (RangeIs 0 header) (λ image. opening image ≡ Err Not_ours)
-    (λ image e is. let h = header_is header image long is in opened_foreign image (there header image len enough test e h) (sym (params_are header image h) ∙ none)) l h
+    (λ image e is. let h = header_is header image long is in opened_foreign image (there header image len enough test e h) (sym (header_are header image h) ∙ none_map as_header (header_in header) none)) l h
 
-pub found_image : (x : Option (List ℕ)) (len gate : ℕ) (header : List ℕ) (params : Params) → length header ≡ 18 → 18 ≤ len → (len == 18 && not (get_or header 0 0 == 1)) ≡ false → params_in header ≡ Some params → gate ≡ get_or header 17 0 → IsLengthOf x len → IsRangeOf x 0 header
-    → IfSome x (λ image. IsFoundIn image (record { params = params; len = len; gate = gate }))
-found_image x len gate header params long enough test some g l h =
-    some_both x (LengthIs len) (RangeIs 0 header) (λ image. IsFoundIn image (record { params = params; len = len; gate = gate }))
+pub found_image : (x : Option (List ℕ)) (len gate : ℕ) (header : List ℕ) (said : FoundHeader) → length header ≡ 18 → 18 ≤ len → (len == 18 && not (get_or header 0 0 == 1)) ≡ false → option_map as_header (header_in header) ≡ Some said → gate ≡ get_or header 17 0 → IsLengthOf x len → IsRangeOf x 0 header
+    → IfSome x (λ image. IsFoundIn image (record { form = said.form; params = said.params; len = len; gate = gate }))
+found_image x len gate header said long enough test some g l h =
+    let m = some_map as_header (header_in header) said some in
+    some_both x (LengthIs len) (RangeIs 0 header) (λ image. IsFoundIn image (record { form = said.form; params = said.params; len = len; gate = gate }))
     (λ image e is. let h = header_is header image long is in record {
       there = there header image len enough test e h;
-      params = sym (params_are header image h) ∙ some;
+      header = sym (header_are header image h) ∙ m.1 ∙ ap (λ (f : FoundHeader). Some (record { form = f.form; params = f.params })) m.2;
       len = e;
       gate = g ∙ ap (λ (l : List ℕ). get_or l 17 0) h ∙ get_or-take 18 image 17 0 (omega arith);
     }) l h

@@ -15,6 +15,7 @@ use Rattle.dg_index.specs.declared.entry.Entry.{Entry}
 use Rattle.dg_index.specs.declared.entry.BatchEntry.{BatchEntry}
 use Rattle.dg_index.specs.declared.entry.Row.{Row}
 use Rattle.dg_index.specs.IndexKeys.{Fresh, keys_among}
+use Rattle.dg_history.specs.declared.form.Form.{Form}
 use Rattle.dg_history.specs.History.{are_parameters}
 use Rattle.dg_index.proofs.EverAddedBounds.{kept_laid}
 use Rattle.dg_index.proofs.IndexKeyUniqueness.{fresh_next}
@@ -116,6 +117,28 @@ noted_sound o events names from last span b rows offset used s suits follows may
       bytes = omega (arith, s.bytes, behind, is, bytes_with o b rows offset used suits);
       within = within;
     }
+
+-- the form and the bytes in use are all that an upgrade changes
+pub marked_sound : (o : Opening) (events names from : ℕ) (last : Option ℕ) (span : Option Ends) (f : Form) (used : ℕ) → IndexIsSound o events names from last span → o.used ≤ used → used ≤ FILE_BYTES_MAX
+    → IndexIsSound (record { params = o.params; form = f; batches = o.batches; records = o.records; used = used }) events names from last span
+marked_sound o events names from last span f used s behind within = record {
+  parameters = s.parameters;
+  turns = s.turns;
+  count = s.count;
+  few = s.few;
+  number = s.number;
+  named = s.named;
+  few_names = s.few_names;
+  earliest = s.earliest;
+  in_time = s.in_time;
+  listed = s.listed;
+  late = s.late;
+  rise = s.rise;
+  span_is = s.span_is;
+  kept = s.kept;
+  bytes = omega (arith, s.bytes, behind);
+  within = within;
+}
 
 pub room_for : (o : Opening) (events names from : ℕ) (last : Option ℕ) (span : Option Ends) (c : Holdings) (b : BatchEntry) (keys : List Key) (rows : List Row) (offset used : ℕ) → IndexIsSound o events names from last span → c.entries ≡ o.records
     → length keys ≤ c.spare → keys ≡ keys_next o b.events → Suits keys rows → o.used ≤ offset → offset + bytes_of_rows rows + 1 ≡ used → used ≤ FILE_BYTES_MAX → IsRoomFor c offset keys rows

@@ -11,6 +11,7 @@ pub mod IndexBytes
 pub mod OpenedBytes
 pub mod ImageColumns
 pub mod ImageSegments
+pub mod ImageUpgrades
 pub mod GrowthCreations
 pub mod GrowthCrashes
 pub mod OpenedIndexLists

@@ -5,14 +5,13 @@ use Rattle.std.proofs.lemmas.Bool.{eq-eqb, eqb-true, and_parts}
 use Rattle.std.proofs.lemmas.List.Sums.{sum_by-cons, sum_by-append}
 use Rattle.dg_disk.specs.Counts.{raised_by}
 use Rattle.dg_history.specs.declared.node.Key.{Key}
-use Rattle.dg_history.specs.declared.params.Params.{Params}
 use Rattle.dg_index.specs.declared.entry.Entry.{Entry}
 use Rattle.dg_index.specs.declared.entry.Row.{Row}
 use Rattle.dg_index.specs.ImageOfHistory.{is_blank}
-use Rattle.dg_index.specs.ImageText.{eight_at, is_within, params_in}
+use Rattle.dg_index.specs.ImageText.{Header, eight_at, header_in, is_within}
 use Rattle.dg_index.specs.IndexGrowth.{columns_in}
-use Rattle.dg_index.specs.OpenedIndex.{No_index, Not_ours, Directory, Opened, Opening, directory_next, bare, go_on_with, if_it_may, keys_next, laid, may_stand, opened_by, opened_or, opening, read_on, rows_in, total}
-use Rattle.dg_index.proofs.OpenedSoFar.{one_more, some_turn}
+use Rattle.dg_index.specs.OpenedIndex.{No_index, Not_ours, Directory, Opened, Opening, directory_next, bare, go_on_with, if_it_may, keys_next, laid, may_stand, opened_by, opened_or, opening, read_on, rows_in, total, is_marked, with_marker}
+use Rattle.dg_index.proofs.OpenedSoFar.{one_more, some_turn, marked_parts}
 use Rattle.dg_catalogue.specs.Additions.{bytes_of_rows}
 use Rattle.dg_file.specs.declared.lengths.Lengths.{Lengths}
 use Rattle.dg_file.specs.Directories.{segment_lengths_at}
@@ -74,16 +73,24 @@ next_on : (image : List ℕ) (x : Opened) (d : Directory) → HasColumns x → d
 next_on image x d sound next =
     goes_on image x d sound (stands (is_within image x.index.used) _ x (eight_at image (x.index.used + 8)) d next)
 
+marked_on : (image : List ℕ) (x : Opened) → HasColumns x → is_marked x image ≡ true → GoesOn image x (with_marker x)
+marked_on image x sound marked =
+    let m = marked_parts x image marked in
+    record { sound = omega (arith, sound); more = omega (arith, sound, m.2) }
+
 -- ---- all segments from here on
 
 abbrev ReadsMore : ℕ → List ℕ → Opened → Type 0
 ReadsMore k image y = (x : Opened) → HasColumns x → read_on k image x ≡ Ok y → opening_bytes x.index ≤ opening_bytes y.index
 
 -- behind an open gate
-one_segment : (k : ℕ) (image : List ℕ) (x y : Opened) → HasColumns x → ReadsMore k image y → (o : Option Directory) → directory_next x image ≡ o → go_on_with image x (read_on k image) o ≡ Ok y
-    → opening_bytes x.index + segment_reads image x ≤ opening_bytes y.index
-one_segment k image x y sound more None is e = absurd cc
-one_segment k image x y sound more (Some d) is e =
+one_segment : (k : ℕ) (image : List ℕ) (x y : Opened) → HasColumns x → ReadsMore k image y → (m : Bool) → is_marked x image ≡ m → (o : Option Directory) → directory_next x image ≡ o
+    → cond m (read_on k image (with_marker x)) (go_on_with image x (read_on k image) o) ≡ Ok y → opening_bytes x.index + segment_reads image x ≤ opening_bytes y.index
+one_segment k image x y sound more true marked o is e =
+    let on : GoesOn image x (with_marker x) = marked_on image x sound marked in
+    omega (arith, on.more, more (with_marker x) on.sound e)
+one_segment k image x y sound more false marked None is e = absurd cc
+one_segment k image x y sound more false marked (Some d) is e =
     let on : GoesOn image x (one_more image x d) = next_on image x d sound is in
     omega (arith, on.more, more (one_more image x d) on.sound e)
 
@@ -91,9 +98,9 @@ reads_more : (k : ℕ) (image : List ℕ) (y : Opened) → ReadsMore k image y
 reads_more zero image y x sound e = (let same : x ≡ y = cc in omega (arith, ap (λ (z : Opened). opening_bytes z.index) same))
 reads_more (suc k) image y x sound e = by (slice_index image (x.index.used - 1) == 1) (reads_more k image y) e
   where
-    by : (b : Bool) → ReadsMore k image y → cond (not b) (Ok x) (go_on_with image x (read_on k image) (directory_next x image)) ≡ Ok y → opening_bytes x.index ≤ opening_bytes y.index
+    by : (b : Bool) → ReadsMore k image y → cond (not b) (Ok x) (cond (is_marked x image) (read_on k image (with_marker x)) (go_on_with image x (read_on k image) (directory_next x image))) ≡ Ok y → opening_bytes x.index ≤ opening_bytes y.index
     by false more h = (let same : x ≡ y = cc in omega (arith, ap (λ (z : Opened). opening_bytes z.index) same))
-    by true more h = omega (arith, one_segment k image x y sound more (directory_next x image) refl h)
+    by true more h = omega (arith, one_segment k image x y sound more (is_marked x image) refl (directory_next x image) refl h)
 
 was_ok : (r : Result Opened ℕ) (y : Opened) → opened_or r ≡ Ok y → r ≡ Ok y
 was_ok (Ok x) y e = cc
@@ -106,8 +113,8 @@ opened_more image o names y sound far e =
     let x : Opened = record { index = o; names = names } in
     let k = some_turn far.opens.turns (omega (arith, far.opens.enough, far.within)) in
     let read : read_on (suc k.0) image x ≡ Ok y = ap (λ n. read_on n image x) (sym k.1) ∙ was_ok (read_on far.opens.turns image x) y (sym far.opens.is ∙ e) in
-    one_segment k.0 image x y sound (reads_more k.0 image y) (directory_next x image) refl
-    (sym (ap (λ b. cond (not b) (Ok x) (go_on_with image x (read_on k.0 image) (directory_next x image))) (eq-eqb (slice_index image (o.used - 1)) 1 far.byte)) ∙ read)
+    one_segment k.0 image x y sound (reads_more k.0 image y) (is_marked x image) refl (directory_next x image) refl
+    (sym (ap (λ b. cond (not b) (Ok x) (cond (is_marked x image) (read_on k.0 image (with_marker x)) (go_on_with image x (read_on k.0 image) (directory_next x image)))) (eq-eqb (slice_index image (o.used - 1)) 1 far.byte)) ∙ read)
 
 -- ---- what a failure has read
 
@@ -141,17 +148,17 @@ no_index_with : (r : Result Opened ℕ) → opened_or r ≡ Err No_index → ⊥
 no_index_with (Ok x) h = cc
 no_index_with (Err offset) h = cc
 
-no_index : (image : List ℕ) (params : Option Params) → opened_by image params ≡ Err No_index → ⊥
+no_index : (image : List ℕ) (header : Option Header) → opened_by image header ≡ Err No_index → ⊥
 no_index image None h = cc
-no_index image (Some params) h = no_index_with (read_on (length image) image (bare params)) h
+no_index image (Some header) h = no_index_with (read_on (length image) image (bare header.form header.params)) h
 
 -- only a blank image has no index
 pub blank_is : (image : List ℕ) → opening image ≡ Err No_index → is_blank image ≡ true
 blank_is image h = by_test (is_blank image) refl h
   where
-    by_test : (b : Bool) → is_blank image ≡ b → (if b then Err No_index else opened_by image (params_in image)) ≡ Err No_index → is_blank image ≡ true
+    by_test : (b : Bool) → is_blank image ≡ b → (if b then Err No_index else opened_by image (header_in image)) ≡ Err No_index → is_blank image ≡ true
     by_test true is h = is
-    by_test false is h = absurd (no_index image (params_in image) h)
+    by_test false is h = absurd (no_index image (header_in image) h)
 
 pub foreign_reads : (told : Option (List ℕ)) (before after : ℕ) → IfSome told (λ image. opening image ≡ Err Not_ours) → IfSome told (λ image. TakesUpToOpening image before after)
 foreign_reads None before after foreign = tt

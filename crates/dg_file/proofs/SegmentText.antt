@@ -1,5 +1,5 @@
 -- A segment as its bytes, by the parts that are written.
-use Rattle.std.proofs.Common.{◌≡◌, ℕ, List, [], ◌∷◌, ◌++◌, length, map, refl, sym, ap, ◌∙◌, append_assoc, append-nil}
+use Rattle.std.proofs.Common.{◌≡◌, ℕ, Bool, List, [], ◌∷◌, ◌++◌, length, map, refl, sym, ap, ◌∙◌, append_assoc, append-nil}
 use Rattle.std.specs.List.{flat_map}
 use Rattle.std.proofs.lemmas.List.Concat.{flat_map-append}
 use Rattle.dg_graph.specs.Columns.{eight}
@@ -16,8 +16,8 @@ columns_are s =
     ∙ sym (flat_map-append bytes_of (map (λ (x : StoredList). x.columns) s.lists) (s.deltas ++ s.piece ∷ []))
 
 -- the columns stand behind the head
-pub text_is : (s : Segment) → head_of s ++ blobs s ≡ segment_bytes s
-text_is s =
-    let d : List ℕ = eight (length (directory s)) in
+pub text_is : (wide : Bool) (s : Segment) → head_of wide s ++ blobs s ≡ segment_bytes wide s
+text_is wide s =
+    let d : List ℕ = eight (length (directory wide s)) in
     let c : List ℕ = eight (length (blobs s)) in
-    append_assoc d (c ++ directory s) (blobs s) ∙ ap (λ (l : List ℕ). d ++ l) (append_assoc c (directory s) (blobs s))
+    append_assoc d (c ++ directory wide s) (blobs s) ∙ ap (λ (l : List ℕ). d ++ l) (append_assoc c (directory wide s) (blobs s))

@@ -1,5 +1,5 @@
 -- The two lengths in front of a directory, and what the bytes of a directory say behind an index.
-use Rattle.std.specs.Prelude.{◌≡◌, ℕ, ◌+◌, ◌≤◌, Bool, true, ◌&&◌, not, List, [], ◌∷◌, ◌++◌, Option, Some, is_some, nat_le, length, take, drop, IfSome, option_and_then}
+use Rattle.std.specs.Prelude.{◌≡◌, ℕ, ◌+◌, ◌≤◌, Bool, true, ◌&&◌, not, List, [], ◌∷◌, ◌++◌, Option, Some, is_some, nat_le, length, take, drop, IfSome, option_and_then, ◌==◌}
 use Rattle.dg_text.specs.declared.limits.TheConstants.{NAMES_MAX}
 use Rattle.dg_text.specs.Names.{number_of, is_name, are_new}
 use Rattle.dg_history.specs.declared.limits.TheConstants.{FILE_BYTES_MAX}
@@ -21,6 +21,10 @@ gate_after at l = at + 16 + l.directory + l.columns
 abbrev pub fit_in : ℕ → ℕ → Lengths → Bool
 fit_in at len l =
     nat_le (at + 16) len && (nat_le (gate_after at l + 1) len && nat_le (gate_after at l + 1) FILE_BYTES_MAX)
+
+-- the lengths of a marker
+abbrev pub are_marking : Lengths → Bool
+are_marking l = l.directory == 8 && l.columns == 0
 
 -- the text may be a name, and is not in the list
 abbrev pub is_fresh : List (List ℕ) → List ℕ → Bool

@@ -1,8 +1,10 @@
 -- What the calls of an index say of the disk's image before and after them.
 use Rattle.std.specs.Prelude.{◌≡◌, ◌⊎◌, ℕ, true, List, ◌++◌, Option, Result, Ok, Err, IfSome, length, drop, if◌then◌else◌, ◌==◌}
 use Rattle.dg_disk.specs.Counts.{raised_by}
+use Rattle.dg_history.specs.declared.form.Form.{Form}
+use Rattle.dg_history.specs.declared.form.Form.TheVariants as form
 use Rattle.dg_history.specs.declared.params.Params.{Params}
-use Rattle.dg_history.specs.History.{History, Batch, empty_history, events_of, with_batch}
+use Rattle.dg_history.specs.History.{History, Batch, empty_history, events_of, with_batch, with_upgrade}
 use Rattle.dg_history.specs.LegalHistory.{IsLegal}
 use Rattle.dg_index.specs.ImageOfHistory.{is_blank, IsImageOf}
 use Rattle.dg_index.specs.OpenedIndex.{Unopened, No_index, Not_ours, Damaged_at, may_be_named, Opening, Opened, opening}
@@ -16,9 +18,9 @@ BothTold old new P = IfSome old (λ before. IfSome new (λ after. P before after
 
 -- What a failure may leave of a blank image in which an index was to be made: no index, the new index,
 -- or an image of 18 bytes of which at most the first has changed.
-abbrev pub IsMadeInPart : Params → List ℕ → List ℕ → Type 0
-IsMadeInPart params old new =
-    (is_blank new ≡ true) ⊎ IsImageOf (empty_history params) new
+abbrev pub IsMadeInPart : Form → Params → List ℕ → List ℕ → Type 0
+IsMadeInPart form params old new =
+    (is_blank new ≡ true) ⊎ IsImageOf (empty_history form params) new
     ⊎ ((length old ≡ 18) × (length new ≡ 18) × (drop 1 new ≡ drop 1 old))
 
 -- the fault says why the image is not opened; of a failure and of want of memory nothing is said
@@ -54,6 +56,18 @@ GainsBatch s before after =
 abbrev pub GainsBatchOrNot : Segment → List ℕ → List ℕ → Type 0
 GainsBatchOrNot s before after =
     (z : History) (b : Batch) → IsImageOf z before → IsLegal (with_batch z b) → s ≡ segment_of z.params (events_of z) b → IsImageOf z after ⊎ IsImageOf (with_batch z b) after
+
+-- Where an image was opened as the old index with some names, it is opened as the upgraded one, with those names.
+abbrev pub GainsMarker : Opening → Opening → List ℕ → List ℕ → Type 0
+GainsMarker old new before after =
+    (names : List (List ℕ)) → opening before ≡ Ok (record { index = old; names = names }) → opening after ≡ Ok (record { index = new; names = names })
+
+-- of each history of the first form: its image becomes one of it upgraded, or stays one of it
+abbrev pub GainsUpgrade : List ℕ → List ℕ → Type 0
+GainsUpgrade before after = (z : History) → IsImageOf z before → z.form ≡ form.One → IsImageOf (with_upgrade z) after
+
+abbrev pub GainsUpgradeOrNot : List ℕ → List ℕ → Type 0
+GainsUpgradeOrNot before after = (z : History) → IsImageOf z before → z.form ≡ form.One → IsImageOf z after ⊎ IsImageOf (with_upgrade z) after
 
 -- The count of bytes read, after a read of n more. Where n is 0 nothing is read.
 abbrev pub taken_after : ℕ → ℕ → ℕ

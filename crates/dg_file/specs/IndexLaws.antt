@@ -1,10 +1,17 @@
--- The law of the bytes that a batch needs, as it is proved.
-use Rattle.std.specs.Prelude.{◌≡◌}
-use Rattle.dg_history.specs.History.{History, Batch, events_of, with_batch}
+-- The laws of the bytes that a batch needs, and an upgrade, as they are proved.
+use Rattle.std.specs.Prelude.{◌≡◌, true, length}
+use Rattle.dg_history.specs.declared.form.Form.TheVariants as form
+use Rattle.dg_history.specs.History.{History, Batch, events_of, is_form, with_batch, with_upgrade}
 use Rattle.dg_index.specs.FileOfHistory.{segment_of, size}
-use Rattle.dg_index.specs.IndexGrowth.{needed_for}
+use Rattle.dg_index.specs.IndexGrowth.{needed_for, needed_for_marker}
 use Rattle.dg_index.specs.OpenedIndex.{opened_of}
 
 -- the bytes that a batch needs are those of the file that has it
 abbrev pub BatchesAreMeasured : Type 0
-BatchesAreMeasured = (z : History) (b : Batch) → needed_for (opened_of z).index (segment_of z.params (events_of z) b) ≡ size (with_batch z b)
+BatchesAreMeasured =
+    (z : History) (b : Batch) → is_form z.form z.params.function (length z.batches) ≡ true
+    → needed_for (opened_of z).index (segment_of z.params (events_of z) b) ≡ size (with_batch z b)
+
+-- the bytes that an upgrade needs are those of the upgraded file
+abbrev pub UpgradesAreMeasured : Type 0
+UpgradesAreMeasured = (z : History) → z.form ≡ form.One → needed_for_marker (opened_of z).index ≡ size (with_upgrade z)

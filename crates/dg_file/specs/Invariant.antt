@@ -61,6 +61,7 @@ pub record IndexIsSound (o : Opening) (events names from : ℕ) (last : Option �
 abbrev pub with_rows : Opening → BatchEntry → List Row → ℕ → ℕ → Opening
 with_rows o b rows offset used = record {
   params = o.params;
+  form = o.form;
   batches = o.batches ++ b ∷ [];
   records = o.records ++ laid offset (keys_next o b.events) rows;
   used = used;

@@ -4,7 +4,7 @@ ghost use Rattle.std.specs.Prelude.{◌≡◌, ◌≤◌, ◌<◌, ◌+◌, ◌-
 ghost use Rattle.dg_disk.specs.Calls.{FailsToWrite, IsOnDevice, LeftByCrash, WritesDisk};
 ghost use Rattle.dg_disk.specs.Crash.{LeavesOnly, TornBehind};
 ghost use Rattle.dg_disk.specs.Image.{HasOffset};
-ghost use Rattle.dg_index.specs.FileOfHistory.{blobs, head_of, segment_bytes};
+ghost use Rattle.dg_index.specs.FileOfHistory.{blobs, marker};
 ghost use Rattle.dg_file.specs.Growth.{Moved, KeepsFront, Grown, Gated, GatedOrNot};
 
 use crate::disk_calls::put_down;
@@ -51,17 +51,17 @@ fn put_columns<D: Disk>(disk: &mut D, offset: u64, segment: &Segment) -> Result<
     put(disk, piece_offset, segment.piece_columns())
 }
 
-// Writes the segment from the offset on, and a closed gate behind it, and brings them to the device.
+// Writes the head and the columns of the segment from the offset on, and a closed gate behind them, and brings
+// them to the device.
 fn write_segment<D: Disk>(
     disk: &mut D,
     offset: u64,
     head: &[u8],
     segment: &Segment,
 ) -> Result<(), Failed>
-    requires head { head.now ≡ head_of segment.now }
     requires offset { HasOffset (D.image disk.old) offset }
-    requires fits { offset + length (segment_bytes segment.now) + 1 < 2 ^ 64 }
-    ensures written { OnOk result (Moved (D.image disk.old) (D.image disk.new) (Grown offset (segment_bytes segment.now ++ 0 ∷ []))) }
+    requires fits { offset + length head.now + length (blobs segment.now) + 1 < 2 ^ 64 }
+    ensures written { OnOk result (Moved (D.image disk.old) (D.image disk.new) (Grown offset (head.now ++ blobs segment.now ++ 0 ∷ []))) }
     ensures part { Moved (D.image disk.old) (D.image disk.new) (KeepsFront offset) }
     ensures cause { OnErr result (FailsToWrite D.Disk disk.old disk.new) }
     ensures frame { WritesDisk D.Disk disk.old disk.new }
@@ -85,19 +85,42 @@ pub(crate) fn append<D: Disk>(
     head: &[u8],
     segment: &Segment,
 ) -> Result<(), Failed>
-    requires head { head.now ≡ head_of segment.now }
     requires offset { HasOffset (D.image disk.old) used }
     requires some { 1 ≤ used }
-    requires fits { used + length (segment_bytes segment.now) + 1 < 2 ^ 64 }
-    ensures written { OnOk result (Moved (D.image disk.old) (D.image disk.new) (Gated (used - 1) 1 (segment_bytes segment.now))) }
-    ensures part { OnErr result (Moved (D.image disk.old) (D.image disk.new) (GatedOrNot used (segment_bytes segment.now))) }
+    requires fits { used + length head.now + length (blobs segment.now) + 1 < 2 ^ 64 }
+    ensures written { OnOk result (Moved (D.image disk.old) (D.image disk.new) (Gated (used - 1) 1 (head.now ++ blobs segment.now))) }
+    ensures part { OnErr result (Moved (D.image disk.old) (D.image disk.new) (GatedOrNot used (head.now ++ blobs segment.now))) }
     ensures cause { OnErr result (FailsToWrite D.Disk disk.old disk.new) }
     ensures frame { WritesDisk D.Disk disk.old disk.new }
 
     // crashes
     ensures settled { OnOk result (IsOnDevice D.Disk disk.new) }
-    ensures crash { LeftByCrash D.Disk disk.old disk.new (GatedOrNot used (segment_bytes segment.now)) }
+    ensures crash { LeftByCrash D.Disk disk.old disk.new (GatedOrNot used (head.now ++ blobs segment.now)) }
 {
     write_segment(disk, used, head, segment)?;
+    put_down(disk, used - 1, &[OPEN])
+}
+
+// The segment behind which a file goes on in the second form, and a closed gate behind it.
+const MARKER: [u8; 25] = [
+    0, 0, 0, 0, 0, 0, 0, 8, 0, 0, 0, 0, 0, 0, 0, 0, 0, 0, 0, 0, 0, 0, 0, 0, CLOSED,
+];
+
+/// Writes the marker behind which the file goes on in the second form, and a closed gate, behind the first `used`
+/// bytes, the last of which is a closed gate, and opens that gate once they are on the device. `Failed` where the
+/// disk failed.
+pub(crate) fn append_marker<D: Disk>(disk: &mut D, used: u64) -> Result<(), Failed>
+    requires offset { HasOffset (D.image disk.old) used }
+    requires some { 1 ≤ used }
+    ensures written { OnOk result (Moved (D.image disk.old) (D.image disk.new) (Gated (used - 1) 1 marker)) }
+    ensures part { OnErr result (Moved (D.image disk.old) (D.image disk.new) (GatedOrNot used marker)) }
+    ensures cause { OnErr result (FailsToWrite D.Disk disk.old disk.new) }
+    ensures frame { WritesDisk D.Disk disk.old disk.new }
+
+    // crashes
+    ensures settled { OnOk result (IsOnDevice D.Disk disk.new) }
+    ensures crash { LeftByCrash D.Disk disk.old disk.new (GatedOrNot used marker) }
+{
+    put_down(disk, used, &MARKER)?;
     put_down(disk, used - 1, &[OPEN])
 }

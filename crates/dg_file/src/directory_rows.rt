@@ -1,36 +1,48 @@
 //! The rows of a directory: one for each list, for each delta and for the piece.
 
-ghost use Rattle.std.specs.Prelude.{◌≡◌, ◌≤◌, ◌+◌, ◌*◌, ◌++◌, ◌∷◌, [], ◌==◌, ◌&&◌, length, nat_le, IfOk, OnOk};
+ghost use Rattle.std.specs.Prelude.{◌≡◌, ◌≤◌, ◌+◌, ◌*◌, ◌++◌, ◌∷◌, [], ◌==◌, ◌&&◌, drop, length, nat_le, take, IfOk, OnOk};
 ghost use Rattle.dg_index.specs.ImageText.{four_at};
-ghost use Rattle.dg_index.specs.OpenedIndex.{lengths_at, list_at, list_bytes_max, record_at, rows_at, may_be_listed, total};
+ghost use Rattle.dg_index.specs.OpenedIndex.{lengths_at, list_at, list_bytes_max, record_at, rows_at, may_be_listed, total, are_unheard, lengths_size, list_size};
 ghost use Rattle.dg_catalogue.specs.Additions.{bytes_of_rows};
 
 use dg_index::{Ends, Row};
 use dg_numbers::{u32_at, u64_at};
 use std::alloc::{AllocError, Global};
 
-/// The bytes of the row of a list.
-const LIST_BYTES: usize = 40;
-
-/// The bytes of the row of a delta or of a piece.
-const RECORD_BYTES: usize = 24;
-
-// The lengths of three columns.
-fn lengths_at(bytes: &[u8], at: usize) -> [u64; 3]
-    requires { at + 24 ≤ length bytes.now }
-    ensures { result ≡ lengths_at bytes.now at }
+// The bytes of the row of a delta or of a piece.
+fn lengths_size(wide: bool) -> usize
+    ensures size { result ≡ lengths_size wide }
+    ensures small { result ≤ 32 }
 {
+    if wide { 32 } else { 24 }
+}
+
+// The bytes of the row of a list.
+fn list_size(wide: bool) -> usize
+    ensures size { result ≡ list_size wide }
+    ensures small { result ≤ 48 }
+{
+    if wide { 48 } else { 40 }
+}
+
+// The lengths of the columns; in the first form there are no messages.
+fn lengths_at(bytes: &[u8], wide: bool, at: usize) -> [u64; 4]
+    requires { at + lengths_size wide ≤ length bytes.now }
+    ensures { result ≡ lengths_at wide bytes.now at }
+{
+    let transient = if wide { u64_at(bytes, at + 24) } else { 0 };
     [
         u64_at(bytes, at),
         u64_at(bytes, at + 8),
         u64_at(bytes, at + 16),
+        transient,
     ]
 }
 
 // The row of a list.
-fn list_at(bytes: &[u8], at: usize) -> Row
-    requires { at + 40 ≤ length bytes.now }
-    ensures { result ≡ list_at bytes.now at }
+fn list_at(bytes: &[u8], wide: bool, at: usize) -> Row
+    requires { at + list_size wide ≤ length bytes.now }
+    ensures { result ≡ list_at wide bytes.now at }
 {
     let ends = Ends {
         first: u64_at(bytes, at),
@@ -38,43 +50,55 @@ fn list_at(bytes: &[u8], at: usize) -> Row
     };
     Row {
         ends: Some(ends),
-        lengths: lengths_at(bytes, at + 16),
+        lengths: lengths_at(bytes, wide, at + 16),
     }
 }
 
 // The row of a delta or of a piece.
-fn record_at(bytes: &[u8], at: usize) -> Row
-    requires { at + 24 ≤ length bytes.now }
-    ensures { result ≡ record_at bytes.now at }
+fn record_at(bytes: &[u8], wide: bool, at: usize) -> Row
+    requires { at + lengths_size wide ≤ length bytes.now }
+    ensures { result ≡ record_at wide bytes.now at }
 {
     Row {
         ends: None,
-        lengths: lengths_at(bytes, at),
+        lengths: lengths_at(bytes, wide, at),
     }
 }
 
 // Adds the rows of so many lists, which stand one behind another from the offset on.
-fn add_lists(bytes: &[u8], at: usize, count: u32, out: &mut Vec<Row>) -> Result<(), AllocError>
-    requires { at + 40 * count ≤ length bytes.now }
-    ensures { OnOk result (out.new.items ≡ out.old.items ++ rows_at list_at 40 count bytes.now at) }
+fn add_lists(
+    bytes: &[u8],
+    wide: bool,
+    at: usize,
+    count: u32,
+    out: &mut Vec<Row>,
+) -> Result<(), AllocError>
+    requires { at + list_size wide * count ≤ length bytes.now }
+    ensures { OnOk result (out.new.items ≡ out.old.items ++ rows_at (list_at wide) (list_size wide) count bytes.now at) }
 {
     let mut offset = at;
     for _ in 0..count {
-        out.push(list_at(bytes, offset))?;
-        offset += LIST_BYTES;
+        out.push(list_at(bytes, wide, offset))?;
+        offset += list_size(wide);
     }
     Ok(())
 }
 
 // Adds the rows of so many deltas, which stand one behind another from the offset on.
-fn add_deltas(bytes: &[u8], at: usize, count: u32, out: &mut Vec<Row>) -> Result<(), AllocError>
-    requires { at + 24 * count ≤ length bytes.now }
-    ensures { OnOk result (out.new.items ≡ out.old.items ++ rows_at record_at 24 count bytes.now at) }
+fn add_deltas(
+    bytes: &[u8],
+    wide: bool,
+    at: usize,
+    count: u32,
+    out: &mut Vec<Row>,
+) -> Result<(), AllocError>
+    requires { at + lengths_size wide * count ≤ length bytes.now }
+    ensures { OnOk result (out.new.items ≡ out.old.items ++ rows_at (record_at wide) (lengths_size wide) count bytes.now at) }
 {
     let mut offset = at;
     for _ in 0..count {
-        out.push(record_at(bytes, offset))?;
-        offset += RECORD_BYTES;
+        out.push(record_at(bytes, wide, offset))?;
+        offset += lengths_size(wide);
     }
     Ok(())
 }
@@ -84,30 +108,32 @@ fn add_deltas(bytes: &[u8], at: usize, count: u32, out: &mut Vec<Row>) -> Result
 pub(crate) fn rows_in(
     alloc: Global,
     bytes: &[u8],
+    wide: bool,
     end: usize,
     lists: u32,
     deltas: u32,
 ) -> Result<Vec<Row>, AllocError>
-    requires { length bytes.now ≡ end + 32 + 40 * lists + 24 * deltas }
-    ensures { IfOk result (λ rows. rows.items ≡ rows_at list_at 40 lists bytes.now (end + 4) ++ (rows_at record_at 24 deltas bytes.now (end + 8 + 40 * lists) ++ record_at bytes.now (end + 8 + 40 * lists + 24 * deltas) ∷ [])) }
+    requires { length bytes.now ≡ end + 8 + list_size wide * lists + lengths_size wide * deltas + lengths_size wide }
+    ensures { IfOk result (λ rows. rows.items ≡ rows_at (list_at wide) (list_size wide) lists bytes.now (end + 4) ++ (rows_at (record_at wide) (lengths_size wide) deltas bytes.now (end + 8 + list_size wide * lists) ++ record_at wide bytes.now (end + 8 + list_size wide * lists + lengths_size wide * deltas) ∷ [])) }
 {
-    let deltas_offset = end + 8 + LIST_BYTES * lists as usize;
+    let deltas_offset = end + 8 + list_size(wide) * lists as usize;
     let mut rows = Vec::new(alloc);
-    add_lists(bytes, end + 4, lists, &mut rows)?;
-    add_deltas(bytes, deltas_offset, deltas, &mut rows)?;
-    rows.push(record_at(bytes, deltas_offset + RECORD_BYTES * deltas as usize))?;
+    add_lists(bytes, wide, end + 4, lists, &mut rows)?;
+    add_deltas(bytes, wide, deltas_offset, deltas, &mut rows)?;
+    let piece_offset = deltas_offset + lengths_size(wide) * deltas as usize;
+    rows.push(record_at(bytes, wide, piece_offset))?;
     Ok(rows)
 }
 
 /// Whether behind the names, which end at the offset, stand so many lists and deltas, the row of a piece,
 /// and no more.
-pub(crate) fn has_rows(bytes: &[u8], end: usize, lists: u32, deltas: u32) -> bool
+pub(crate) fn has_rows(bytes: &[u8], wide: bool, end: usize, lists: u32, deltas: u32) -> bool
     requires { end ≤ length bytes.now }
-    ensures { result ≡ (length bytes.now == end + 32 + 40 * lists + 24 * deltas && (four_at bytes.now end == lists && four_at bytes.now (end + 4 + 40 * lists) == deltas)) }
+    ensures { result ≡ (length bytes.now == end + 8 + list_size wide * lists + lengths_size wide * deltas + lengths_size wide && (four_at bytes.now end == lists && four_at bytes.now (end + 4 + list_size wide * lists) == deltas)) }
 {
-    let lists_bytes = LIST_BYTES * lists as usize;
-    let deltas_bytes = RECORD_BYTES * deltas as usize;
-    bytes.len() - end == 32 + lists_bytes + deltas_bytes
+    let lists_bytes = list_size(wide) * lists as usize;
+    let deltas_bytes = lengths_size(wide) * deltas as usize;
+    bytes.len() - end == 8 + lists_bytes + deltas_bytes + lengths_size(wide)
         && u32_at(bytes, end) == lists
         && u32_at(bytes, end + 4 + lists_bytes) == deltas
 }
@@ -118,7 +144,7 @@ pub(crate) fn is_measured(rows: &[Row], columns: u64) -> bool
 {
     let mut left = columns;
     for row in rows {
-        let [structure, node_attrs, edge_attrs] = row.lengths;
+        let [structure, node_attrs, edge_attrs, transient] = row.lengths;
         if left < structure {
             return false;
         }
@@ -128,7 +154,10 @@ pub(crate) fn is_measured(rows: &[Row], columns: u64) -> bool
         if left - structure - node_attrs < edge_attrs {
             return false;
         }
-        left -= structure + node_attrs + edge_attrs;
+        if left - structure - node_attrs - edge_attrs < transient {
+            return false;
+        }
+        left -= structure + node_attrs + edge_attrs + transient;
     }
     left == 0
 }
@@ -140,14 +169,24 @@ pub(crate) fn list_bytes_max(events: u32) -> u64
     12 + 36 * events as u64
 }
 
-// Whether the three lengths come to at most so many bytes.
-fn is_at_most(lengths: [u64; 3], most: u64) -> bool
+// Whether the four lengths come to at most so many bytes.
+fn is_at_most(lengths: [u64; 4], most: u64) -> bool
     ensures { result ≡ nat_le (total lengths) most }
 {
-    let [structure, node_attrs, edge_attrs] = lengths;
+    let [structure, node_attrs, edge_attrs, transient] = lengths;
     structure <= most
         && node_attrs <= most - structure
         && edge_attrs <= most - structure - node_attrs
+        && transient <= most - structure - node_attrs - edge_attrs
+}
+
+/// Whether none of so many deltas behind the lists has messages.
+pub(crate) fn are_unheard(rows: &[Row], lists: usize, deltas: usize) -> bool
+    requires { lists + deltas ≤ length rows.now }
+    ensures { result ≡ are_unheard (take deltas (drop lists rows.now)) }
+{
+    let deltas_rows = &rows[lists..lists + deltas];
+    deltas_rows.iter().all(|row| row.lengths[3] == 0)
 }
 
 /// Whether the lists begin at the first time or later and end at the last or earlier, each not before the

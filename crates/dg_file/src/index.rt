@@ -1,52 +1,58 @@
 //! An index over a disk: it is made, reopened, read, and given a batch.
 
-ghost use Rattle.std.specs.Prelude.{◌≡◌, ◌≤◌, ◌<◌, ◌+◌, ◌-◌, ℕ, [], true, drop, length, take, Some, None, Ok, Err, is_some, slice_get, IfSome, IfOk, IfErr, OnOk, OnErr, IsErrOf};
+ghost use Rattle.std.specs.Prelude.{◌≡◌, ◌≢◌, ◌≤◌, ◌<◌, ◌+◌, ◌-◌, ℕ, [], ◌&&◌, not, true, false, drop, length, take, Some, None, Ok, Err, is_some, slice_get, slice_index, IfSome, IfOk, IfErr, OnOk, OnErr, IsErrOf};
 ghost use Rattle.std.specs.Map.{lookup};
 ghost use Rattle.dg_disk.specs.Calls.{Fails, FailsToWrite, IsOnDevice, LeftByCrash, ReadsDisk, SyncsDisk, WritesDisk};
 ghost use Rattle.dg_disk.specs.Counts.{raised_by};
 ghost use Rattle.dg_history.specs.declared.limits.TheConstants.{EVENTS_MAX, FILE_BYTES_MAX};
 ghost use Rattle.dg_graph.specs.declared.limits.TheConstants.{TIME_MAX};
 ghost use Rattle.dg_text.specs.declared.limits.TheConstants.{NAMES_MAX};
-ghost use Rattle.dg_history.specs.History.{are_parameters, empty_history};
+ghost use Rattle.dg_history.specs.History.{are_parameters, empty_history, is_form, is_function, is_wide};
 ghost use Rattle.dg_history.specs.Keys.{same_key};
 ghost use Rattle.dg_index.specs.FileOfHistory.{head_of};
+ghost use Rattle.dg_index.specs.ImageText.{eight_at};
 ghost use Rattle.dg_index.specs.ImageOfHistory.{is_blank, IsImageOf};
-ghost use Rattle.dg_index.specs.IndexGrowth.{AreInTurn, IsDue, columns_in, last_time_in, name_total};
+ghost use Rattle.dg_index.specs.IndexGrowth.{AreInTurn, IsDue, columns_in, last_time_in, name_total, index_upgraded};
 ghost use Rattle.dg_index.specs.IndexKeys.{AreKept};
 ghost use Rattle.dg_index.specs.OpenedIndex.{column_at, bare, directory_of, earliest_in, event_total, first_in, keys_next, last_list, list_count, list_bytes_max, may_be_listed, may_follow, opened_of, opening, rows_in, span_in};
 ghost use Rattle.dg_disk.specs.Image.{HasRange, IsLengthOf};
 ghost use Rattle.dg_catalogue.specs.Additions.{bytes_of_rows, Suits};
 ghost use Rattle.dg_catalogue.specs.Points.{ListsRise};
-ghost use Rattle.dg_file.specs.Calls.{CommitsPart, CommitsSegment, IsOverLimit};
-ghost use Rattle.dg_file.specs.Directories.{directory_due, FindsDirectory, TakesDirectory};
-ghost use Rattle.dg_file.specs.Headers.{IsOpenedSoFar, Misses};
+ghost use Rattle.dg_file.specs.Calls.{CommitsPart, CommitsSegment, IsOverLimit, LacksMarkerRoom, Upgrades, UpgradesPart};
+ghost use Rattle.dg_file.specs.Directories.{directory_due, FindsDirectory, TakesDirectory, are_marking};
+ghost use Rattle.dg_file.specs.Headers.{IsOpenedSoFar, Misses, is_upgraded};
 ghost use Rattle.dg_file.specs.Index.{HasSegmentRoom, opening_bytes};
-ghost use Rattle.dg_file.specs.Images.{BothTold, Fits, GainsBatchOrNot, IsMadeInPart, IsOpenedAs, RefusesOpening, taken_after};
+ghost use Rattle.dg_file.specs.Images.{BothTold, Fits, GainsBatchOrNot, GainsUpgradeOrNot, IsMadeInPart, IsOpenedAs, RefusesOpening, taken_after};
 ghost use Rattle.dg_file.specs.Invariant.{listed_after, with_rows};
 ghost use Rattle.dg_file.specs.OpeningBytes.{StaysWithinOpening, TakesUpToOpening, blank_bytes};
 
-use crate::append::append;
+use crate::append::{append, append_marker};
 use crate::creation::write_header;
 use crate::directory_batch::{batch_at, may_follow};
 use crate::directory_names::{DirectoryFault, NAMES_OFFSET, read_names};
-use crate::directory_rows::{has_rows, is_measured, list_bytes_max, may_be_listed, rows_in};
+use crate::directory_rows::{
+    are_unheard, has_rows, is_measured, list_bytes_max, may_be_listed, rows_in,
+};
 use crate::fault::{CommitFault, CreateFault, FetchFault, ReopenFault};
 use crate::found_directory::FoundDirectory;
 use crate::header::{HEADER_BYTES, OPEN};
-use crate::lengths::{LENGTHS_BYTES, Lengths};
+use crate::lengths::{LENGTHS_BYTES, Lengths, MARKER_BYTES};
 use crate::prepared_segment::{PreparedSegment, Ready};
 use crate::reads::{read_byte, read_header, read_lengths, read_range};
 use dg_catalogue::{Catalogue, column_length, column_offset, keys_due, leaves};
 use dg_disk::Disk;
 use dg_graph::Column;
-use dg_history::{Key, Params};
+use dg_history::{Form, Key, Params};
 use dg_index::{BatchEntry, Entry, Row};
 use dg_names::Names;
-use dg_numbers::u32_at;
+use dg_numbers::{u32_at, u64_at};
 use dg_segment::Segment;
 use dg_text::NAMES_MAX;
 use std::alloc::{AllocError, Global};
 use std::marker::Model;
+
+/// The bytes of a marker and of the gate behind it.
+const MARKER_SEGMENT_BYTES: u64 = 25;
 
 /// The offset of the number of names in a directory.
 const COUNT_OFFSET: usize = 24;
@@ -57,6 +63,7 @@ const COUNT_OFFSET: usize = 24;
 pub struct Index {
     alloc: Global,
     params: Params,
+    form: Form,
     catalogue: Catalogue,
     batches: Vec<BatchEntry>,
     // the events and the names of all batches
@@ -78,9 +85,9 @@ impl Model for Index {
 
     ghost Value = { IndexState };
 
-    ghost view = { λ x. record { opening = record { params = x.params; batches = x.batches.items; records = x.catalogue.entries; used = x.used }; spare = x.catalogue.spare; room = vec_capacity x.batches - vec_len x.batches } };
+    ghost view = { λ x. record { opening = record { params = x.params; form = x.form; batches = x.batches.items; records = x.catalogue.entries; used = x.used }; spare = x.catalogue.spare; room = vec_capacity x.batches - vec_len x.batches } };
 
-    ghost invariant = { λ x. IndexIsSound (record { params = x.params; batches = x.batches.items; records = x.catalogue.entries; used = x.used }) x.events x.names x.earliest x.listed x.catalogue.span };
+    ghost invariant = { λ x. IndexIsSound (record { params = x.params; form = x.form; batches = x.batches.items; records = x.catalogue.entries; used = x.used }) x.events x.names x.earliest x.listed x.catalogue.span };
 }
 
 // The last time of the last list among the rows, where without one it is this.
@@ -98,13 +105,14 @@ fn listed_after(listed: Option<u64>, rows: &[Row]) -> Option<u64>
 
 impl Index {
     // An index without a segment. Takes no memory yet.
-    fn empty(alloc: Global, params: Params) -> Index
+    fn empty(alloc: Global, form: Form, params: Params) -> Index
         requires { are_parameters params.l params.k ≡ true }
-        ensures { result.opening ≡ (bare params).index }
+        ensures { result.opening ≡ (bare form params).index }
     {
         Index {
             alloc,
             params,
+            form,
             catalogue: Catalogue::new(alloc),
             batches: Vec::new(alloc),
             events: 0,
@@ -112,6 +120,16 @@ impl Index {
             earliest: 0,
             listed: None,
             used: HEADER_BYTES as u64,
+        }
+    }
+
+    /// Whether the next segment is written in the second form.
+    pub fn is_wide(&self) -> bool
+        ensures { result ≡ is_wide self.now.opening.form }
+    {
+        match self.form {
+            Form::One => false,
+            Form::Upgraded(_) | Form::Two => true,
         }
     }
 
@@ -179,6 +197,16 @@ impl Index {
         self.used = used;
     }
 
+    // Notes the marker behind the bytes in use: the second form holds behind it.
+    fn note_marker(&mut self)
+        requires { self.old.opening.used + 25 ≤ FILE_BYTES_MAX }
+        ensures marked { self.new.opening ≡ index_upgraded self.old.opening }
+        ensures room { (self.new.spare ≡ self.old.spare) × (self.new.room ≡ self.old.room) }
+    {
+        self.form = Form::Upgraded(self.batches.len() as u32);
+        self.used += MARKER_SEGMENT_BYTES;
+    }
+
     // Reads the directory of a segment behind the bytes in use, with so many bytes of columns, and adds its
     // names to those before it. `DirectoryFault::Broken` where it may not stand there,
     // `DirectoryFault::Memory` for want of memory: then some of its names may be added.
@@ -206,10 +234,11 @@ impl Index {
         let lists = self.lists_next(batch.events);
         let keys = self.keys_next(batch.events)?;
         let deltas = keys.len() as u32 - lists - 1;
-        if !has_rows(bytes, end, lists, deltas) {
+        let wide = self.is_wide();
+        if !has_rows(bytes, wide, end, lists, deltas) {
             return Err(DirectoryFault::Broken);
         }
-        let rows = rows_in(self.alloc, bytes, end, lists, deltas)?;
+        let rows = rows_in(self.alloc, bytes, wide, end, lists, deltas)?;
         if !is_measured(&rows, columns) {
             return Err(DirectoryFault::Broken);
         }
@@ -218,25 +247,33 @@ impl Index {
         if !may_be_listed(&rows[..lists as usize], most, floor, batch.ends.last) {
             return Err(DirectoryFault::Broken);
         }
+        if !are_unheard(&rows, lists as usize, deltas as usize) {
+            return Err(DirectoryFault::Broken);
+        }
         Ok(FoundDirectory { batch, keys, rows })
     }
 
-    /// Makes an index with these parameters and without a batch on a disk that has none. The gate of
-    /// its header is opened once all else is on the device. `CreateFault::Memory` for want of memory,
-    /// with nothing written; `CreateFault::Disk` where the disk failed.
+    /// Makes an index of this form, the first or the second, with these parameters and without a batch on a
+    /// disk that has none. The gate of its header is opened once all else is on the device.
+    /// `CreateFault::Memory` for want of memory, with nothing written; `CreateFault::Disk` where the disk
+    /// failed.
     pub fn create<D: Disk>(
         alloc: Global,
         disk: &mut D,
+        form: Form,
         params: Params,
     ) -> Result<Index, CreateFault>
         requires parameters { are_parameters params.l params.k ≡ true }
+        requires function { is_function params.function ≡ true }
+        requires form { is_form form params.function 0 ≡ true }
+        requires first { is_upgraded form ≡ false }
         requires blank { IfSome (D.image disk.old) (λ image. is_blank image ≡ true) }
-        ensures made { IfOk result (λ index. index.opening ≡ (opened_of (empty_history params)).index) }
-        ensures opened { OnOk result (IfSome (D.image disk.new) (λ image. opening image ≡ Ok (opened_of (empty_history params)))) }
-        ensures image { OnOk result (IfSome (D.image disk.new) (λ image. IsImageOf (empty_history params) image)) }
+        ensures made { IfOk result (λ index. index.opening ≡ (opened_of (empty_history form params)).index) }
+        ensures opened { OnOk result (IfSome (D.image disk.new) (λ image. opening image ≡ Ok (opened_of (empty_history form params)))) }
+        ensures image { OnOk result (IfSome (D.image disk.new) (λ image. IsImageOf (empty_history form params) image)) }
 
         // errors
-        ensures part { IsErrOf result CreateFault.Disk → BothTold (D.image disk.old) (D.image disk.new) (λ old new. IsMadeInPart params old new) }
+        ensures part { IsErrOf result CreateFault.Disk → BothTold (D.image disk.old) (D.image disk.new) (λ old new. IsMadeInPart form params old new) }
         ensures cause { IsErrOf result CreateFault.Disk → FailsToWrite D.Disk disk.old disk.new }
         ensures memory { IsErrOf result CreateFault.Memory → disk.new ≡ disk.old }
 
@@ -245,11 +282,11 @@ impl Index {
 
         // crashes
         ensures settled { OnOk result (IsOnDevice D.Disk disk.new) }
-        ensures crash { LeftByCrash D.Disk disk.old disk.new (IsMadeInPart params) }
+        ensures crash { LeftByCrash D.Disk disk.old disk.new (IsMadeInPart form params) }
     {
-        let mut index = Index::empty(alloc, params);
+        let mut index = Index::empty(alloc, form, params);
         index.reserve(1)?;
-        write_header(disk, params)?;
+        write_header(disk, form, params)?;
         Ok(index)
     }
 
@@ -286,7 +323,7 @@ impl Index {
         ensures settled_blank { IsErrOf result ReopenFault.Blank → IsOnDevice D.Disk disk.new }
     {
         let found = read_header(disk)?;
-        let mut index = Index::empty(alloc, found.params);
+        let mut index = Index::empty(alloc, found.form, found.params);
         index.read_segments(disk, found.len, found.gate, names)?;
         Ok(index)
     }
@@ -387,6 +424,9 @@ impl Index {
     {
         let offset = self.used;
         let lengths = read_lengths(disk, offset, len)?;
+        if self.may_be_marked(lengths) {
+            return self.read_marker(disk);
+        }
         let found = self.read_found(disk, lengths, names)?;
         let columns_offset = offset + LENGTHS_BYTES as u64 + lengths.directory;
         let gate_offset = columns_offset + lengths.columns;
@@ -399,6 +439,43 @@ impl Index {
             columns_offset,
             gate_offset + 1,
         );
+        Ok(gate)
+    }
+
+    // Whether these are the lengths of a marker that may stand behind the bytes in use.
+    fn may_be_marked(&self, lengths: Lengths) -> bool
+        ensures { result ≡ (not (is_wide self.now.opening.form) && are_marking lengths) }
+    {
+        !self.is_wide() && lengths.are_marking()
+    }
+
+    // Reads the marker behind the bytes in use, whose lengths are read: the second form holds behind it.
+    // `ReopenFault::Damaged` where its number of events is not 0. Answers the byte of the gate behind it.
+    fn read_marker<D: Disk>(&mut self, disk: &mut D) -> Result<u8, ReopenFault>
+        requires narrow { is_wide self.old.opening.form ≡ false }
+        requires there { HasRange (D.image disk.old) (self.old.opening.used + 16) 9 }
+        requires within { self.old.opening.used + 25 ≤ FILE_BYTES_MAX }
+        ensures upgraded { OnOk result (self.new.opening ≡ index_upgraded self.old.opening) }
+        ensures zero { OnOk result (IfSome (D.image disk.old) (λ image. eight_at image (self.old.opening.used + 16) ≡ 0)) }
+        ensures gate { IfOk result (λ gate. IfSome (D.image disk.old) (λ image. gate ≡ slice_index image (self.old.opening.used + 24))) }
+        ensures taken { OnOk result (D.taken disk.new ≡ raised_by 9 (D.taken disk.old)) }
+
+        // errors
+        ensures refused { IfErr result (λ fault. IfSome (D.image disk.old) (λ image. Misses self.old.opening.used (eight_at image (self.old.opening.used + 16) ≢ 0) fault)) }
+        ensures bounded { OnErr result (D.taken disk.new ≤ D.taken disk.old + 8) }
+        ensures cause { IsErrOf result ReopenFault.Disk → Fails D.Disk disk.old disk.new }
+
+        // frame
+        ensures frame { ReadsDisk D.Disk disk.old disk.new }
+    {
+        let events_offset = self.used + LENGTHS_BYTES as u64;
+        let mut events = [0; MARKER_BYTES as usize];
+        disk.read_at(events_offset, &mut events)?;
+        if u64_at(&events, 0) != 0 {
+            return Err(ReopenFault::Damaged(self.used));
+        }
+        let gate = read_byte(disk, events_offset + MARKER_BYTES)?;
+        self.note_marker();
         Ok(gate)
     }
 
@@ -437,7 +514,7 @@ impl Index {
         ensures same { self.new.opening ≡ self.old.opening }
     {
         let ready = self.ready(&segment)?;
-        Ok(PreparedSegment::new(segment, ready))
+        Ok(PreparedSegment::new(segment, self.is_wide(), ready))
     }
 
     // Makes ready what goes with the segment, and room for its records and its batch.
@@ -445,14 +522,14 @@ impl Index {
         requires due { IsDue self.old.opening segment.now }
         ensures keys { IfOk result (λ r. r.keys.items ≡ keys_next self.new.opening segment.now.events) }
         ensures rows { IfOk result (λ r. r.rows.items ≡ rows_in (directory_of segment.now)) }
-        ensures head { IfOk result (λ r. r.head.items ≡ head_of segment.now) }
+        ensures head { IfOk result (λ r. r.head.items ≡ head_of (is_wide self.new.opening.form) segment.now) }
         ensures spare { IfOk result (λ r. length r.keys.items ≤ self.new.spare) }
         ensures room { OnOk result (1 ≤ self.new.room) }
         ensures same { self.new.opening ≡ self.old.opening }
     {
         let keys = self.keys_next(segment.batch().events)?;
         self.reserve(keys.len() as u64)?;
-        Ready::new(self.alloc, segment, keys)
+        Ready::new(self.alloc, segment, self.is_wide(), keys)
     }
 
     /// Adds the segment of a batch to the file, which may have `limit` bytes in use. The segment's gate
@@ -506,7 +583,7 @@ impl Index {
     {
         let used = self.used;
         let segment = prepared.segment();
-        let needed = used + segment.size();
+        let needed = used + segment.size(self.is_wide());
         if limit < needed {
             return Err(CommitFault::FileFull(needed));
         }
@@ -520,6 +597,36 @@ impl Index {
             offset,
             needed,
         );
+        Ok(())
+    }
+
+    /// Writes the marker behind which the file goes on in the second form, in a file that may have `limit`
+    /// bytes in use. Its gate is opened once it is on the device. `CommitFault::FileFull` with the bytes that
+    /// would be in use, exactly where they are more than `limit`: then nothing has changed.
+    /// `CommitFault::Disk` where the disk failed; then the file is of the old or of the upgraded history,
+    /// and the index is used no more. Takes no memory.
+    pub fn upgrade<D: Disk>(&mut self, disk: &mut D, limit: u64) -> Result<(), CommitFault>
+        requires narrow { is_wide self.old.opening.form ≡ false }
+        requires limit { limit ≤ FILE_BYTES_MAX }
+        requires image { IfSome (D.image disk.old) (λ image. IsOpenedAs image self.old.opening) }
+        ensures done { OnOk result (Upgrades D.Disk limit self.old.opening self.new.opening disk.old disk.new) }
+        ensures room { (self.new.spare ≡ self.old.spare) × (self.new.room ≡ self.old.room) }
+
+        // errors
+        ensures full { (n : ℕ) → result ≡ Err (CommitFault.FileFull n) → LacksMarkerRoom limit self.old self.new disk.old disk.new n }
+        ensures part { IsErrOf result CommitFault.Disk → UpgradesPart D.Disk limit self.old.opening disk.old disk.new }
+
+        // what it leaves, and what a crash leaves
+        ensures frame { WritesDisk D.Disk disk.old disk.new }
+        ensures crash { LeftByCrash D.Disk disk.old disk.new GainsUpgradeOrNot }
+    {
+        let used = self.used;
+        let needed = used + MARKER_SEGMENT_BYTES;
+        if limit < needed {
+            return Err(CommitFault::FileFull(needed));
+        }
+        append_marker(disk, used)?;
+        self.note_marker();
         Ok(())
     }
 
@@ -547,6 +654,13 @@ impl Index {
         ensures { result ≡ self.now.opening.params }
     {
         self.params
+    }
+
+    /// The form of the file.
+    pub fn form(&self) -> Form
+        ensures { result ≡ self.now.opening.form }
+    {
+        self.form
     }
 
     /// The bytes in use, up to the closed gate and with it.

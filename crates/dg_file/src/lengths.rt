@@ -1,13 +1,16 @@
 //! The two lengths with which a segment begins.
 
 ghost use Rattle.std.specs.Prelude.{◌≡◌, ◌+◌, ◌≤◌, length};
-ghost use Rattle.dg_file.specs.Directories.{segment_lengths_at, fit_in};
+ghost use Rattle.dg_file.specs.Directories.{are_marking, segment_lengths_at, fit_in};
 
 use dg_history::FILE_BYTES_MAX;
 use dg_numbers::u64_at;
 
 /// The bytes of the two lengths in front of a directory.
 pub(crate) const LENGTHS_BYTES: usize = 16;
+
+/// The bytes of a marker behind its lengths: a number of events, which is 0.
+pub(crate) const MARKER_BYTES: u64 = 8;
 
 /// The bytes of a segment's directory and of its columns.
 #[derive(Clone, Copy)]
@@ -26,6 +29,13 @@ impl Lengths {
             directory: u64_at(bytes, 0),
             columns: u64_at(bytes, 8),
         }
+    }
+
+    /// Whether these are the lengths of a marker.
+    pub(crate) fn are_marking(&self) -> bool
+        ensures { result ≡ are_marking self.now }
+    {
+        self.directory == MARKER_BYTES && self.columns == 0
     }
 
     /// Whether a segment at the offset with these lengths, and the gate behind it, end within `len` bytes

@@ -14,6 +14,8 @@ use std::marker::Model;
 #[derive(Drop)]
 pub struct PreparedSegment {
     segment: Segment,
+    // in which form it is to be written
+    wide: bool,
     ready: Ready,
 }
 
@@ -36,9 +38,9 @@ impl Model for PreparedSegment {
 
     ghost Value = { Prepared };
 
-    ghost view = { λ p. record { segment = p.segment; keys = p.ready.keys.items } };
+    ghost view = { λ p. record { segment = p.segment; wide = p.wide; keys = p.ready.keys.items } };
 
-    ghost invariant = { λ p. (p.ready.rows.items ≡ rows_in (directory_of p.segment)) × (p.ready.head.items ≡ head_of p.segment) };
+    ghost invariant = { λ p. (p.ready.rows.items ≡ rows_in (directory_of p.segment)) × (p.ready.head.items ≡ head_of p.wide p.segment) };
 }
 
 // A row for each record of the segment, in the order of the file.
@@ -53,25 +55,34 @@ fn rows_of(alloc: Global, segment: &Segment) -> Result<Vec<Row>, AllocError>
 
 impl Ready {
     /// What goes with a segment, with these keys. `AllocError` for want of memory.
-    pub(crate) fn new(alloc: Global, segment: &Segment, keys: Vec<Key>) -> Result<Ready, AllocError>
+    pub(crate) fn new(
+        alloc: Global,
+        segment: &Segment,
+        wide: bool,
+        keys: Vec<Key>,
+    ) -> Result<Ready, AllocError>
         ensures keys { IfOk result (λ r. r.keys ≡ keys) }
         ensures rows { IfOk result (λ r. r.rows.items ≡ rows_in (directory_of segment.now)) }
-        ensures head { IfOk result (λ r. r.head.items ≡ head_of segment.now) }
+        ensures head { IfOk result (λ r. r.head.items ≡ head_of wide segment.now) }
     {
         let rows = rows_of(alloc, segment)?;
-        let head = segment.head(alloc)?;
+        let head = segment.head(alloc, wide)?;
         Ok(Ready { keys, rows, head })
     }
 }
 
 impl PreparedSegment {
     /// The segment with what was made ready to go with it.
-    pub(crate) fn new(segment: Segment, ready: Ready) -> PreparedSegment
+    pub(crate) fn new(segment: Segment, wide: bool, ready: Ready) -> PreparedSegment
         requires rows { ready.rows.items ≡ rows_in (directory_of segment) }
-        requires head { ready.head.items ≡ head_of segment }
-        ensures { result ≡ record { segment = segment; keys = ready.keys.items } }
+        requires head { ready.head.items ≡ head_of wide segment }
+        ensures { result ≡ record { segment = segment; wide = wide; keys = ready.keys.items } }
     {
-        PreparedSegment { segment, ready }
+        PreparedSegment {
+            segment,
+            wide,
+            ready,
+        }
     }
 
     /// The segment.
@@ -97,7 +108,7 @@ impl PreparedSegment {
 
     /// What stands in front of its columns.
     pub(crate) fn head(&self) -> &[u8]
-        ensures { result.now ≡ head_of self.now.segment }
+        ensures { result.now ≡ head_of self.now.wide self.now.segment }
     {
         &self.ready.head
     }

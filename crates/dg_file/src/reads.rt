@@ -13,15 +13,16 @@ ghost use Rattle.dg_file.specs.Images.{RefusesOpening, taken_after};
 ghost use Rattle.dg_file.specs.OpeningBytes.{TakesUpToOpening, blank_bytes};
 
 use crate::fault::{FetchFault, ReopenFault};
-use crate::header::{HEADER_BYTES, is_closed, params_of};
+use crate::header::{HEADER_BYTES, header_of, is_closed};
 use crate::lengths::{LENGTHS_BYTES, Lengths};
 use dg_disk::{Disk, Failed};
-use dg_history::Params;
+use dg_history::{Form, Params};
 use std::alloc::Global;
 
 /// What the header of an index says.
 #[derive(Clone, Copy)]
 pub(crate) struct Found {
+    pub form: Form,
     pub params: Params,
     // the bytes of the image
     pub len: u64,
@@ -60,9 +61,10 @@ pub(crate) fn read_header<D: Disk>(disk: &mut D) -> Result<Found, ReopenFault>
     if is_closed(&header, len) {
         return Err(ReopenFault::Blank);
     }
-    match params_of(&header) {
-        Some(params) => Ok(Found {
-            params,
+    match header_of(&header) {
+        Some(said) => Ok(Found {
+            form: said.form,
+            params: said.params,
             len,
             gate: header[17],
         }),

@@ -7,20 +7,25 @@ use Rattle.dg_index.specs.FileOfHistory.{Stored, bytes_of}
 use Rattle.dg_index.specs.OpenedIndex.{lengths_of, record_row, total}
 use Rattle.dg_segment.specs.PackedRecords.{StoredRecord, stored_row, stored_bytes, stored_at, unpacked, ArePacked, IsPacked}
 
--- three columns in front of other bytes
+-- four columns in front of other bytes
 pub stored_first : (s : Stored) (rest : List ℕ) → stored_at (lengths_of s) (bytes_of s ++ rest) ≡ s
 stored_first s rest =
     let a = s.structure in
     let b = s.node_attrs in
     let d = s.edge_attrs in
-    let one : bytes_of s ++ rest ≡ a ++ (b ++ (d ++ rest)) = append_assoc a (b ++ d) rest ∙ ap (λ (l : List ℕ). a ++ l) (append_assoc b d rest) in
-    let behind : drop (length a) (bytes_of s ++ rest) ≡ b ++ (d ++ rest) = ap (drop (length a)) one ∙ drop_at a (b ++ (d ++ rest)) (length a) refl in
-    let last : drop (length a + length b) (bytes_of s ++ rest) ≡ d ++ rest =
-    sym (drop-drop (length b) (length a) (bytes_of s ++ rest)) ∙ ap (drop (length b)) behind ∙ drop_at b (d ++ rest) (length b) refl in
+    let e = s.transient in
+    let one : bytes_of s ++ rest ≡ a ++ (b ++ (d ++ (e ++ rest))) =
+    append_assoc a (b ++ (d ++ e)) rest ∙ ap (λ (l : List ℕ). a ++ l) (append_assoc b (d ++ e) rest ∙ ap (λ (l : List ℕ). b ++ l) (append_assoc d e rest)) in
+    let second : drop (length a) (bytes_of s ++ rest) ≡ b ++ (d ++ (e ++ rest)) = ap (drop (length a)) one ∙ drop_at a (b ++ (d ++ (e ++ rest))) (length a) refl in
+    let third : drop (length a + length b) (bytes_of s ++ rest) ≡ d ++ (e ++ rest) =
+    sym (drop-drop (length b) (length a) (bytes_of s ++ rest)) ∙ ap (drop (length b)) second ∙ drop_at b (d ++ (e ++ rest)) (length b) refl in
+    let last : drop (length a + length b + length d) (bytes_of s ++ rest) ≡ e ++ rest =
+    sym (drop-drop (length d) (length a + length b) (bytes_of s ++ rest)) ∙ ap (drop (length d)) third ∙ drop_at d (e ++ rest) (length d) refl in
     λ i. record {
-      structure = (ap (take (length a)) one ∙ take_at a (b ++ (d ++ rest)) (length a) refl) i;
-      node_attrs = (ap (take (length b)) behind ∙ take_at b (d ++ rest) (length b) refl) i;
-      edge_attrs = (ap (take (length d)) last ∙ take_at d rest (length d) refl) i;
+      structure = (ap (take (length a)) one ∙ take_at a (b ++ (d ++ (e ++ rest))) (length a) refl) i;
+      node_attrs = (ap (take (length b)) second ∙ take_at b (d ++ (e ++ rest)) (length b) refl) i;
+      edge_attrs = (ap (take (length d)) third ∙ take_at d (e ++ rest) (length d) refl) i;
+      transient = (ap (take (length e)) last ∙ take_at e rest (length e) refl) i;
     }
 
 pub stored_alone : (s : Stored) → stored_at (lengths_of s) (bytes_of s) ≡ s
@@ -28,7 +33,7 @@ stored_alone s = ap (stored_at (lengths_of s)) (sym (append-nil (bytes_of s))) �
 
 stored_behind : (s : Stored) (rest : List ℕ) → drop (total (lengths_of s)) (bytes_of s ++ rest) ≡ rest
 stored_behind s rest =
-    drop_at (bytes_of s) rest (total (lengths_of s)) (omega (arith, length-append s.structure (s.node_attrs ++ s.edge_attrs), length-append s.node_attrs s.edge_attrs))
+    drop_at (bytes_of s) rest (total (lengths_of s)) (omega (arith, length-append s.structure (s.node_attrs ++ (s.edge_attrs ++ s.transient)), length-append s.node_attrs (s.edge_attrs ++ s.transient), length-append s.edge_attrs s.transient))
 
 -- records are those of their rows and their columns
 pub unpacked_is : (records : List StoredRecord) → unpacked (map stored_row records) (stored_bytes records) ≡ records

@@ -1,5 +1,5 @@
 -- Records one behind another: the rows that tell of them, and their columns in one run of bytes.
-use Rattle.std.specs.Prelude.{◌≡◌, ℕ, ◌+◌, ◌<◌, ◌^◌, List, [], ◌∷◌, ◌++◌, Option, Some, None, length, map, slice_index, take, drop}
+use Rattle.std.specs.Prelude.{◌≡◌, ℕ, Bool, true, false, ◌+◌, ◌<◌, ◌^◌, List, [], ◌∷◌, ◌++◌, Option, Some, None, length, map, slice_index, take, drop}
 use Rattle.std.specs.List.{flat_map}
 use Rattle.dg_graph.specs.Columns.{eight}
 use Rattle.dg_index.specs.declared.entry.Ends.{Ends}
@@ -20,12 +20,13 @@ stored_row r = record { ends = r.ends; lengths = lengths_of r.columns }
 abbrev pub stored_bytes : List StoredRecord → List ℕ
 stored_bytes records = flat_map (λ (r : StoredRecord). bytes_of r.columns) records
 
--- the three columns of these lengths with which the bytes begin
+-- the four columns of these lengths with which the bytes begin
 abbrev pub stored_at : List ℕ → List ℕ → Stored
 stored_at lengths bytes = record {
   structure = take (slice_index lengths 0) bytes;
   node_attrs = take (slice_index lengths 1) (drop (slice_index lengths 0) bytes);
   edge_attrs = take (slice_index lengths 2) (drop (slice_index lengths 0 + slice_index lengths 1) bytes);
+  transient = take (slice_index lengths 3) (drop (slice_index lengths 0 + slice_index lengths 1 + slice_index lengths 2) bytes);
 }
 
 -- the records of these rows, whose columns are one run of bytes
@@ -45,14 +46,16 @@ pub record IsPacked (row : Row) (bytes : List ℕ) : Type 0 where
   pub row_is : record_row (stored_at row.lengths bytes) ≡ row
   pub bytes_are : bytes_of (stored_at row.lengths bytes) ≡ bytes
 
--- the lengths of three columns, as they stand in a directory
-abbrev pub lengths_text : List ℕ → List ℕ
-lengths_text lengths = eight (slice_index lengths 0) ++ (eight (slice_index lengths 1) ++ eight (slice_index lengths 2))
+-- the lengths of the columns, as they stand in a directory of the second form or of the first
+abbrev pub lengths_text : Bool → List ℕ → List ℕ
+lengths_text false lengths = eight (slice_index lengths 0) ++ (eight (slice_index lengths 1) ++ eight (slice_index lengths 2))
+lengths_text true lengths =
+    eight (slice_index lengths 0) ++ (eight (slice_index lengths 1) ++ (eight (slice_index lengths 2) ++ eight (slice_index lengths 3)))
 
-abbrev pub row_text_with : Option Ends → List ℕ → List ℕ
-row_text_with None lengths = lengths_text lengths
-row_text_with (Some e) lengths = eight e.first ++ (eight e.last ++ lengths_text lengths)
+abbrev pub row_text_with : Bool → Option Ends → List ℕ → List ℕ
+row_text_with wide None lengths = lengths_text wide lengths
+row_text_with wide (Some e) lengths = eight e.first ++ (eight e.last ++ lengths_text wide lengths)
 
 -- a row as it stands in a directory
-abbrev pub row_text : Row → List ℕ
-row_text r = row_text_with r.ends r.lengths
+abbrev pub row_text : Bool → Row → List ℕ
+row_text wide r = row_text_with wide r.ends r.lengths

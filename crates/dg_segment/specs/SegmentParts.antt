@@ -1,8 +1,8 @@
 -- A new segment by its parts.
-use Rattle.std.specs.Prelude.{◌≡◌, ◌+◌, ◌<◌, ◌^◌, Option, Some, None, length, map}
+use Rattle.std.specs.Prelude.{◌≡◌, true, ◌+◌, ◌<◌, ◌^◌, Option, Some, None, length, map}
 use Rattle.dg_index.specs.declared.entry.Ends.{Ends}
 use Rattle.dg_index.specs.FileOfHistory.{Stored, StoredList, Segment, segment_bytes}
-use Rattle.dg_index.specs.OpenedIndex.{list_row, record_row}
+use Rattle.dg_index.specs.OpenedIndex.{AreUnheard, list_row, record_row}
 use Rattle.dg_segment.specs.PackedRecords.{StoredRecord, stored_row}
 use Rattle.dg_segment.specs.declared.segment.Segment.TheInside.{Inside}
 
@@ -29,8 +29,10 @@ segment_in s = record {
   piece = s.piece;
 }
 
--- Instants are there exactly for lists, and the segment with the gate behind it is shorter than 2^63 bytes.
+-- Instants are there exactly for lists, no delta has messages, and the segment with the gate behind it is shorter than
+-- 2^63 bytes, also in the second form.
 pub record IsSoundSegment (s : Inside) : Type 0 where
   pub lists : map stored_row s.lists ≡ map list_row (map list_of s.lists)
   pub deltas : map stored_row s.deltas ≡ map record_row (map delta_of s.deltas)
-  pub small : length (segment_bytes (segment_in s)) + 1 < 2 ^ 63
+  pub unheard : AreUnheard (map delta_of s.deltas)
+  pub small : length (segment_bytes true (segment_in s)) + 1 < 2 ^ 63

@@ -8,19 +8,21 @@ ghost use Rattle.dg_segment.specs.PackedRecords.{lengths_text, row_text};
 use dg_index::{Ends, Row};
 use std::alloc::AllocError;
 
-/// Puts three columns, for which there is room.
+/// Puts four columns, for which there is room.
 pub(crate) fn put_columns(
     into: &mut Vec<u8>,
     structure: &[u8],
     node_attrs: &[u8],
     edge_attrs: &[u8],
+    transient: &[u8],
 )
-    requires { vec_len into.old + length structure.now + length node_attrs.now + length edge_attrs.now ≤ vec_capacity into.old }
-    ensures { into.new.items ≡ into.old.items ++ (structure.now ++ (node_attrs.now ++ edge_attrs.now)) }
+    requires { vec_len into.old + length structure.now + length node_attrs.now + length edge_attrs.now + length transient.now ≤ vec_capacity into.old }
+    ensures { into.new.items ≡ into.old.items ++ (structure.now ++ (node_attrs.now ++ (edge_attrs.now ++ transient.now))) }
 {
     into.extend_from_slice(structure).unwrap();
     into.extend_from_slice(node_attrs).unwrap();
     into.extend_from_slice(edge_attrs).unwrap();
+    into.extend_from_slice(transient).unwrap();
 }
 
 /// Puts a number of eight bytes.
@@ -39,28 +41,28 @@ pub(crate) fn put_count(count: u32, into: &mut Vec<u8>) -> Result<(), AllocError
     Ok(())
 }
 
-/// Puts a row: the instants of a list, and the lengths of three columns.
-pub(crate) fn put_row(row: Row, into: &mut Vec<u8>) -> Result<(), AllocError>
-    ensures { OnOk result (into.new.items ≡ into.old.items ++ row_text row) }
+/// Puts a row: the instants of a list, and the lengths of the columns, of which the second form has four.
+pub(crate) fn put_row(row: Row, wide: bool, into: &mut Vec<u8>) -> Result<(), AllocError>
+    ensures { OnOk result (into.new.items ≡ into.old.items ++ row_text wide row) }
 {
     match row.ends {
         Some(ends) => {
             put_ends(ends, into)?;
-            put_lengths(row.lengths, into)?;
+            put_lengths(row.lengths, wide, into)?;
             Ok(())
         }
-        None => put_lengths(row.lengths, into),
+        None => put_lengths(row.lengths, wide, into),
     }
 }
 
 /// Puts the rows behind their count.
-pub(crate) fn put_table(rows: &[Row], into: &mut Vec<u8>) -> Result<(), AllocError>
+pub(crate) fn put_table(rows: &[Row], wide: bool, into: &mut Vec<u8>) -> Result<(), AllocError>
     requires { length rows.now < 2 ^ 32 }
-    ensures { OnOk result (into.new.items ≡ into.old.items ++ (four (length rows.now) ++ flat_map row_text rows.now)) }
+    ensures { OnOk result (into.new.items ≡ into.old.items ++ (four (length rows.now) ++ flat_map (row_text wide) rows.now)) }
 {
     put_count(rows.len() as u32, into)?;
     for row in rows {
-        put_row(*row, into)?;
+        put_row(*row, wide, into)?;
     }
     Ok(())
 }
@@ -73,12 +75,15 @@ fn put_ends(ends: Ends, into: &mut Vec<u8>) -> Result<(), AllocError>
     Ok(())
 }
 
-fn put_lengths(lengths: [u64; 3], into: &mut Vec<u8>) -> Result<(), AllocError>
-    ensures { OnOk result (into.new.items ≡ into.old.items ++ lengths_text lengths) }
+fn put_lengths(lengths: [u64; 4], wide: bool, into: &mut Vec<u8>) -> Result<(), AllocError>
+    ensures { OnOk result (into.new.items ≡ into.old.items ++ lengths_text wide lengths) }
 {
-    let [structure, node_attrs, edge_attrs] = lengths;
+    let [structure, node_attrs, edge_attrs, transient] = lengths;
     put_number(structure, into)?;
     put_number(node_attrs, into)?;
     put_number(edge_attrs, into)?;
+    if wide {
+        put_number(transient, into)?;
+    }
     Ok(())
 }

@@ -29,12 +29,12 @@ impl Model for Piece {
 impl Piece {
     /// A piece without bytes. Takes no memory.
     pub fn new(alloc: Global) -> Piece
-        ensures { result ≡ record { structure = []; node_attrs = []; edge_attrs = [] } }
+        ensures { result ≡ record { structure = []; node_attrs = []; edge_attrs = []; transient = [] } }
     {
         Piece {
             row: Row {
                 ends: None,
-                lengths: [0; 3],
+                lengths: [0; 4],
             },
             columns: Vec::new(alloc),
         }
@@ -47,20 +47,29 @@ impl Piece {
         structure: &[u8],
         node_attrs: &[u8],
         edge_attrs: &[u8],
+        transient: &[u8],
     ) -> Result<(), AllocError>
-        requires { length structure.now + length node_attrs.now + length edge_attrs.now < 2 ^ 64 }
-        ensures ok { OnOk result (self.new ≡ record { structure = structure.now; node_attrs = node_attrs.now; edge_attrs = edge_attrs.now }) }
+        requires { length structure.now + length node_attrs.now + length edge_attrs.now + length transient.now < 2 ^ 64 }
+        ensures ok { OnOk result (self.new ≡ record { structure = structure.now; node_attrs = node_attrs.now; edge_attrs = edge_attrs.now; transient = transient.now }) }
         ensures err { OnErr result (self.new ≡ self.old) }
     {
         let lengths = [
             structure.len() as u64,
             node_attrs.len() as u64,
             edge_attrs.len() as u64,
+            transient.len() as u64,
         ];
-        self.columns
-            .reserve(structure.len() + node_attrs.len() + edge_attrs.len())?;
+        self.columns.reserve(
+            structure.len() + node_attrs.len() + edge_attrs.len() + transient.len(),
+        )?;
         self.columns.clear();
-        put_columns(&mut self.columns, structure, node_attrs, edge_attrs);
+        put_columns(
+            &mut self.columns,
+            structure,
+            node_attrs,
+            edge_attrs,
+            transient,
+        );
         self.row = Row {
             ends: None,
             lengths,

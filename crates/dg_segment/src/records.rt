@@ -47,9 +47,10 @@ impl Records {
         structure: &[u8],
         node_attrs: &[u8],
         edge_attrs: &[u8],
+        transient: &[u8],
     ) -> Result<(), AllocError>
-        requires { length structure.now + length node_attrs.now + length edge_attrs.now < 2 ^ 64 }
-        ensures ok { OnOk result (self.new ≡ self.old ++ record { ends = ends; columns = record { structure = structure.now; node_attrs = node_attrs.now; edge_attrs = edge_attrs.now } } ∷ []) }
+        requires { length structure.now + length node_attrs.now + length edge_attrs.now + length transient.now < 2 ^ 64 }
+        ensures ok { OnOk result (self.new ≡ self.old ++ record { ends = ends; columns = record { structure = structure.now; node_attrs = node_attrs.now; edge_attrs = edge_attrs.now; transient = transient.now } } ∷ []) }
         ensures err { OnErr result (self.new ≡ self.old) }
     {
         if self.rows.len() >= RECORDS_MAX {
@@ -59,12 +60,20 @@ impl Records {
             structure.len() as u64,
             node_attrs.len() as u64,
             edge_attrs.len() as u64,
+            transient.len() as u64,
         ];
         self.rows.reserve(1)?;
-        self.columns
-            .reserve(structure.len() + node_attrs.len() + edge_attrs.len())?;
+        self.columns.reserve(
+            structure.len() + node_attrs.len() + edge_attrs.len() + transient.len(),
+        )?;
         self.rows.push(Row { ends, lengths }).unwrap();
-        put_columns(&mut self.columns, structure, node_attrs, edge_attrs);
+        put_columns(
+            &mut self.columns,
+            structure,
+            node_attrs,
+            edge_attrs,
+            transient,
+        );
         Ok(())
     }
 

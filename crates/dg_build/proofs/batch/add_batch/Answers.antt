@@ -8,6 +8,7 @@ use Rattle.dg_index.specs.Hierarchy.{numbers}
 use Rattle.dg_index.specs.IndexRecords.{Events, deltas_due}
 use Rattle.dg_index.specs.FileOfHistory.{Segment, Stored, stored}
 use Rattle.dg_build.specs.GivenDeltas.{AddsSuch, AreGivenBetween, IsFaultOfSuch}
+use Rattle.dg_build.specs.SpelledRecords.{written_columns}
 use Rattle.dg_build.proofs.SpelledRecordLists.{list_there}
 use Rattle.dg_build.proofs.FirstList.{IsCut, is_cut}
 use Rattle.dg_build.proofs.InteriorDeltaHeights.{written_at}
@@ -55,7 +56,7 @@ pub returns-clause-written : goal.returns-clause-written
 returns-clause-written c =
     let more : List Event = c.args.events.now in
     let w = written_whole c.args.segment.now c.add_lists.new.segment c.add_interior.new.segment c.set_piece.new.segment _ _ c.requires.bare.0 c.in_ok-add_lists.ensures c.in_ok-add_interior.ensures.frame
-    (c.in_ok-set_piece.ensures ∙ ap (λ (l : List Event). record c.add_interior.new.segment { piece = stored (Events l) }) (c.behind-piece.ensures ∙ ap (λ n. drop n more) c.saturating_sub.ensures)) in
+    (c.in_ok-set_piece.ensures ∙ ap (λ (l : List Event). record c.add_interior.new.segment { piece = written_columns c.args.messages (stored (Events l)) }) (c.behind-piece.ensures ∙ ap (λ n. drop n more) c.saturating_sub.ensures)) in
     let l : ℕ = c.args.params.l in
     let e : c.first_count-cut.result ≡ min (l - length c.args.recent.now) (length c.args.events.now) = omega (arith, c.first_count-cut.ensures) in
     let cut : IsCut l c.args.before c.args.recent.now c.args.events.now c.as_slice-first.result.now c.behind-later.result.now =
@@ -63,9 +64,9 @@ returns-clause-written c =
     let n : ℕ = (c.args.before + length more) / l - c.args.before / l in
     let there : c.add_interior.new.segment.deltas ≡ c.set_piece.new.segment.deltas = ap (λ (s : Segment). s.deltas) (sym w.is) in
     w.is ∙ (λ i. record c.args.segment.now {
-      lists = map (list_there l (cut.is i)) (numbers 0 n);
+      lists = map (list_there c.args.messages l (cut.is i)) (numbers 0 n);
       deltas = there i;
-      piece = stored (Events (drop ((c.args.before + length more) / l * l - c.args.before) more));
+      piece = written_columns c.args.messages (stored (Events (drop ((c.args.before + length more) / l * l - c.args.before) more)));
     })
 
 pub returns-clause-count : goal.returns-clause-count

@@ -1,29 +1,25 @@
-use Rattle.std.proofs.Common.{◌≡◌, ℕ, ◌+◌, ◌++◌, ◌∷◌, List, [], length, sym, ap, subst, ◌∙◌, append_assoc, arith, length-append}
+use Rattle.std.proofs.Common.{ℕ, ◌++◌, ◌∷◌, List, [], sym, subst, append_assoc, arith}
 use Rattle.dg_disk.proofs.CrashLeavesOnly.{behind_then, keeps_on}
 use Rattle.dg_disk.specs.Crash.{LeavesOnly, TornBehind}
-use Rattle.dg_index.specs.FileOfHistory.{Segment, blobs, head_of, segment_bytes}
+use Rattle.dg_index.specs.FileOfHistory.{blobs}
 use Rattle.dg_file.specs.Growth.{Moved, Grown, KeepsFront}
 use Rattle.dg_file.proofs.GrowthMoves.{offset_behind, keep_then, grow_then, on_ok_any}
-use Rattle.dg_file.proofs.SegmentText.{text_is}
 use Rattle.dg_file.proofs.append.write_segment.Goals as goal
 
-sum_is : (s : Segment) (head : List ℕ) → head ≡ head_of s → length head + length (blobs s) ≡ length (segment_bytes s)
-sum_is s head is = omega (arith, ap length is, length-append (head_of s) (blobs s), ap length (text_is s))
-
 pub put-requires-clause-fits : goal.put-requires-clause-fits
-put-requires-clause-fits g c = omega (arith, c.requires.fits, sum_is c.args.segment.now c.args.head.now c.requires.head)
+put-requires-clause-fits g c = omega (arith, c.requires.fits)
 
 pub put_columns-requires-clause-offset : goal.put_columns-requires-clause-offset
 put_columns-requires-clause-offset g c = offset_behind _ _ c.args.offset _ _ c.in_ok-columns_offset.ensures.behind c.in_ok-columns_offset.ensures.written
 
 pub put_columns-requires-clause-fits : goal.put_columns-requires-clause-fits
-put_columns-requires-clause-fits g c = omega (arith, c.requires.fits, sum_is c.args.segment.now c.args.head.now c.requires.head, c.in_ok-columns_offset.ensures.behind)
+put_columns-requires-clause-fits g c = omega (arith, c.requires.fits, c.in_ok-columns_offset.ensures.behind)
 
 pub put-requires-2-clause-offset : goal.put-requires-2-clause-offset
 put-requires-2-clause-offset g c = offset_behind _ _ c.in_ok-columns_offset.columns_offset _ _ c.in_ok-gate_offset.ensures.behind c.in_ok-gate_offset.ensures.written
 
 pub put-requires-2-clause-fits : goal.put-requires-2-clause-fits
-put-requires-2-clause-fits g c = omega (arith, c.requires.fits, sum_is c.args.segment.now c.args.head.now c.requires.head, c.in_ok-columns_offset.ensures.behind, c.in_ok-gate_offset.ensures.behind)
+put-requires-2-clause-fits g c = omega (arith, c.requires.fits, c.in_ok-columns_offset.ensures.behind, c.in_ok-gate_offset.ensures.behind)
 
 pub returns-in_err-gate_offset-clause-part : goal.returns-in_err-gate_offset-clause-part
 returns-in_err-gate_offset-clause-part g c =
@@ -43,14 +39,13 @@ returns-clause-part g c =
 
 pub returns-clause-written : goal.returns-clause-written
 returns-clause-written g c =
-    let s : Segment = c.args.segment.now in
-    let text : c.args.head.now ++ (blobs s ++ 0 ∷ []) ≡ segment_bytes s ++ 0 ∷ [] = sym (append_assoc c.args.head.now (blobs s) (0 ∷ [])) ∙ ap (λ (l : List ℕ). (l ++ blobs s) ++ 0 ∷ []) c.requires.head ∙ ap (λ (l : List ℕ). l ++ 0 ∷ []) (text_is s) in
-    let all : Moved (g.D.Disk.image c.args.disk.now) (g.D.Disk.image c.put-2.new.disk) (Grown c.args.offset (c.args.head.now ++ (blobs s ++ 0 ∷ []))) =
+    let text : List ℕ = c.args.head.now ++ blobs c.args.segment.now ++ 0 ∷ [] in
+    let all : Moved (g.D.Disk.image c.args.disk.now) (g.D.Disk.image c.put-2.new.disk) (Grown c.args.offset (c.args.head.now ++ (blobs c.args.segment.now ++ 0 ∷ []))) =
     grow_then _ _ _ c.args.offset c.in_ok-columns_offset.columns_offset _ _ c.in_ok-columns_offset.ensures.behind c.in_ok-columns_offset.ensures.written
     (grow_then _ _ _ c.in_ok-columns_offset.columns_offset c.in_ok-gate_offset.gate_offset _ _ c.in_ok-gate_offset.ensures.behind c.in_ok-gate_offset.ensures.written c.in_ok-put.ensures.written) in
-    let spelled : Moved (g.D.Disk.image c.args.disk.now) (g.D.Disk.image c.put-2.new.disk) (Grown c.args.offset (segment_bytes s ++ 0 ∷ [])) =
-    subst (λ (l : List ℕ). Moved (g.D.Disk.image c.args.disk.now) (g.D.Disk.image c.put-2.new.disk) (Grown c.args.offset l)) text all in
-    on_ok_any c.sync.result (subst (λ z. Moved (g.D.Disk.image c.args.disk.now) z (Grown c.args.offset (segment_bytes s ++ 0 ∷ []))) (sym c.sync.ensures.frame.same_image) spelled)
+    let spelled : Moved (g.D.Disk.image c.args.disk.now) (g.D.Disk.image c.put-2.new.disk) (Grown c.args.offset text) =
+    subst (λ (l : List ℕ). Moved (g.D.Disk.image c.args.disk.now) (g.D.Disk.image c.put-2.new.disk) (Grown c.args.offset l)) (sym (append_assoc c.args.head.now (blobs c.args.segment.now) (0 ∷ []))) all in
+    on_ok_any c.sync.result (subst (λ z. Moved (g.D.Disk.image c.args.disk.now) z (Grown c.args.offset text)) (sym c.sync.ensures.frame.same_image) spelled)
 
 pub returns-in_err-gate_offset-clause-crash : goal.returns-in_err-gate_offset-clause-crash
 returns-in_err-gate_offset-clause-crash g c =

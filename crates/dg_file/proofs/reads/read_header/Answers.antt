@@ -23,20 +23,20 @@ pub returns-in-None-clause-refused : goal.returns-in-None-clause-refused
 returns-in-None-clause-refused g c =
     let l = subst (λ x. IsLengthOf x c.in_ok-len.len) c.sync.ensures.frame.same_image c.in_ok-len.ensures.len in
     let h = subst (λ x. IsRangeOf x 0 c.read_at.new.into) (c.len.ensures.frame.same_image ∙ c.sync.ensures.frame.same_image) c.in_ok-read_at.ensures.read in
-    foreign_image _ c.in_ok-len.len c.read_at.new.into (omega (arith, c.read_at.auto.into)) (omega (arith, c.if-len.false)) (sym c.is_closed.ensures ∙ c.if-is_closed.false) (sym c.params_of.ensures.params ∙ c.in-None.is) l h
+    foreign_image _ c.in_ok-len.len c.read_at.new.into (omega (arith, c.read_at.auto.into)) (omega (arith, c.if-len.false)) (sym c.is_closed.ensures ∙ c.if-is_closed.false) (sym c.header_of.ensures.header ∙ c.in-None.is) l h
 
 pub returns-in-Some-clause-found : goal.returns-in-Some-clause-found
 returns-in-Some-clause-found g c =
     let l = subst (λ x. IsLengthOf x c.in_ok-len.len) c.sync.ensures.frame.same_image c.in_ok-len.ensures.len in
     let h = subst (λ x. IsRangeOf x 0 c.read_at.new.into) (c.len.ensures.frame.same_image ∙ c.sync.ensures.frame.same_image) c.in_ok-read_at.ensures.read in
-    found_image _ c.in_ok-len.len _ c.read_at.new.into c.in-Some.params (omega (arith, c.read_at.auto.into)) (omega (arith, c.if-len.false)) (sym c.is_closed.ensures ∙ c.if-is_closed.false) (sym c.params_of.ensures.params ∙ c.in-Some.is) refl l h
+    found_image _ c.in_ok-len.len _ c.read_at.new.into c.in-Some.said (omega (arith, c.read_at.auto.into)) (omega (arith, c.if-len.false)) (sym c.is_closed.ensures ∙ c.if-is_closed.false) (sym c.header_of.ensures.header ∙ c.in-Some.is) refl l h
 
 pub returns-in-None-clause-within : goal.returns-in-None-clause-within
 returns-in-None-clause-within g c =
     let l = subst (λ x. IsLengthOf x c.in_ok-len.len) c.sync.ensures.frame.same_image c.in_ok-len.ensures.len in
     let h = subst (λ x. IsRangeOf x 0 c.read_at.new.into) (c.len.ensures.frame.same_image ∙ c.sync.ensures.frame.same_image) c.in_ok-read_at.ensures.read in
     foreign_reads _ _ _
-    (foreign_image _ c.in_ok-len.len c.read_at.new.into (omega (arith, c.read_at.auto.into)) (omega (arith, c.if-len.false)) (sym c.is_closed.ensures ∙ c.if-is_closed.false) (sym c.params_of.ensures.params ∙ c.in-None.is) l h)
+    (foreign_image _ c.in_ok-len.len c.read_at.new.into (omega (arith, c.read_at.auto.into)) (omega (arith, c.if-len.false)) (sym c.is_closed.ensures ∙ c.if-is_closed.false) (sym c.header_of.ensures.header ∙ c.in-None.is) l h)
 
 pub returns-then-len-clause-settled_blank : goal.returns-then-len-clause-settled_blank
 returns-then-len-clause-settled_blank g c = λ _.

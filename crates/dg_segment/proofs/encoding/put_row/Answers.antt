@@ -9,6 +9,6 @@ returns-in_ok-put_lengths-in-Some c =
     let o : List ℕ = c.args.into.now.items in
     let a : List ℕ = eight c.in-Some.ends.first in
     let b : List ℕ = eight c.in-Some.ends.last in
-    let l : List ℕ = lengths_text c.args.row.lengths in
+    let l : List ℕ = lengths_text c.args.wide c.args.row.lengths in
     c.in_ok-put_lengths-in-Some.ensures ∙ ap (λ (t : List ℕ). t ++ l) c.in_ok-put_ends-in-Some.ensures ∙ append_assoc o (a ++ b) l ∙ ap (λ (t : List ℕ). o ++ t) (append_assoc a b l)
-    ∙ ap (λ (e : Option Ends). o ++ row_text_with e c.args.row.lengths) (sym c.in-Some.is)
+    ∙ ap (λ (e : Option Ends). o ++ row_text_with c.args.wide e c.args.row.lengths) (sym c.in-Some.is)

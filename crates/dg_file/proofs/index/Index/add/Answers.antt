@@ -1,10 +1,10 @@
-use Rattle.std.proofs.Common.{◌≡◌, ℕ, ◌+◌, ◌-◌, ◌≤◌, List, length, true, Some, Result, Ok, Err, inl, refl, sym, ap, subst, ◌∙◌, arith}
+use Rattle.std.proofs.Common.{◌≡◌, ℕ, ◌+◌, ◌-◌, ◌≤◌, ◌++◌, List, length, true, Some, Result, Ok, Err, inl, refl, sym, ap, subst, ◌∙◌, arith, length-append}
 use Rattle.dg_disk.proofs.CrashTold.{told_starts, told_widens}
 use Rattle.dg_history.specs.declared.limits.TheConstants.{EVENTS_MAX, FILE_BYTES_MAX}
 use Rattle.dg_history.specs.declared.node.Key.{Key}
-use Rattle.dg_history.specs.History.{are_parameters}
+use Rattle.dg_history.specs.History.{are_parameters, is_wide}
 use Rattle.dg_index.specs.declared.entry.Row.{Row}
-use Rattle.dg_index.specs.FileOfHistory.{Segment, head_of, segment_bytes}
+use Rattle.dg_index.specs.FileOfHistory.{Segment, blobs, head_of, segment_bytes}
 use Rattle.dg_index.specs.IndexGrowth.{index_with, needed_for}
 use Rattle.dg_index.specs.OpenedIndex.{Opening, directory_of, earliest_in, event_total, first_in, last_list, list_bytes_max, may_be_listed, rows_in}
 use Rattle.dg_file.proofs.OpenedIndexLists.{listed_segment}
@@ -15,7 +15,7 @@ use Rattle.dg_file.specs.declared.fault.CommitFault.TheVariants.{FileFull, Disk}
 use Rattle.dg_file.specs.Growth.{Moved, Gated, GatedOrNot}
 use Rattle.dg_file.specs.Images.{BothTold, Fits, GainsBatchOrNot, GainsSegment}
 use Rattle.dg_file.specs.Index.{IndexState}
-use Rattle.dg_file.proofs.ImageSegments.{added_batch, added_or_not, added_segment, columns_end, index_is, needed_is, used_there}
+use Rattle.dg_file.proofs.ImageSegments.{added_batch, added_or_not, added_segment, columns_end, index_is, needed_is, text_written, used_there}
 use Rattle.dg_file.proofs.InvariantBatches.{follows_in}
 use Rattle.dg_file.proofs.OpenedIndexKeys.{suits_segment}
 use Rattle.dg_file.proofs.index.Index.add.Goals as goal
@@ -29,12 +29,19 @@ pub returns-then-limit-needed-clause-full : goal.returns-then-limit-needed-claus
 unfolding full_bytes
 returns-then-limit-needed-clause-full g c = λ n e.
     let used : c.self.inside.used ≡ c.args.self.now.opening.used = ap (λ (v : IndexState). v.opening.used) c.self.view_is in
-    let needed = needed_is c.self.inside.used c.size.result c.args.self.now.opening c.args.prepared.now.segment c.segment-segment.result.now used c.segment-segment.ensures c.size.ensures.size in
+    let needed = needed_is c.self.inside.used c.size.result c.args.self.now.opening c.args.prepared.now.segment c.segment-segment.result.now c.is_wide.result used c.segment-segment.ensures c.is_wide.ensures c.size.ensures.size in
     let same : c.self.inside.used + c.size.result ≡ n = ap (full_bytes n) e in
     record { needed = sym same ∙ needed; over = omega (arith, same, c.if-limit-needed.true); index = refl; disk = refl }
 
-pub append-requires-clause-head : goal.append-requires-clause-head
-append-requires-clause-head g c = c.head-head.ensures ∙ ap head_of (sym c.segment-segment.ensures)
+pub append-requires-clause-fits : goal.append-requires-clause-fits
+append-requires-clause-fits g c =
+    let o : Opening = c.args.self.now.opening in
+    let s : Segment = c.args.prepared.now.segment in
+    let used : c.self.inside.used ≡ o.used = ap (λ (v : IndexState). v.opening.used) c.self.view_is in
+    let needed = needed_is c.self.inside.used c.size.result o s c.segment-segment.result.now c.is_wide.result used c.segment-segment.ensures c.is_wide.ensures c.size.ensures.size in
+    let head : c.head-head.result.now ≡ head_of (is_wide o.form) s = c.head-head.ensures ∙ ap (λ wide. head_of wide s) c.requires.room.form in
+    let text = text_written (is_wide o.form) s c.segment-segment.result.now c.head-head.result.now head c.segment-segment.ensures in
+    omega (arith, needed, used, ap length text, length-append c.head-head.result.now (blobs c.segment-segment.result.now), c.if-limit-needed.false, c.requires.limit)
 
 pub append-requires-clause-offset : goal.append-requires-clause-offset
 append-requires-clause-offset g c =
@@ -45,11 +52,13 @@ returns-in_err-append-clause-part g c = λ _.
     let x = g.D.Disk.image c.args.disk.now in
     let y = g.D.Disk.image c.append.new.disk in
     let used : c.self.inside.used ≡ c.args.self.now.opening.used = ap (λ (v : IndexState). v.opening.used) c.self.view_is in
-    let needed = needed_is c.self.inside.used c.size.result c.args.self.now.opening c.args.prepared.now.segment c.segment-segment.result.now used c.segment-segment.ensures c.size.ensures.size in
+    let needed = needed_is c.self.inside.used c.size.result c.args.self.now.opening c.args.prepared.now.segment c.segment-segment.result.now c.is_wide.result used c.segment-segment.ensures c.is_wide.ensures c.size.ensures.size in
     let within : needed_for c.args.self.now.opening c.args.prepared.now.segment ≤ FILE_BYTES_MAX = subst (λ n. n ≤ FILE_BYTES_MAX) needed (omega (arith, c.if-limit-needed.false, c.requires.limit)) in
+    let head : c.head-head.result.now ≡ head_of (is_wide c.args.self.now.opening.form) c.args.prepared.now.segment = c.head-head.ensures ∙ ap (λ wide. head_of wide c.args.prepared.now.segment) c.requires.room.form in
+    let text = text_written (is_wide c.args.self.now.opening.form) c.args.prepared.now.segment c.segment-segment.result.now c.head-head.result.now head c.segment-segment.ensures in
     record {
       part = added_or_not x y c.args.self.now.opening c.args.prepared.now.segment c.self.inside.used used within c.requires.image
-          (subst (λ (s : Segment). Moved x y (GatedOrNot c.self.inside.used (segment_bytes s))) c.segment-segment.ensures c.in_err-append.ensures.part);
+          (subst (λ (l : List ℕ). Moved x y (GatedOrNot c.self.inside.used l)) text c.in_err-append.ensures.part);
       fits = subst (λ n. n ≤ c.args.limit) needed (omega (arith, c.if-limit-needed.false));
       cause = c.in_err-append.ensures.cause;
     }
@@ -72,8 +81,12 @@ note-requires-clause-listed g c =
 
 pub note-requires-clause-used : goal.note-requires-clause-used
 note-requires-clause-used g c =
-    let end = columns_end c.args.prepared.now.segment c.head-head.result.now c.rows.result.now c.head-head.ensures c.rows.ensures in
-    omega (arith, end, c.size.ensures.size, ap (λ (s : Segment). length (segment_bytes s)) c.segment-segment.ensures)
+    let o : Opening = c.args.self.now.opening in
+    let s : Segment = c.args.prepared.now.segment in
+    let head : c.head-head.result.now ≡ head_of (is_wide o.form) s = c.head-head.ensures ∙ ap (λ wide. head_of wide s) c.requires.room.form in
+    let end = columns_end (is_wide o.form) s c.head-head.result.now c.rows.result.now head c.rows.ensures in
+    let size : c.size.result ≡ length (segment_bytes (is_wide o.form) s) + 1 = c.size.ensures.size ∙ (λ i. length (segment_bytes (c.is_wide.ensures i) (c.segment-segment.ensures i)) + 1) in
+    omega (arith, end, size)
 
 pub returns-clause-done : goal.returns-clause-done
 returns-clause-done g c =
@@ -82,11 +95,13 @@ returns-clause-done g c =
     let o : Opening = c.args.self.now.opening in
     let s : Segment = c.args.prepared.now.segment in
     let used : c.self.inside.used ≡ o.used = ap (λ (v : IndexState). v.opening.used) c.self.view_is in
-    let needed = needed_is c.self.inside.used c.size.result o s c.segment-segment.result.now used c.segment-segment.ensures c.size.ensures.size in
+    let needed = needed_is c.self.inside.used c.size.result o s c.segment-segment.result.now c.is_wide.result used c.segment-segment.ensures c.is_wide.ensures c.size.ensures.size in
     let within : needed_for o s ≤ FILE_BYTES_MAX = subst (λ n. n ≤ FILE_BYTES_MAX) needed (omega (arith, c.if-limit-needed.false, c.requires.limit)) in
-    let new : c.note.new.self.opening ≡ index_with o s = c.note.ensures ∙ index_is o s c.batch.result c.rows.result.now c.head-head.result.now c.self.inside.used (c.self.inside.used + c.size.result) (c.batch.ensures ∙ ap (λ (s : Segment). (directory_of s).batch) c.segment-segment.ensures) c.rows.ensures c.head-head.ensures used needed in
+    let head : c.head-head.result.now ≡ head_of (is_wide c.args.self.now.opening.form) c.args.prepared.now.segment = c.head-head.ensures ∙ ap (λ wide. head_of wide c.args.prepared.now.segment) c.requires.room.form in
+    let text = text_written (is_wide c.args.self.now.opening.form) c.args.prepared.now.segment c.segment-segment.result.now c.head-head.result.now head c.segment-segment.ensures in
+    let new : c.note.new.self.opening ≡ index_with o s = c.note.ensures ∙ index_is o s c.batch.result c.rows.result.now c.head-head.result.now c.self.inside.used (c.self.inside.used + c.size.result) (c.batch.ensures ∙ ap (λ (s : Segment). (directory_of s).batch) c.segment-segment.ensures) c.rows.ensures head used needed in
     let parameters = subst (λ (v : IndexState). are_parameters v.opening.params.l v.opening.params.k ≡ true) c.self.view_is c.self.invariant.parameters in
-    let gated = subst (λ (s : Segment). Moved x y (Gated (c.self.inside.used - 1) 1 (segment_bytes s))) c.segment-segment.ensures c.in_ok-append.ensures.written in
+    let gated = subst (λ (l : List ℕ). Moved x y (Gated (c.self.inside.used - 1) 1 l)) text c.in_ok-append.ensures.written in
     record {
       index = new;
       opened = subst (λ (n : Opening). BothTold x y (GainsSegment o s n)) (sym new)
@@ -105,10 +120,12 @@ returns-in_err-append-clause-crash g c =
     let o : Opening = c.args.self.now.opening in
     let s : Segment = c.args.prepared.now.segment in
     let used : c.self.inside.used ≡ o.used = ap (λ (v : IndexState). v.opening.used) c.self.view_is in
-    let needed = needed_is c.self.inside.used c.size.result o s c.segment-segment.result.now used c.segment-segment.ensures c.size.ensures.size in
+    let needed = needed_is c.self.inside.used c.size.result o s c.segment-segment.result.now c.is_wide.result used c.segment-segment.ensures c.is_wide.ensures c.size.ensures.size in
     let within : needed_for o s ≤ FILE_BYTES_MAX = subst (λ n. n ≤ FILE_BYTES_MAX) needed (omega (arith, c.if-limit-needed.false, c.requires.limit)) in
-    told_widens g.D.Disk.moment g.D.Disk.left_since g.D.Disk.may_leave (g.D.Disk.image c.args.disk.now) c.args.disk.now c.append.new.disk (λ image. Fits image o s) (GatedOrNot c.self.inside.used (segment_bytes c.segment-segment.result.now)) (GainsBatchOrNot s)
-    (λ a e fits gate. added_or_not (Some a) (Some e) o s c.self.inside.used used within fits (subst (λ (s : Segment). GatedOrNot c.self.inside.used (segment_bytes s) a e) c.segment-segment.ensures gate))
+    let head : c.head-head.result.now ≡ head_of (is_wide c.args.self.now.opening.form) c.args.prepared.now.segment = c.head-head.ensures ∙ ap (λ wide. head_of wide c.args.prepared.now.segment) c.requires.room.form in
+    let text = text_written (is_wide c.args.self.now.opening.form) c.args.prepared.now.segment c.segment-segment.result.now c.head-head.result.now head c.segment-segment.ensures in
+    told_widens g.D.Disk.moment g.D.Disk.left_since g.D.Disk.may_leave (g.D.Disk.image c.args.disk.now) c.args.disk.now c.append.new.disk (λ image. Fits image o s) (GatedOrNot c.self.inside.used (c.head-head.result.now ++ blobs c.segment-segment.result.now)) (GainsBatchOrNot s)
+    (λ a e fits gate. added_or_not (Some a) (Some e) o s c.self.inside.used used within fits (subst (λ (l : List ℕ). GatedOrNot c.self.inside.used l a e) text gate))
     c.requires.image c.append.ensures.crash
 
 pub returns-clause-crash : goal.returns-clause-crash
@@ -116,8 +133,10 @@ returns-clause-crash g c =
     let o : Opening = c.args.self.now.opening in
     let s : Segment = c.args.prepared.now.segment in
     let used : c.self.inside.used ≡ o.used = ap (λ (v : IndexState). v.opening.used) c.self.view_is in
-    let needed = needed_is c.self.inside.used c.size.result o s c.segment-segment.result.now used c.segment-segment.ensures c.size.ensures.size in
+    let needed = needed_is c.self.inside.used c.size.result o s c.segment-segment.result.now c.is_wide.result used c.segment-segment.ensures c.is_wide.ensures c.size.ensures.size in
     let within : needed_for o s ≤ FILE_BYTES_MAX = subst (λ n. n ≤ FILE_BYTES_MAX) needed (omega (arith, c.if-limit-needed.false, c.requires.limit)) in
-    told_widens g.D.Disk.moment g.D.Disk.left_since g.D.Disk.may_leave (g.D.Disk.image c.args.disk.now) c.args.disk.now c.append.new.disk (λ image. Fits image o s) (GatedOrNot c.self.inside.used (segment_bytes c.segment-segment.result.now)) (GainsBatchOrNot s)
-    (λ a e fits gate. added_or_not (Some a) (Some e) o s c.self.inside.used used within fits (subst (λ (s : Segment). GatedOrNot c.self.inside.used (segment_bytes s) a e) c.segment-segment.ensures gate))
+    let head : c.head-head.result.now ≡ head_of (is_wide c.args.self.now.opening.form) c.args.prepared.now.segment = c.head-head.ensures ∙ ap (λ wide. head_of wide c.args.prepared.now.segment) c.requires.room.form in
+    let text = text_written (is_wide c.args.self.now.opening.form) c.args.prepared.now.segment c.segment-segment.result.now c.head-head.result.now head c.segment-segment.ensures in
+    told_widens g.D.Disk.moment g.D.Disk.left_since g.D.Disk.may_leave (g.D.Disk.image c.args.disk.now) c.args.disk.now c.append.new.disk (λ image. Fits image o s) (GatedOrNot c.self.inside.used (c.head-head.result.now ++ blobs c.segment-segment.result.now)) (GainsBatchOrNot s)
+    (λ a e fits gate. added_or_not (Some a) (Some e) o s c.self.inside.used used within fits (subst (λ (l : List ℕ). GatedOrNot c.self.inside.used l a e) text gate))
     c.requires.image c.append.ensures.crash

@@ -10,15 +10,15 @@ use Rattle.dg_file.proofs.index.Index.create.Goals as goal
 
 pub returns-clause-opened : goal.returns-clause-opened
 returns-clause-opened g c =
-    moved_after _ _ (λ before after. IsImageOf (empty_history c.args.params) after) (λ image. opening image ≡ Ok (opened_of (empty_history c.args.params))) (λ a b h. images_are_opened (empty_history c.args.params) b h) c.in_ok-write_header.ensures.image
+    moved_after _ _ (λ before after. IsImageOf (empty_history c.args.form c.args.params) after) (λ image. opening image ≡ Ok (opened_of (empty_history c.args.form c.args.params))) (λ a b h. images_are_opened (empty_history c.args.form c.args.params) b h) c.in_ok-write_header.ensures.image
 
 pub returns-clause-image : goal.returns-clause-image
 returns-clause-image g c =
-    moved_after _ _ (λ before after. IsImageOf (empty_history c.args.params) after) (λ image. IsImageOf (empty_history c.args.params) image) (λ a b h. h) c.in_ok-write_header.ensures.image
+    moved_after _ _ (λ before after. IsImageOf (empty_history c.args.form c.args.params) after) (λ image. IsImageOf (empty_history c.args.form c.args.params) image) (λ a b h. h) c.in_ok-write_header.ensures.image
 
 pub returns-in_err-write_header-clause-part : goal.returns-in_err-write_header-clause-part
-returns-in_err-write_header-clause-part g c = λ _. moved_both _ _ (IsMadeInPart c.args.params) c.in_err-write_header.ensures.part
+returns-in_err-write_header-clause-part g c = λ _. moved_both _ _ (IsMadeInPart c.args.form c.args.params) c.in_err-write_header.ensures.part
 
 pub returns-in_err-reserve-clause-crash : goal.returns-in_err-reserve-clause-crash
 returns-in_err-reserve-clause-crash g c =
-    told_starts g.D.Disk.moment g.D.Disk.left_since g.D.Disk.may_leave g.met.D.Disk.only_now (g.D.Disk.image c.args.disk.now) c.args.disk.now (λ a. is_blank a ≡ true) (IsMadeInPart c.args.params) (λ a blank. inl blank) c.requires.blank
+    told_starts g.D.Disk.moment g.D.Disk.left_since g.D.Disk.may_leave g.met.D.Disk.only_now (g.D.Disk.image c.args.disk.now) c.args.disk.now (λ a. is_blank a ≡ true) (IsMadeInPart c.args.form c.args.params) (λ a blank. inl blank) c.requires.blank

@@ -15,7 +15,7 @@ use Rattle.dg_file.proofs.index.Index.note.Goals as goal
 
 pub add_all-requires-clause-room : goal.add_all-requires-clause-room
 add_all-requires-clause-room c =
-    let o : Opening = record { params = c.self.inside.params; batches = c.self.inside.batches.items; records = c.self.inside.catalogue.entries; used = c.self.inside.used } in
+    let o : Opening = record { params = c.self.inside.params; form = c.self.inside.form; batches = c.self.inside.batches.items; records = c.self.inside.catalogue.entries; used = c.self.inside.used } in
     let same = sym c.self.view_is in
     room_for o c.self.inside.events c.self.inside.names c.self.inside.earliest c.self.inside.listed c.self.inside.catalogue.span c.self.inside.catalogue c.args.batch c.args.keys.now c.args.rows.now c.args.offset c.args.used c.self.invariant refl
     (omega (arith, c.requires.spare, ap (λ (v : IndexState). v.spare) same)) (c.requires.keys ∙ ap (λ (v : IndexState). keys_next v.opening c.args.batch.events) same) c.requires.rows
@@ -26,7 +26,7 @@ add_all-requires-clause-same c = suits_length c.args.keys.now c.args.rows.now c.
 
 pub invariant_of-self : goal.invariant_of-self
 invariant_of-self c =
-    let o : Opening = record { params = c.self.inside.params; batches = c.self.inside.batches.items; records = c.self.inside.catalogue.entries; used = c.self.inside.used } in
+    let o : Opening = record { params = c.self.inside.params; form = c.self.inside.form; batches = c.self.inside.batches.items; records = c.self.inside.catalogue.entries; used = c.self.inside.used } in
     let same = sym c.self.view_is in
     let b : BatchEntry = c.args.batch in
     let keys : c.args.keys.now ≡ keys_next o b.events = c.requires.keys ∙ ap (λ (v : IndexState). keys_next v.opening b.events) same in
@@ -38,10 +38,10 @@ invariant_of-self c =
     let room : vec_len c.self.inside.batches < vec_capacity c.self.inside.batches = omega (arith, c.requires.room, ap (λ (v : IndexState). v.room) same) in
     let batches : c.push.new.self.items ≡ c.self.inside.batches.items ++ b ∷ [] = c.push.ensures.items ∙ ap (λ t. cond t (c.self.inside.batches.items ++ b ∷ []) c.self.inside.batches.items) (c.push.ensures.succeeds room) in
     let records = c.add_batch.ensures.entries ∙ c.add_all.ensures.entries ∙ ap (λ l. c.self.inside.catalogue.entries ++ laid c.args.offset l c.args.rows.now) keys in
-    let new : Opening = record { params = c.self.inside.params; batches = c.push.new.self.items; records = c.add_batch.new.self.entries; used = c.args.used } in
+    let new : Opening = record { params = c.self.inside.params; form = c.self.inside.form; batches = c.push.new.self.items; records = c.add_batch.new.self.entries; used = c.args.used } in
     let span : c.add_batch.new.self.span ≡ Some (spanned c.self.inside.catalogue.span b.ends) = c.add_batch.ensures.span ∙ ap (λ (x : Option Ends). Some (spanned x b.ends)) c.add_all.ensures.span in
     let last : c.listed_after-self-inside.result ≡ listed_after c.self.inside.listed c.args.rows.now = c.listed_after-self-inside.ensures in
     subst (λ (n : Opening). IndexIsSound n (c.self.inside.events + b.events) (c.self.inside.names + b.names) (b.ends.last + 1) c.listed_after-self-inside.result c.add_batch.new.self.span)
-    (λ i. record { params = c.self.inside.params; batches = sym batches i; records = sym records i; used = c.args.used })
+    (λ i. record { params = c.self.inside.params; form = c.self.inside.form; batches = sym batches i; records = sym records i; used = c.args.used })
     (subst (λ last. IndexIsSound (with_rows o b c.args.rows.now c.args.offset c.args.used) (c.self.inside.events + b.events) (c.self.inside.names + b.names) (b.ends.last + 1) last c.add_batch.new.self.span) (sym last)
     (subst (λ span. IndexIsSound (with_rows o b c.args.rows.now c.args.offset c.args.used) (c.self.inside.events + b.events) (c.self.inside.names + b.names) (b.ends.last + 1) (listed_after c.self.inside.listed c.args.rows.now) span) (sym span) all))

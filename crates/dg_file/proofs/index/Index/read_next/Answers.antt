@@ -1,6 +1,6 @@
 use Rattle.std.proofs.Common.{◌≡◌, ℕ, ◌+◌, ◌≤◌, List, None, take, drop, sym, ap, subst, ◌∙◌, arith, false}
-use Rattle.std.specs.Prelude.{IfSome, slice_index}
-use Rattle.std.proofs.lemmas.Result.{err_from_is_err_and}
+use Rattle.std.specs.Prelude.{◌≢◌, IfErr, IfOk, IfSome, OnOk, slice_index}
+use Rattle.std.proofs.lemmas.Result.{IfErr-weaker, err_from_is_err_and, on_err_weaker, on_ok_weaker}
 use Rattle.dg_disk.specs.Image.{IsLengthOf}
 use Rattle.dg_index.specs.IndexGrowth.{columns_in, name_total}
 use Rattle.dg_index.specs.OpenedIndex.{Opening, opening, keys_next, event_total, earliest_in, first_in, last_list, list_bytes_max, may_be_listed, may_follow}
@@ -9,13 +9,13 @@ use Rattle.dg_history.specs.declared.node.Key.{Key}
 use Rattle.dg_file.specs.declared.lengths.Lengths.{Lengths}
 use Rattle.dg_file.specs.Directories.{FindsDirectory, directory_due}
 use Rattle.dg_file.specs.Headers.{Misses, IsOpenedSoFar}
-use Rattle.dg_index.specs.ImageText.{is_within}
+use Rattle.dg_index.specs.ImageText.{eight_at, is_within}
 use Rattle.dg_file.specs.Index.{IndexState, opening_bytes}
 use Rattle.dg_file.specs.Images.{RefusesOpening}
 use Rattle.dg_index.specs.declared.entry.BatchEntry.{BatchEntry}
 use Rattle.dg_file.specs.Invariant.{with_rows}
 use Rattle.dg_file.proofs.ImageParts.{fit_facts, range_within}
-use Rattle.dg_file.proofs.HeaderSegments.{outside, broken, next_on, taken_next}
+use Rattle.dg_file.proofs.HeaderSegments.{outside, broken, marked_so_far, marked_taken, marks_narrow, next_on, no_events, taken_next}
 use Rattle.dg_file.proofs.InvariantBatches.{bytes_with}
 use Rattle.dg_file.proofs.GrowthMoves.{on_err_any}
 use Rattle.dg_disk.proofs.FrameLemmas.{reads_then}
@@ -47,7 +47,7 @@ returns-in_err-found-clause-refused g c =
     let h : Lengths = c.in_ok-lengths.lengths in
     let same : c.self.inside.used ≡ o.used = ap (λ (v : IndexState). v.opening.used) c.self.view_is in
     let misses = subst (λ y. IfSome y (λ image. Misses o.used (directory_due (record { index = o; names = c.args.names.now }) h.columns (take h.directory (drop (o.used + 16) image)) ≡ None) c.in_err-found.field-0.0)) c.read_lengths.ensures.frame.same_image c.in_err-found.ensures.refused in
-    let rest : IfSome x (λ image. RefusesOpening c.in_err-found.field-0.0 (opening image)) = broken x o c.args.names.now c.self.inside.used h c.in_err-found.field-0.0 same c.requires.so_far c.in_ok-lengths.ensures.lengths misses in
+    let rest : IfSome x (λ image. RefusesOpening c.in_err-found.field-0.0 (opening image)) = broken x o c.args.names.now c.self.inside.used h c.in_err-found.field-0.0 same (sym c.may_be_marked.ensures ∙ c.if-may_be_marked.false) c.requires.so_far c.in_ok-lengths.ensures.lengths misses in
     let p = err_from_is_err_and c.from_residual-in_err-found.result c.from_residual-in_err-found.ensures.1 in
     rw (p.1, p.2) rest
 
@@ -99,7 +99,7 @@ returns-clause-so_far g c =
     let gate : IfSome x (λ image. c.in_ok-gate.gate ≡ slice_index image (offset + 16 + h.directory + h.columns)) = subst (λ y. IfSome y (λ image. c.in_ok-gate.gate ≡ slice_index image (offset + 16 + h.directory + h.columns))) (c.read_found.ensures.frame.same_image ∙ c.read_lengths.ensures.frame.same_image) c.in_ok-gate.ensures.byte in
     let new : c.note.new.self.opening ≡ with_rows o c.in_ok-found.found.batch c.in_ok-found.found.rows.items (offset + 16 + h.directory) (offset + 16 + h.directory + h.columns + 1) = c.note.ensures ∙ (λ i. with_rows (c.reserve.ensures.same i) c.in_ok-found.found.batch (c.deref-2.ensures.value i) (offset + 16 + h.directory) (offset + 16 + h.directory + h.columns + 1)) in
     subst (λ (n : Opening). IfSome x (λ image. IsOpenedSoFar image n c.read_found.new.names c.in_ok-gate.gate)) (sym new)
-    (next_on x o c.args.names.now c.read_found.new.names offset c.args.len c.in_ok-gate.gate h finds.bytes c.in_ok-found.found same c.in_ok-lengths.ensures.fit c.requires.so_far c.requires.len l t takes gate)
+    (next_on x o c.args.names.now c.read_found.new.names offset c.args.len c.in_ok-gate.gate h finds.bytes c.in_ok-found.found same (sym c.may_be_marked.ensures ∙ c.if-may_be_marked.false) c.in_ok-lengths.ensures.fit c.requires.so_far c.requires.len l t takes gate)
 
 pub returns-clause-taken : goal.returns-clause-taken
 returns-clause-taken g c = λ n start.
@@ -249,3 +249,98 @@ returns-in_err-reserve-clause-stays g c =
     on_err_any c.from_residual-in_err-reserve.result
     (stays_in_segment (g.D.Disk.image c.args.disk.now) o c.args.names.now c.self.inside.used h (g.D.Disk.taken c.args.disk.now) (g.D.Disk.taken c.read_byte.new.disk) sound same c.requires.so_far c.in_ok-lengths.ensures.lengths
     (behind_reads h.directory (g.D.Disk.taken c.args.disk.now) (g.D.Disk.taken c.read_lengths.new.disk) (g.D.Disk.taken c.read_found.new.disk) (g.D.Disk.taken c.read_byte.new.disk) c.in_ok-lengths.ensures.taken c.in_ok-found.ensures.taken c.in_ok-gate.ensures.taken))
+
+-- ---- behind a marker
+
+pub read_marker-requires-clause-narrow : goal.read_marker-requires-clause-narrow
+read_marker-requires-clause-narrow g c = (marks_narrow c.args.self.now.opening c.in_ok-lengths.lengths (sym c.may_be_marked.ensures ∙ c.if-may_be_marked.true)).0
+
+pub read_marker-requires-clause-there : goal.read_marker-requires-clause-there
+read_marker-requires-clause-there g c =
+    let h : Lengths = c.in_ok-lengths.lengths in
+    let same : c.self.inside.used ≡ c.args.self.now.opening.used = ap (λ (v : IndexState). v.opening.used) c.self.view_is in
+    let f = fit_facts c.self.inside.used c.args.len h c.in_ok-lengths.ensures.fit in
+    let m = marks_narrow c.args.self.now.opening h (sym c.may_be_marked.ensures ∙ c.if-may_be_marked.true) in
+    range_within _ _ 9 c.args.len (omega (arith, f, same, m)) (subst (λ x. IsLengthOf x c.args.len) (sym c.read_lengths.ensures.frame.same_image) c.requires.len)
+
+pub read_marker-requires-clause-within : goal.read_marker-requires-clause-within
+read_marker-requires-clause-within g c =
+    let h : Lengths = c.in_ok-lengths.lengths in
+    let same : c.self.inside.used ≡ c.args.self.now.opening.used = ap (λ (v : IndexState). v.opening.used) c.self.view_is in
+    let f = fit_facts c.self.inside.used c.args.len h c.in_ok-lengths.ensures.fit in
+    let m = marks_narrow c.args.self.now.opening h (sym c.may_be_marked.ensures ∙ c.if-may_be_marked.true) in
+    omega (arith, f, same, m)
+
+pub returns-then-may_be_marked-clause-so_far : goal.returns-then-may_be_marked-clause-so_far
+returns-then-may_be_marked-clause-so_far g c =
+    let x = g.D.Disk.image c.args.disk.now in
+    let o : Opening = c.args.self.now.opening in
+    let h : Lengths = c.in_ok-lengths.lengths in
+    let same : c.self.inside.used ≡ o.used = ap (λ (v : IndexState). v.opening.used) c.self.view_is in
+    let told = c.read_lengths.ensures.frame.same_image in
+    marked_so_far c.read_marker.result x o c.read_marker.new.self.opening c.args.names.now c.self.inside.used c.args.len h same (sym c.may_be_marked.ensures ∙ c.if-may_be_marked.true) c.in_ok-lengths.ensures.fit c.requires.so_far c.requires.len c.in_ok-lengths.ensures.lengths
+    c.read_marker.ensures.upgraded (subst (λ y. OnOk c.read_marker.result (IfSome y (λ image. eight_at image (o.used + 16) ≡ 0))) told c.read_marker.ensures.zero)
+    (subst (λ y. IfOk c.read_marker.result (λ gate. IfSome y (λ image. gate ≡ slice_index image (o.used + 24)))) told c.read_marker.ensures.gate)
+
+pub returns-then-may_be_marked-clause-within : goal.returns-then-may_be_marked-clause-within
+returns-then-may_be_marked-clause-within g c =
+    let h : Lengths = c.in_ok-lengths.lengths in
+    let same : c.self.inside.used ≡ c.args.self.now.opening.used = ap (λ (v : IndexState). v.opening.used) c.self.view_is in
+    let f = fit_facts c.self.inside.used c.args.len h c.in_ok-lengths.ensures.fit in
+    let m = marks_narrow c.args.self.now.opening h (sym c.may_be_marked.ensures ∙ c.if-may_be_marked.true) in
+    on_ok_weaker c.read_marker.result (λ upgraded. omega (arith, f, same, m, ap (λ (o : Opening). o.used) upgraded)) c.read_marker.ensures.upgraded
+
+pub returns-then-may_be_marked-clause-progress : goal.returns-then-may_be_marked-clause-progress
+returns-then-may_be_marked-clause-progress g c =
+    on_ok_weaker c.read_marker.result (λ upgraded. omega (arith, ap (λ (o : Opening). o.used) upgraded)) c.read_marker.ensures.upgraded
+
+pub returns-then-may_be_marked-clause-counted_names : goal.returns-then-may_be_marked-clause-counted_names
+returns-then-may_be_marked-clause-counted_names g c =
+    on_ok_weaker c.read_marker.result (λ upgraded. c.requires.counted_names ∙ ap (λ (o : Opening). name_total o.batches) (sym upgraded)) c.read_marker.ensures.upgraded
+
+pub returns-then-may_be_marked-clause-taken : goal.returns-then-may_be_marked-clause-taken
+returns-then-may_be_marked-clause-taken g c =
+    let o : Opening = c.args.self.now.opening in
+    let start : ℕ = g.D.Disk.taken c.args.disk.now in
+    let sound : columns_in o.records + 18 ≤ o.used = subst (λ (v : IndexState). columns_in v.opening.records + 18 ≤ v.opening.used) c.self.view_is c.self.invariant.bytes in
+    marked_taken c.read_marker.result o c.read_marker.new.self.opening start (g.D.Disk.taken c.read_lengths.new.disk) (g.D.Disk.taken c.read_marker.new.disk) sound c.in_ok-lengths.ensures.taken c.read_marker.ensures.upgraded c.read_marker.ensures.taken
+
+pub returns-then-may_be_marked-clause-refused : goal.returns-then-may_be_marked-clause-refused
+returns-then-may_be_marked-clause-refused g c =
+    let x = g.D.Disk.image c.args.disk.now in
+    let o : Opening = c.args.self.now.opening in
+    let h : Lengths = c.in_ok-lengths.lengths in
+    let same : c.self.inside.used ≡ o.used = ap (λ (v : IndexState). v.opening.used) c.self.view_is in
+    let m = marks_narrow o h (sym c.may_be_marked.ensures ∙ c.if-may_be_marked.true) in
+    let misses = subst (λ y. IfErr c.read_marker.result (λ fault. IfSome y (λ image. Misses o.used (eight_at image (o.used + 16) ≢ 0) fault))) c.read_lengths.ensures.frame.same_image c.read_marker.ensures.refused in
+    IfErr-weaker c.read_marker.result (λ fault. IfSome x (λ image. Misses o.used (eight_at image (o.used + 16) ≢ 0) fault)) (λ fault. IfSome x (λ image. RefusesOpening fault (opening image)))
+    (λ fault e. no_events x o c.args.names.now c.self.inside.used h fault same m.1 c.requires.so_far c.in_ok-lengths.ensures.lengths e) misses
+
+pub returns-then-may_be_marked-clause-bounded : goal.returns-then-may_be_marked-clause-bounded
+returns-then-may_be_marked-clause-bounded g c =
+    let o : Opening = c.args.self.now.opening in
+    let offset : ℕ = c.self.inside.used in
+    let len : ℕ = c.args.len in
+    let start : ℕ = g.D.Disk.taken c.args.disk.now in
+    let same : offset ≡ o.used = ap (λ (v : IndexState). v.opening.used) c.self.view_is in
+    let h : Lengths = c.in_ok-lengths.lengths in
+    let f = fit_facts offset len h c.in_ok-lengths.ensures.fit in
+    let m = marks_narrow o h (sym c.may_be_marked.ensures ∙ c.if-may_be_marked.true) in
+    on_err_weaker c.read_marker.result
+    (λ most t s. directory_most o offset h.directory h.columns len t start (g.D.Disk.taken c.read_lengths.new.disk) (g.D.Disk.taken c.read_marker.new.disk) same f.0 c.in_ok-lengths.ensures.taken (omega (arith, most, m)) s)
+    c.read_marker.ensures.bounded
+
+pub returns-then-may_be_marked-clause-stays : goal.returns-then-may_be_marked-clause-stays
+returns-then-may_be_marked-clause-stays g c =
+    let o : Opening = c.args.self.now.opening in
+    let h : Lengths = c.in_ok-lengths.lengths in
+    let same : c.self.inside.used ≡ o.used = ap (λ (v : IndexState). v.opening.used) c.self.view_is in
+    let sound : columns_in o.records + 18 ≤ o.used = subst (λ (v : IndexState). columns_in v.opening.records + 18 ≤ v.opening.used) c.self.view_is c.self.invariant.bytes in
+    let m = marks_narrow o h (sym c.may_be_marked.ensures ∙ c.if-may_be_marked.true) in
+    on_err_weaker c.read_marker.result
+    (λ most. stays_in_segment (g.D.Disk.image c.args.disk.now) o c.args.names.now c.self.inside.used h (g.D.Disk.taken c.args.disk.now) (g.D.Disk.taken c.read_marker.new.disk) sound same c.requires.so_far c.in_ok-lengths.ensures.lengths
+    (found_reads h.directory (g.D.Disk.taken c.args.disk.now) (g.D.Disk.taken c.read_lengths.new.disk) (g.D.Disk.taken c.read_marker.new.disk) c.in_ok-lengths.ensures.taken (omega (arith, most, m))))
+    c.read_marker.ensures.bounded
+
+pub returns-then-may_be_marked-clause-frame : goal.returns-then-may_be_marked-clause-frame
+returns-then-may_be_marked-clause-frame g c = reads_then c.read_lengths.ensures.frame c.read_marker.ensures.frame

@@ -7,7 +7,7 @@ use Rattle.dg_segment.proofs.records.Records.push.Goals as goal
 
 pub invariant_of-self-2 : goal.invariant_of-self-2
 invariant_of-self-2 c =
-    let r : StoredRecord = record { ends = c.args.ends; columns = record { structure = c.args.structure.now; node_attrs = c.args.node_attrs.now; edge_attrs = c.args.edge_attrs.now } } in
+    let r : StoredRecord = record { ends = c.args.ends; columns = record { structure = c.args.structure.now; node_attrs = c.args.node_attrs.now; edge_attrs = c.args.edge_attrs.now; transient = c.args.transient.now } } in
     let room : vec_len c.reserve.new.self < vec_capacity c.reserve.new.self = omega (arith, c.in_ok-reserve.ensures.ok) in
     packed_more c.self.inside.rows.items c.self.inside.columns.items r _ _ c.self.invariant
     (c.push.ensures.items ∙ (λ i. cond (c.push.ensures.succeeds room i) (c.reserve.ensures.items i ++ stored_row r ∷ []) (c.reserve.ensures.items i)))
@@ -16,7 +16,7 @@ invariant_of-self-2 c =
 
 pub returns-clause-ok : goal.returns-clause-ok
 returns-clause-ok c =
-    let r : StoredRecord = record { ends = c.args.ends; columns = record { structure = c.args.structure.now; node_attrs = c.args.node_attrs.now; edge_attrs = c.args.edge_attrs.now } } in
+    let r : StoredRecord = record { ends = c.args.ends; columns = record { structure = c.args.structure.now; node_attrs = c.args.node_attrs.now; edge_attrs = c.args.edge_attrs.now; transient = c.args.transient.now } } in
     let room : vec_len c.reserve.new.self < vec_capacity c.reserve.new.self = omega (arith, c.in_ok-reserve.ensures.ok) in
     unpacked_more c.self.inside.rows.items c.self.inside.columns.items r _ _ c.self.invariant
     (c.push.ensures.items ∙ (λ i. cond (c.push.ensures.succeeds room i) (c.reserve.ensures.items i ++ stored_row r ∷ []) (c.reserve.ensures.items i)))
