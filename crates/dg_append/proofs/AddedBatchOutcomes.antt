@@ -31,7 +31,7 @@ use Rattle.dg_graph.specs.ExactEvents.{AreChangesOf}
 use Rattle.dg_graph.specs.Replay.{replay_from}
 use Rattle.dg_history.specs.declared.node.NodeId.TheVariants.{Root}
 use Rattle.dg_history.specs.History.{Batch as BatchOf, History, events_of, last_time_from, with_batch}
-use Rattle.dg_history.specs.LegalHistory.{IsLegal}
+use Rattle.dg_history.specs.LegalHistory.{IsLegal, are_silent}
 use Rattle.dg_index.specs.FileOfHistory.{Segment, segment_of}
 use Rattle.dg_index.specs.ImageOfHistory.{IsImageOf}
 use Rattle.dg_index.specs.IndexGrowth.{index_with}
@@ -165,6 +165,7 @@ module _ (o : Opening) (batch : Batch) (h : StoredHistory) (graph : List Element
     fit = subst (λ (es : List Event). All (λ (e : Event). NamesFit e.body) es) (sym n.events_are) (events_fit (length h.names) events p.few_names p.there);
     set = subst IsSet (sym graph_is) set;
     changes = subst (λ (x : List Element × List Event). AreChangesOf x.0 x.1) (let e : (h.now.graph, events) ≡ (graph, next.events.now) = λ i. (sym graph_is i, sym n.events_are i) in e) p.changes_are;
+    silent = λ narrow. ap are_silent n.events_are ∙ p.silent narrow;
   }
 
 -- the index that is told of is this one

@@ -1,8 +1,9 @@
 -- What is kept of a history, over an image that stands for it.
-use Rattle.std.proofs.Common.{◌≡◌, ℕ, slice_get, ◌≤◌, List as ListOf, [], ◌∷◌, ◌++◌, Option, Some, None, Result, Ok, Err, length, drop, map, min, inl, inr, sym, ◌∙◌, ap, subst, arith, length-take}
+use Rattle.std.proofs.Common.{◌≡◌, ℕ, slice_get, ◌≤◌, true, false, List as ListOf, [], ◌∷◌, ◌++◌, Option, Some, None, Result, Ok, Err, length, take, drop, map, min, inl, inr, refl, sym, ◌∙◌, ap, subst, arith, length-take}
 use Rattle.std.specs.Prelude.{IfErr, IfOk, IfSome}
 use Rattle.std.specs.Global.{Vec}
-use Rattle.std.specs.List.{Contains, sum}
+use Rattle.std.specs.List.{Contains, flat_map, sum}
+use Rattle.std.proofs.lemmas.Bool.{false≢true}
 use Rattle.std.proofs.lemmas.List.Elements.{Contains-get_or}
 use Rattle.std.proofs.lemmas.Option.{get_or_from_slice_get, same_Some, slice_get_within}
 use Rattle.dg_append.proofs.OlderChildSteps.{leaf_led}
@@ -31,11 +32,15 @@ use Rattle.dg_history.specs.declared.node.Key.{Key}
 use Rattle.dg_history.specs.declared.node.NodeId.{NodeId}
 use Rattle.dg_history.specs.declared.node.NodeId.TheVariants.{Root}
 use Rattle.dg_history.specs.declared.params.Params.{Params}
-use Rattle.dg_history.specs.History.{Batch, History, events_of}
+use Rattle.dg_history.specs.declared.form.Form.{Form}
+use Rattle.dg_history.specs.declared.form.Form.TheVariants as form
+use Rattle.dg_history.specs.History.{Batch, History, events_of, is_wide, narrow_batches}
+use Rattle.dg_history.specs.LegalHistory.{are_silent}
 use Rattle.dg_index.specs.FileOfHistory.{Segment, segment_of}
 use Rattle.dg_index.specs.Hierarchy.{leaves, set_of}
 use Rattle.dg_index.specs.IndexRecords.{recent_of}
-use Rattle.dg_index.specs.OpenedIndex.{Opening, event_total, opened_of}
+use Rattle.dg_index.specs.OpenedIndex.{Opened, Opening, bare, event_total, opened_in, opened_of, opened_onto, with_marker, with_segment}
+use Rattle.dg_index.proofs.UnheardRecords.{silent_append}
 use Rattle.dg_plan.specs.IndexGraph.{arcs_of}
 use Rattle.dg_plan.specs.Walks.{AreSingles}
 use Rattle.dg_retrieval.specs.KeptGraph.{record_edges}
@@ -44,6 +49,26 @@ use Rattle.dg_retrieval.specs.declared.fault.RetrievalFault.TheVariants as retri
 use Rattle.dg_retrieval.specs.Retrieval.{IsNoDamage}
 use Rattle.dg_retrieval.specs.NodeSets.{IsIndexOver}
 use Rattle.dg_retrieval.proofs.KeptGraphWeights.{opened_events, opened_params}
+
+-- ---- the form
+
+-- segments do not change it
+form_onto : (p : Params) (x : Opened) (before : ListOf Event) (batches : ListOf Batch) → (opened_onto p x before batches).index.form ≡ x.index.form
+form_onto p x before [] = refl
+form_onto p x before (b ∷ batches) = form_onto p (with_segment x (segment_of p before b)) (before ++ b.events) batches
+
+wide_in : (f : Form) (p : Params) (batches : ListOf Batch) → is_wide (opened_in f p batches).index.form ≡ is_wide f
+wide_in form.One p batches = ap is_wide (form_onto p (bare form.One p) [] batches)
+wide_in (form.Upgraded b) p batches =
+    ap is_wide (form_onto p (with_marker (opened_onto p (bare form.One p) [] (take b batches))) (flat_map (λ (b : Batch). b.events) (take b batches)) (drop b batches))
+wide_in form.Two p batches = ap is_wide (form_onto p (bare form.Two p) [] batches)
+
+-- in the first form no event of a history is a message
+all_silent : (f : Form) (batches : ListOf Batch) → are_silent (flat_map (λ (b : Batch). b.events) (narrow_batches f batches)) ≡ true → is_wide f ≡ false
+    → are_silent (flat_map (λ (b : Batch). b.events) batches) ≡ true
+all_silent form.One batches silent narrow = silent
+all_silent (form.Upgraded b) batches silent narrow = absurd (false≢true (sym narrow))
+all_silent form.Two batches silent narrow = absurd (false≢true (sym narrow))
 
 changes_joined : (set : ListOf Element) (xs ys : ListOf Event) → AreChangesOf set xs → AreChangesOf (replay_from set xs) ys → AreChangesOf set (xs ++ ys)
 changes_joined set [] ys first more = more
@@ -77,14 +102,20 @@ module _ (z : History) (image : ListOf ℕ) (o : Opening) (next : NextBatch) (gr
   long : event_total o.batches ≡ length (events_of z)
   long = ap (λ (x : Opening). event_total x.batches) opened ∙ opened_events z
 
-  pub past_is : (steps : ListOf Delta) → AreChangesOf graph next.events.now → AreRead o next z steps → IsPast o (events_of z) next.recent.now graph next.events.now steps
-  past_is steps changes are = record {
+  narrow_silent : is_wide o.form ≡ false → are_silent (events_of z) ≡ true
+  narrow_silent narrow =
+      all_silent z.form z.batches is.0.legal.silent (sym (ap (λ (x : Opening). is_wide x.form) opened ∙ wide_in z.form z.params z.batches) ∙ narrow)
+
+  pub past_is : (steps : ListOf Delta) → AreChangesOf graph next.events.now → (is_wide o.form ≡ false → are_silent next.events.now ≡ true) → AreRead o next z steps
+      → IsPast o (events_of z) next.recent.now graph next.events.now steps
+  past_is steps changes silent are = record {
     long = sym long;
     recent_is = is.1.recent_are ∙ ap (λ (p : Params). recent_of p (events_of z)) (sym params);
     graph_is = is.1.graph_is;
     changes = changes_joined [] (events_of z) next.events.now (legal_is_indexed z is.0.legal).0.changes (subst (λ (set : ListOf Element). AreChangesOf set next.events.now) is.1.graph_is changes);
     steps_are = are
         ∙ (λ i. steps_to (map (set_of (sym params i) (events_of z)) (older_in_time o.params.k (leaves o.params (long i)) (leaves_after o (length next.events.now)))) (last_leaf (sym params i) (events_of z)));
+    silent = λ narrow. silent_append (events_of z) next.events.now (narrow_silent narrow) (silent narrow);
   }
 
   -- the current graph, led back over the recent events, is the last leaf
@@ -124,7 +155,7 @@ module _ (told : Option (ListOf ℕ)) (o other : Opening) (next : NextBatch) (gr
   past_given : (z : History) (image : ListOf ℕ) → StandsForKept z image o next graph → AreRead o next z steps → IsPast other (events_of z) next.recent.now graph events given
   past_given z image is steps_are =
       subst (λ (x : Opening). IsPast x (events_of z) next.recent.now graph events given) (sym index)
-      (past_is z image o next graph is given n.changes (taken ∙ steps_are))
+      (past_is z image o next graph is given n.changes n.silent (taken ∙ steps_are))
 
   abbrev Made : Segment → Type 0
   Made s = (past : ListOf Event) → IsPast other past next.recent.now graph events given → s ≡ segment_of other.params past (batch_with next.known next.names.now events)

@@ -17,7 +17,7 @@ use Rattle.dg_history.specs.declared.limits.TheConstants.{BATCH_LINES_MAX, EVENT
 use Rattle.dg_history.specs.declared.node.Key.{Key}
 use Rattle.dg_history.specs.declared.node.Key.TheVariants as key
 use Rattle.dg_history.specs.EventTimes.{RisesFrom}
-use Rattle.dg_history.specs.History.{first_time_of, last_time_from}
+use Rattle.dg_history.specs.History.{first_time_of, is_wide, last_time_from}
 use Rattle.dg_history.proofs.EventTimes.{rises_join, rises_last}
 use Rattle.dg_index.specs.declared.entry.BatchEntry.{BatchEntry}
 use Rattle.dg_index.specs.declared.entry.Row.{Row}
@@ -43,7 +43,7 @@ rows_more : (t : ℕ) (xs ys : List Row) → last_in_rows t (xs ++ ys) ≡ last_
 rows_more t [] ys = refl
 rows_more t (x ∷ xs) ys = rows_more (last_or t x.ends) xs ys
 
-no_times : (t : ℕ) (deltas : List Stored) (piece : Row) → piece.ends ≡ (record_row (record { structure = []; node_attrs = []; edge_attrs = [] })).ends → last_in_rows t (map record_row deltas ++ piece ∷ []) ≡ t
+no_times : (t : ℕ) (deltas : List Stored) (piece : Row) → piece.ends ≡ (record_row (record { structure = []; node_attrs = []; edge_attrs = []; transient = [] })).ends → last_in_rows t (map record_row deltas ++ piece ∷ []) ≡ t
 no_times t [] piece none = ap (last_or t) none
 no_times t (d ∷ deltas) piece none = no_times t deltas piece none
 
@@ -104,6 +104,8 @@ module _ (o : Opening) (recent events : List Event) (m : MayFollow o recent even
           (le-leb (earliest_in 0 o.batches) s.first (omega (arith, b.first_is, m.early))) (le-leb s.first s.last (omega (arith, b.first_is, b.last_is, m.later))) (le-leb s.last TIME_MAX (omega (arith, b.last_is, m.last)));
       few_names = omega (arith, few, ap length b.names_are);
       listed = (λ i. may_be_listed (list_bytes_max o.params.l) (floor_of o (b.first_is i)) (b.last_is i) (map list_row s.lists)) ∙ b.listed;
+      deltas_unheard = b.deltas_unheard;
+      unheard = b.unheard;
     }
 
     new_events : event_total (index_with o s).batches ≡ event_total o.batches + length events
@@ -128,7 +130,7 @@ module _ (o : Opening) (recent events : List Event) (m : MayFollow o recent even
     -- the new floor is the end of the last of the lists
     pub new_floor : (t : ℕ) → floor_of (index_with o s) t ≡ last_in_rows (floor_of o (first_time_of events)) (map list_row s.lists)
     new_floor t =
-        let offset : ℕ = o.used + 16 + length (directory s) in
+        let offset : ℕ = o.used + 16 + length (directory (is_wide o.form) s) in
         last_list_more (first_in t (o.batches ++ (directory_of s).batch ∷ [])) o.records (laid offset (keys_next o s.events) (rows_in (directory_of s)))
         ∙ (λ i. last_list (last_list ((first_more t o.batches (directory_of s).batch ∙ ap (λ n. first_in n o.batches) b.first_is) i) o.records) (laid offset (keys_next o s.events) (rows_in (directory_of s))))
         ∙ last_laid (floor_of o (first_time_of events)) offset (keys_next o s.events) (rows_in (directory_of s))

@@ -1,5 +1,5 @@
 -- The parts of which the segment of a batch is made.
-use Rattle.std.proofs.Common.{◌≡◌, ℕ, ◌+◌, ◌-◌, ◌*◌, ◌≤◌, true, List, ◌++◌, length, map, sym, ap, subst, ◌∙◌, drop, mul_comm}
+use Rattle.std.proofs.Common.{◌≡◌, ℕ, ◌+◌, ◌-◌, ◌*◌, ◌≤◌, Bool, true, false, List, [], ◌∷◌, ◌++◌, length, map, refl, sym, ap, subst, ◌∙◌, drop, mul_comm}
 use Rattle.std.proofs.Math.Nat.{mul-sub}
 use Rattle.dg_append.proofs.HistoryTimes.{begins_after, last_of_both}
 use Rattle.dg_append.specs.AddedBatches.{recent_behind}
@@ -7,7 +7,7 @@ use Rattle.dg_append.specs.BatchSegments.{BeginsBehind, IsPast}
 use Rattle.dg_append.specs.OlderGroups.{leaves_after, leaves_before}
 use Rattle.dg_build.specs.GivenDeltas.{AreGiven, gone_back, taken_back}
 use Rattle.dg_build.specs.OlderSteps.{AreOlderSteps, IsTopDue, older_in_time}
-use Rattle.dg_build.specs.SpelledRecords.{last_in_rows}
+use Rattle.dg_build.specs.SpelledRecords.{last_in_rows, written_list, written_segment}
 use Rattle.dg_graph.specs.Composition.{Delta}
 use Rattle.dg_graph.specs.declared.element.Element.{Element}
 use Rattle.dg_graph.specs.declared.event.Event.{Event}
@@ -17,10 +17,11 @@ use Rattle.dg_history.specs.EventTimes.{RisesFrom}
 use Rattle.dg_history.specs.History.{are_parameters, last_time_from}
 use Rattle.dg_history.proofs.ParameterRanges.{InRange, in_range}
 use Rattle.dg_index.specs.declared.entry.Row.{Row}
-use Rattle.dg_index.specs.FileOfHistory.{StoredList}
+use Rattle.dg_index.specs.FileOfHistory.{Segment, StoredList, stored_in}
 use Rattle.dg_index.specs.Hierarchy.{leaves}
 use Rattle.dg_index.specs.IndexRecords.{deltas_due, recent_of}
-use Rattle.dg_index.specs.OpenedIndex.{Opening, delta_count, event_total, list_count, list_row, may_be_listed}
+use Rattle.dg_index.specs.OpenedIndex.{AreUnheard, Opening, delta_count, event_total, list_count, list_row, may_be_listed}
+use Rattle.dg_index.proofs.UnheardRecords.{unheard_parts}
 use Rattle.dg_start.specs.StoredHistory.{recent_count}
 
 pub less_times : (a b n : ℕ) → (a - b) * n ≡ a * n - b * n
@@ -87,3 +88,18 @@ module _ (o : Opening) (p : Params) (before : ℕ) (params : p ≡ o.params) (co
 -- the last time of the recent events and those behind them is that of these
 pub listed_by : (most floor : ℕ) (recent events : List Event) (rows : List Row) → 1 ≤ length events → may_be_listed most floor (last_time_from floor (recent ++ events)) rows ≡ true → may_be_listed most floor (last_time_from 0 events) rows ≡ true
 listed_by most floor recent events rows some may = ap (λ t. may_be_listed most floor t rows) (sym (last_of_both floor recent events some)) ∙ may
+
+-- ---- messages
+
+lists_written : (lists : List StoredList) → AreUnheard (map (λ (x : StoredList). x.columns) lists) → map (written_list false) lists ≡ lists
+lists_written [] none = refl
+lists_written (x ∷ lists) none =
+    λ i. record { first = x.first; last = x.last; columns = record x.columns { transient = sym none.0 i } } ∷ lists_written lists none.1 i
+
+-- a segment without messages is written as it is
+pub written_whole : (messages : Bool) (s : Segment) → (messages ≡ false → AreUnheard (stored_in s)) → written_segment messages s ≡ s
+written_whole true s none = refl
+written_whole false s none =
+    let lists = unheard_parts (map (λ (x : StoredList). x.columns) s.lists) (s.deltas ++ s.piece ∷ []) (none refl) in
+    let piece = unheard_parts s.deltas (s.piece ∷ []) lists.1 in
+    λ i. record s { lists = lists_written s.lists lists.0 i; piece = record s.piece { transient = sym piece.1.0 i } }

@@ -1,9 +1,11 @@
--- The names of the events that some changes come to are there, where those of the changes and of the graph are.
-use Rattle.std.proofs.Common.{◌≡◌, ℕ, ◌<◌, ◌≤◌, ◌^◌, Bool, List, [], ◌∷◌, Option, Some, None, Ok, get_or, find, refl, subst, arith}
+-- The names of the events that some changes come to are there, where those of the changes and of the graph are; and
+-- none of the events is a message, where no change sends one.
+use Rattle.std.proofs.Common.{◌≡◌, ℕ, ◌<◌, ◌≤◌, ◌^◌, Bool, true, false, not, List, [], ◌∷◌, Option, Some, None, Ok, get_or, find, refl, sym, ap, subst, arith}
 use Rattle.std.specs.Prelude.{IfSome, option_and_then}
 use Rattle.std.specs.List.{All}
 use Rattle.std.proofs.lemmas.List.Elements.{All-nil, All-cons, All-head, All-tail}
-use Rattle.dg_append.specs.AddedBatches.{WhatHasNamesThere}
+use Rattle.std.proofs.lemmas.Bool.{and_from, false≢true}
+use Rattle.dg_append.specs.AddedBatches.{WhatHasNamesThere, sends}
 use Rattle.dg_columns.specs.NamesInRange.{NamesFit}
 use Rattle.dg_graph.specs.declared.element.Element.{Element}
 use Rattle.dg_graph.specs.declared.element.Element.TheVariants as element
@@ -16,6 +18,7 @@ use Rattle.dg_graph.specs.declared.event.What.TheVariants as what
 use Rattle.dg_graph.specs.Completion.{node_value, edge_value, complete, is_node_value, is_edge_value, value_in}
 use Rattle.dg_graph.specs.Effect.{forwards}
 use Rattle.dg_graph.specs.Elements.{has}
+use Rattle.dg_history.specs.LegalHistory.{are_silent, is_message}
 use Rattle.dg_graph.proofs.Completions.{AllCome, IsCompletion, completion, found_in}
 use Rattle.dg_retrieval.proofs.NamesThere.{forwards_there}
 use Rattle.dg_retrieval.specs.NamesThere.{BodyHasNamesThere, EventNamesAreThere, HasNamesThere, NamesAreThere}
@@ -29,6 +32,7 @@ value_found n p set there = by (find p set) refl
     own (element.Edge id src dst directed) f = tt
     own (element.NodeAttr id key value) f = f.1
     own (element.EdgeAttr id key value) f = f.1
+    own (element.Message src dst value) f = tt
 
     by : (o : Option Element) → find p set ≡ o → IfSome (option_and_then value_in o) (λ v. v < n)
     by None is = tt
@@ -57,6 +61,7 @@ module _ (n : ℕ) where
           so (body.EdgeAttr id key (edge_value set id key) (Some value)) c.0 (names.0, value_found n (is_edge_value id key) set there, names.1)
       by (what.UnsetEdge id key) names c =
           so (body.EdgeAttr id key (Some c.0.value) None) c.0.is (names, taken (is_edge_value id key) c.0.value c.0.found_is, tt)
+      by (what.Message src dst value) names c = so (body.Message src dst value) c.0 names
 
   -- the names of the events of changes over a graph are there, where those of the changes and of the graph are
   pub events_there : (earliest : ℕ) (set : List Element) (changes : List (Option Change)) (events : List Event)
@@ -82,6 +87,34 @@ body_fits n (body.EdgeAdded id src dst directed) few f = tt
 body_fits n (body.EdgeRemoved id src dst directed) few f = tt
 body_fits n (body.NodeAttr id key old new) few f = (omega (arith, few, f.0), value_fits n old few f.1, value_fits n new few f.2)
 body_fits n (body.EdgeAttr id key old new) few f = (omega (arith, few, f.0), value_fits n old few f.1, value_fits n new few f.2)
+body_fits n (body.Message src dst value) few f = tt
 
 pub events_fit : (n : ℕ) (events : List Event) → n ≤ 2 ^ 30 → EventNamesAreThere n events → All (λ (e : Event). NamesFit e.body) events
 events_fit n events few there k d lt = body_fits n (get_or events k d).body few (there k d lt)
+
+-- ---- messages
+
+-- a change that sends none comes to none
+what_silent : (w : What) (set : List Element) (b : Body) → sends w ≡ false → IsCompletion w set b → not (is_message b) ≡ true
+what_silent (what.AddNode id) set b silent c = ap (λ (x : Body). not (is_message x)) (sym c.0)
+what_silent (what.RemoveNode id) set b silent c = ap (λ (x : Body). not (is_message x)) (sym c.0)
+what_silent (what.AddEdge id src dst directed) set b silent c = ap (λ (x : Body). not (is_message x)) (sym c.0)
+what_silent (what.RemoveEdge id) set b silent c = ap (λ (x : Body). not (is_message x)) (sym c.is)
+what_silent (what.SetNode id key value) set b silent c = ap (λ (x : Body). not (is_message x)) (sym c.0)
+what_silent (what.UnsetNode id key) set b silent c = ap (λ (x : Body). not (is_message x)) (sym c.0.is)
+what_silent (what.SetEdge id key value) set b silent c = ap (λ (x : Body). not (is_message x)) (sym c.0)
+what_silent (what.UnsetEdge id key) set b silent c = ap (λ (x : Body). not (is_message x)) (sym c.0.is)
+what_silent (what.Message src dst value) set b silent c = absurd (false≢true (sym silent))
+
+abbrev IsSilentLine : Option Change → Type 0
+IsSilentLine c = IfSome c (λ (c : Change). sends c.what ≡ false)
+
+pub events_silent : (earliest : ℕ) (set : List Element) (changes : List (Option Change)) (events : List Event)
+    → AllCome earliest set changes events → All IsSilentLine changes → are_silent events ≡ true
+events_silent earliest set [] [] h f = refl
+events_silent earliest set [] (e ∷ events) h f = absurd h
+events_silent earliest set (None ∷ changes) events h f = absurd h
+events_silent earliest set (Some c ∷ changes) [] h f = absurd h
+events_silent earliest set (Some c ∷ changes) (e ∷ events) h f =
+    and_from (not (is_message e.body)) _ (what_silent c.what set e.body (All-head IsSilentLine (Some c) changes f) (completion c.what set e.body h.0.body))
+    (events_silent e.time (forwards set e) changes events h.1 (All-tail IsSilentLine (Some c) changes f))

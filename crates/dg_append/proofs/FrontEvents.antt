@@ -1,12 +1,12 @@
 -- What holds of the events that the changes of a next batch come to.
-use Rattle.std.proofs.Common.{◌≡◌, ℕ, ◌+◌, ◌<◌, ◌≤◌, ◌^◌, true, List, [], ◌∷◌, Option, Some, None, Ok, length, take, drop, refl, sym, ◌∙◌, ap, subst, nat_le, arith, get_or, length-append}
+use Rattle.std.proofs.Common.{◌≡◌, ℕ, ◌+◌, ◌<◌, ◌≤◌, ◌^◌, true, false, List, [], ◌∷◌, Option, Some, None, Ok, length, take, drop, refl, sym, ◌∙◌, ap, subst, nat_le, arith, get_or, length-append}
 use Rattle.std.specs.Prelude.{IfSome}
 use Rattle.std.specs.List.{All}
 use Rattle.std.proofs.lemmas.List.{length-map, take-append-drop}
 use Rattle.std.proofs.lemmas.List.Elements.{All-nil, All-cons, All-head, All-tail}
 use Rattle.std.proofs.lemmas.Bool.{and_parts, leb-true}
-use Rattle.dg_append.proofs.CompletedChanges.{events_there}
-use Rattle.dg_append.specs.AddedBatches.{ComesToSegment, IsReady, IsSegmentOver, WhatHasNamesThere}
+use Rattle.dg_append.proofs.CompletedChanges.{events_silent, events_there}
+use Rattle.dg_append.specs.AddedBatches.{ComesToSegment, IsReady, IsSegmentOver, WhatHasNamesThere, sends}
 use Rattle.dg_append.specs.BatchSegments.{MayFollow}
 use Rattle.dg_append.specs.declared.batch.Batch.{Batch}
 use Rattle.dg_append.specs.declared.front.Front.{Front}
@@ -25,7 +25,8 @@ use Rattle.dg_graph.specs.ExactEvents.{AreChangesOf}
 use Rattle.dg_graph.specs.Graph.{IsGraph}
 use Rattle.dg_text.specs.Names.{are_new}
 use Rattle.dg_graph.proofs.Completions.{AllCome, all_come, as_many, made_come, times_fit}
-use Rattle.dg_history.specs.History.{are_parameters}
+use Rattle.dg_history.specs.History.{are_parameters, is_wide}
+use Rattle.dg_history.specs.LegalHistory.{are_silent}
 use Rattle.dg_history.proofs.EventTimes.{first_and_last, last_in_time, rises_come}
 use Rattle.dg_history.proofs.ParameterRanges.{InRange, in_range}
 use Rattle.dg_index.specs.declared.entry.BatchEntry.{BatchEntry}
@@ -77,6 +78,7 @@ pub record IsPrepared (o : Opening) (batch : Batch) (h : StoredHistory) (events 
   pub changes_are : AreChangesOf h.now.graph events
   pub there : EventNamesAreThere (length h.names) events
   pub few_names : length h.names ≤ 2 ^ 30
+  pub silent : is_wide o.form ≡ false → are_silent events ≡ true
 
 -- there are no more names than a history may have
 pub few_names : (known : ℕ) (names : List (List ℕ)) → may_be_named (take known names) (drop known names) ≡ true → length names ≤ 2 ^ 30
@@ -92,6 +94,7 @@ more_there n m (element.Node id) le f = tt
 more_there n m (element.Edge id src dst directed) le f = tt
 more_there n m (element.NodeAttr id key value) le f = (omega (arith, le, f.0), omega (arith, le, f.1))
 more_there n m (element.EdgeAttr id key value) le f = (omega (arith, le, f.0), omega (arith, le, f.1))
+more_there n m (element.Message src dst value) le f = omega (arith, le, f)
 
 pub more_names : (n m : ℕ) (set : List Element) → n ≤ m → NamesAreThere n set → NamesAreThere m set
 more_names n m set le f x h = more_there n m x le (f x h)
@@ -107,6 +110,7 @@ body_there n m (body.EdgeAdded id src dst directed) le f = tt
 body_there n m (body.EdgeRemoved id src dst directed) le f = tt
 body_there n m (body.NodeAttr id key old new) le f = (omega (arith, le, f.0), value_there n m old le f.1, value_there n m new le f.2)
 body_there n m (body.EdgeAttr id key old new) le f = (omega (arith, le, f.0), value_there n m old le f.1, value_there n m new le f.2)
+body_there n m (body.Message src dst value) le f = omega (arith, le, f)
 
 pub more_event_names : (n m : ℕ) (events : List Event) → n ≤ m → EventNamesAreThere n events → EventNamesAreThere m events
 more_event_names n m events le f k d lt = body_there n m (get_or events k d).body le (f k d lt)
@@ -144,6 +148,7 @@ prepared o batch h events parameters r graph whole comes =
       there = events_there (length h.names) earliest h.now.graph (lines changes) events come (more_names (length (take batch.known h.names)) (length h.names) h.now.graph (known_few batch.known h.names) r.sound.named)
           (on_lines (λ (c : Change). WhatHasNamesThere (length h.names) c.what) changes (r.fit whole));
       few_names = few_names batch.known h.names (r.named whole);
+      silent = λ narrow. events_silent earliest h.now.graph (lines changes) events come (on_lines (λ (c : Change). sends c.what ≡ false) changes (r.silent narrow whole));
     }
 
 pub here : (told : Option Opening) (o : Opening) (P : Opening → Type 0) → told ≡ Some o → P o → IfSome told P

@@ -1,5 +1,5 @@
 -- How the next batch is added to a history.
-use Rattle.std.specs.Prelude.{◌≡◌, ◌⊎◌, ◌+◌, ◌-◌, ◌*◌, ◌<◌, ◌≤◌, ℕ, true, List, [], ◌∷◌, ◌++◌, Option, Some, Result, Ok, Err, IfErr, IfSome, length, take, drop}
+use Rattle.std.specs.Prelude.{◌≡◌, ◌⊎◌, ◌+◌, ◌-◌, ◌*◌, ◌<◌, ◌≤◌, ℕ, Bool, true, false, List, [], ◌∷◌, ◌++◌, Option, Some, Result, Ok, Err, IfErr, IfSome, length, take, drop}
 use Rattle.std.specs.List.{All, sum}
 use Rattle.dg_append.specs.declared.batch.AddedBatch.{AddedBatch}
 use Rattle.dg_append.specs.declared.batch.Batch.{Batch}
@@ -24,7 +24,7 @@ use Rattle.dg_history.specs.declared.limits.TheConstants.{BATCH_LINES_MAX, EVENT
 use Rattle.dg_history.specs.declared.node.Key.{Key}
 use Rattle.dg_history.specs.declared.node.NodeId.TheVariants.{Root}
 use Rattle.dg_history.specs.declared.params.Params.{Params}
-use Rattle.dg_history.specs.History.{Batch as BatchOf, History, events_of, last_time_from, with_batch}
+use Rattle.dg_history.specs.History.{Batch as BatchOf, History, events_of, is_wide, last_time_from, with_batch}
 use Rattle.dg_history.specs.LegalHistory.{IsLegal}
 use Rattle.dg_index.specs.FileOfHistory.{Segment, segment_of}
 use Rattle.dg_index.specs.Hierarchy.{leaves}
@@ -50,9 +50,16 @@ WhatHasNamesThere name_count (what.SetNode id key value) = (key < name_count) ×
 WhatHasNamesThere name_count (what.UnsetNode id key) = key < name_count
 WhatHasNamesThere name_count (what.SetEdge id key value) = (key < name_count) × (value < name_count)
 WhatHasNamesThere name_count (what.UnsetEdge id key) = key < name_count
+WhatHasNamesThere name_count (what.Message src dst value) = value < name_count
+
+-- the change sends a message
+abbrev pub sends : What → Bool
+sends (what.Message src dst value) = true
+sends _ = false
 
 -- The batch may be a next one of this history, which has its names already: there is room for its events, the names
--- behind those that were known may follow them, and its changes name none but these.
+-- behind those that were known may follow them, and its changes name none but these. In a file of the first form none of
+-- its changes sends a message.
 pub record IsReady (o : Opening) (batch : Batch) (h : StoredHistory) : Type 0 where
   pub sound : IsSoundHistory (Some o) (take batch.known h.names) h.now h.recent.items
   pub within : batch.known ≤ length h.names
@@ -62,6 +69,7 @@ pub record IsReady (o : Opening) (batch : Batch) (h : StoredHistory) : Type 0 wh
   pub named : batch.front ≡ Whole → may_be_named (take batch.known h.names) (drop batch.known h.names) ≡ true
   pub fit : batch.front ≡ Whole → All (λ (change : Change). WhatHasNamesThere (length h.names) change.what) batch.changes.items
   pub timed : batch.front ≡ Whole → All (λ (change : Change). change.time ≤ TIME_MAX) batch.changes.items
+  pub silent : is_wide o.form ≡ false → batch.front ≡ Whole → All (λ (change : Change). sends change.what ≡ false) batch.changes.items
 
 -- The history has an index, the batch may be a next one behind it, and the current graph of the pool is that of the history.
 pub record MayAdd (batch : Batch) (l : Live) : Type 0 where

@@ -1,5 +1,5 @@
 -- The segment of a batch as it is made behind an index, over any image, and why it is not made or not kept.
-use Rattle.std.specs.Prelude.{◌≡◌, ◌≤◌, ◌<◌, ◌+◌, ◌++◌, ℕ, true, List as ListOf, [], ◌∷◌, Option, Some, IfSome, length, map, take, drop}
+use Rattle.std.specs.Prelude.{◌≡◌, ◌≤◌, ◌<◌, ◌+◌, ◌++◌, ℕ, true, false, List as ListOf, [], ◌∷◌, Option, Some, IfSome, length, map, take, drop}
 use Rattle.std.specs.List.{All, sum}
 use Rattle.dg_append.specs.declared.fault.BatchFault.{BatchFault}
 use Rattle.dg_append.specs.declared.fault.BatchFault.TheVariants as fault
@@ -22,12 +22,13 @@ use Rattle.dg_graph.specs.Replay.{replay}
 use Rattle.dg_history.specs.declared.limits.TheConstants.{BATCH_LINES_MAX, EVENTS_MAX}
 use Rattle.dg_history.specs.declared.node.NodeId.TheVariants.{Root}
 use Rattle.dg_history.specs.EventTimes.{RisesFrom}
-use Rattle.dg_history.specs.History.{History, events_of, first_time_of, last_time_from}
-use Rattle.dg_index.specs.FileOfHistory.{Segment, segment_of}
+use Rattle.dg_history.specs.History.{History, events_of, first_time_of, is_wide, last_time_from}
+use Rattle.dg_history.specs.LegalHistory.{are_silent}
+use Rattle.dg_index.specs.FileOfHistory.{Segment, segment_of, stored_in}
 use Rattle.dg_index.specs.ImageOfHistory.{IsImageOf}
 use Rattle.dg_index.specs.IndexGrowth.{name_total}
 use Rattle.dg_index.specs.IndexRecords.{recent_of}
-use Rattle.dg_index.specs.OpenedIndex.{Opening, delta_count, earliest_in, event_total, list_count, list_bytes_max, list_row, may_be_listed, may_be_named}
+use Rattle.dg_index.specs.OpenedIndex.{AreUnheard, Opening, delta_count, earliest_in, event_total, list_count, list_bytes_max, list_row, may_be_listed, may_be_named}
 use Rattle.dg_plan.specs.IndexGraph.{arcs_of}
 use Rattle.dg_plan.specs.Walks.{AreSingles}
 use Rattle.dg_retrieval.specs.KeptGraph.{record_edges}
@@ -54,7 +55,7 @@ pub record MayFollow (o : Opening) (recent events : ListOf Event) : Type 0 where
   pub goes_on : MayGoOn (Some o) recent
 
 -- The batch may be put behind the index, whose events lead to this graph: its events change the graph, its names may
--- follow those that were known, and all names of events can be spelled.
+-- follow those that were known, and all names of events can be spelled. In the first form no event is a message.
 pub record IsNext (o : Opening) (next : NextBatch) (graph : ListOf Element) : Type 0 where
   pub follows : MayFollow o next.recent.now next.events.now
   pub within : next.known ≤ length next.names.now
@@ -64,10 +65,12 @@ pub record IsNext (o : Opening) (next : NextBatch) (graph : ListOf Element) : Ty
   pub fit : All (λ (e : Event). NamesFit e.body) next.events.now
   pub set : IsSet graph
   pub changes : AreChangesOf graph next.events.now
+  pub silent : is_wide o.form ≡ false → are_silent next.events.now ≡ true
 
 -- ---- what is made
 
--- The segment is one of these events and names, which may stand behind the index, of whose events these were recent.
+-- The segment is one of these events and names, which may stand behind the index, of whose events these were recent. No
+-- delta has messages, and in the first form no record.
 pub record IsSegmentBehind (o : Opening) (names : ListOf (ListOf ℕ)) (recent events : ListOf Event) (s : Segment) : Type 0 where
   pub events_are : s.events ≡ length events
   pub first_is : s.first ≡ first_time_of events
@@ -77,15 +80,18 @@ pub record IsSegmentBehind (o : Opening) (names : ListOf (ListOf ℕ)) (recent e
   pub deltas : length s.deltas ≡ delta_count o (length events)
   pub listed : may_be_listed (list_bytes_max o.params.l) (floor_of o (first_time_of events)) (last_time_from 0 events) (map list_row s.lists) ≡ true
   pub behind : BeginsBehind (last_in_rows 0 (map list_row s.lists)) (recent_behind o.params (event_total o.batches) recent events)
+  pub deltas_unheard : AreUnheard s.deltas
+  pub unheard : is_wide o.form ≡ false → AreUnheard (stored_in s)
 
 -- These are all events of an index, of which these are recent; this graph is theirs, these are the exact steps of their
--- older children, and these events may follow them.
+-- older children, and these events may follow them. In the first form no event is a message.
 pub record IsPast (o : Opening) (past recent : ListOf Event) (graph : ListOf Element) (events : ListOf Event) (steps : ListOf Delta) : Type 0 where
   pub long : length past ≡ event_total o.batches
   pub recent_is : recent ≡ recent_of o.params past
   pub graph_is : graph ≡ replay past
   pub changes : AreChangesOf [] (past ++ events)
   pub steps_are : AreOlderSteps o.params past (leaves_after o (length events)) steps
+  pub silent : is_wide o.form ≡ false → are_silent (past ++ events) ≡ true
 
 -- the image stands for a history of which this graph is kept, and the names and recent events that the batch follows
 abbrev pub StandsForKept : History → ListOf ℕ → Opening → NextBatch → ListOf Element → Type 0

@@ -152,6 +152,7 @@ pub(crate) fn segment_of(
     match build(
         alloc,
         params,
+        index.is_wide(),
         before as usize,
         next.recent,
         next.events,
@@ -159,7 +160,10 @@ pub(crate) fn segment_of(
         older,
         segment,
     ) {
-        Ok(segment) => Ok(segment),
+        Ok(segment) => {
+            segment.facts();
+            Ok(segment)
+        }
         Err(BuildFault::Memory) => Err(BatchFault::Memory),
         Err(BuildFault::Wide(delta_index)) => {
             let key = delta_key(alloc, index, count, delta_index)?;

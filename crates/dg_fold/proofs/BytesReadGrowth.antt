@@ -15,7 +15,7 @@ use Rattle.dg_plan.specs.declared.edge.Via.{Via}
 use Rattle.dg_plan.specs.declared.edge.Via.TheVariants as via
 use Rattle.dg_plan.specs.declared.edge.Way.{Way}
 use Rattle.dg_fold.specs.declared.part.Part.{Part}
-use Rattle.dg_fold.specs.Parts.{bytes_in}
+use Rattle.dg_fold.specs.Parts.{bytes_in, graph_columns}
 use Rattle.dg_fold.specs.BytesRead.{ColumnBytes, IsPartOf, AreParts, HoldsWhatIsEntered, IsEntered, Takes, TakesAtMost, asked_column, asked_length, entered_along, entered_by, entered_length, kept_in, named_along, named_by, named_in}
 
 -- ---- what is told of a value, if there is one
@@ -40,13 +40,13 @@ module _ (bytes : ColumnBytes) (cols : Columns) where
 
   -- the bytes of each part are those of its record
   pub own_bytes : (named : List (Key × Way)) (parts : List Part) → AreParts bytes cols named parts
-      → All (λ p. (col : Column) → bytes_in p.bytes col ≡ asked_column bytes cols p.key col) parts
-  own_bytes [] [] h = All-nil (λ (p : Part). (col : Column) → bytes_in p.bytes col ≡ asked_column bytes cols p.key col)
+      → All (λ p. (col : Column) → bytes_in p.bytes col ≡ asked_column bytes (graph_columns cols) p.key col) parts
+  own_bytes [] [] h = All-nil (λ (p : Part). (col : Column) → bytes_in p.bytes col ≡ asked_column bytes (graph_columns cols) p.key col)
   own_bytes [] (q ∷ parts) h = absurd h
   own_bytes (j ∷ named) [] h = absurd h
   own_bytes (j ∷ named) (q ∷ parts) h =
-      All-cons (λ (p : Part). (col : Column) → bytes_in p.bytes col ≡ asked_column bytes cols p.key col) q parts
-      (λ col. h.0.columns col ∙ ap (λ key. asked_column bytes cols key col) (sym h.0.key))
+      All-cons (λ (p : Part). (col : Column) → bytes_in p.bytes col ≡ asked_column bytes (graph_columns cols) p.key col) q parts
+      (λ col. h.0.columns col ∙ ap (λ key. asked_column bytes (graph_columns cols) key col) (sym h.0.key))
       (own_bytes named parts h.1)
 
 -- ---- what is entered is named
@@ -105,10 +105,10 @@ module _ (image : Option (List ℕ)) (o : Opening) (cols : Columns) (walk : List
       ∙ ap (λ l. flat_map f (take i walk) ++ l) (append-nil (f (get_or walk i d)))
 
   next_length : (bytes : ColumnBytes) → entered_length bytes cols (take (i + 1) walk)
-      ≡ entered_length bytes cols (take i walk) + sum_by (asked_length bytes cols) (entered_by (get_or walk i d).via)
+      ≡ entered_length bytes cols (take i walk) + sum_by (asked_length bytes (graph_columns cols)) (entered_by (get_or walk i d).via)
   next_length bytes =
-      ap (sum_by (asked_length bytes cols)) (along (λ (e : Edge). entered_by e.via))
-      ∙ sum_by-append (asked_length bytes cols) (entered_along (take i walk)) (entered_by (get_or walk i d).via)
+      ap (sum_by (asked_length bytes (graph_columns cols))) (along (λ (e : Edge). entered_by e.via))
+      ∙ sum_by-append (asked_length bytes (graph_columns cols)) (entered_along (take i walk)) (entered_by (get_or walk i d).via)
 
   at_next : (parts : List Part) (a b : ℕ) → SoFar image o cols walk i parts a b → HoldsWhatIsEntered (entered_along (take i walk)) (get_or walk i d ∷ drop (i + 1) walk)
   at_next parts a b s = subst (HoldsWhatIsEntered (entered_along (take i walk))) (drop_more walk i d within) s.rest
@@ -126,7 +126,7 @@ module _ (image : Option (List ℕ)) (o : Opening) (cols : Columns) (walk : List
       by (via.Recent way) h = tt
 
   -- the walk up to the next edge weighs no more than the whole
-  no_more : (bytes : ColumnBytes) → entered_length bytes cols (take i walk) + sum_by (asked_length bytes cols) (entered_by (get_or walk i d).via) ≤ entered_length bytes cols walk
+  no_more : (bytes : ColumnBytes) → entered_length bytes cols (take i walk) + sum_by (asked_length bytes (graph_columns cols)) (entered_by (get_or walk i d).via) ≤ entered_length bytes cols walk
   no_more bytes =
       let whole : entered_length bytes cols walk ≡ entered_length bytes cols (take (i + 1) walk) + entered_length bytes cols (drop (i + 1) walk) =
       cut bytes (take (i + 1) walk) (drop (i + 1) walk) walk (sym (take-append-drop (i + 1) walk)) in
@@ -136,15 +136,15 @@ module _ (image : Option (List ℕ)) (o : Opening) (cols : Columns) (walk : List
       cut : (bytes : ColumnBytes) (xs ys all : List Edge) → all ≡ xs ++ ys → entered_length bytes cols all ≡ entered_length bytes cols xs + entered_length bytes cols ys
       cut bytes xs ys all is =
           ap (entered_length bytes cols) is
-          ∙ ap (sum_by (asked_length bytes cols)) (flat_map-append (λ (e : Edge). entered_by e.via) xs ys)
-          ∙ sum_by-append (asked_length bytes cols) (entered_along xs) (entered_along ys)
+          ∙ ap (sum_by (asked_length bytes (graph_columns cols))) (flat_map-append (λ (e : Edge). entered_by e.via) xs ys)
+          ∙ sum_by-append (asked_length bytes (graph_columns cols)) (entered_along xs) (entered_along ys)
 
   -- over a disk and an index that tell the same as at the start
   module _ (now : Option (List ℕ)) (p : Opening) (same_image : now ≡ image) (same : p ≡ o) (parts : List Part) (a b c : ℕ) (s : SoFar image o cols walk i parts a b) where
     pub so_far_more : (more : List Part)
         → named_in more ≡ named_in parts ++ named_by (get_or walk i d).via
         → ForSome now (λ bytes. (named : List (Key × Way)) → AreParts (kept_in bytes p) cols named parts → AreParts (kept_in bytes p) cols (named ++ named_by (get_or walk i d).via) more)
-        → ForSome now (λ bytes. Takes (sum_by (asked_length (kept_in bytes p) cols) (entered_by (get_or walk i d).via)) b c)
+        → ForSome now (λ bytes. Takes (sum_by (asked_length (kept_in bytes p) (graph_columns cols)) (entered_by (get_or walk i d).via)) b c)
         → SoFar image o cols walk (i + 1) more a c
     so_far_more more named are takes = record {
       named = named ∙ ap (λ l. l ++ named_by (get_or walk i d).via) s.named ∙ sym (along (λ (e : Edge). named_by e.via));
@@ -155,17 +155,17 @@ module _ (image : Option (List ℕ)) (o : Opening) (cols : Columns) (walk : List
           same_image same are bytes is (named_along (take i walk)) (s.are bytes is));
       takes = λ bytes is.
           subst (λ n. Takes n a c) (sym (next_length (kept_in bytes o)))
-          (takes_both (entered_length (kept_in bytes o) cols (take i walk)) (sum_by (asked_length (kept_in bytes o) cols) (entered_by (get_or walk i d).via)) a b c (s.takes bytes is)
-          (at_start now image p o (λ x q. Takes (sum_by (asked_length (kept_in x q) cols) (entered_by (get_or walk i d).via)) b c) same_image same takes bytes is));
+          (takes_both (entered_length (kept_in bytes o) cols (take i walk)) (sum_by (asked_length (kept_in bytes o) (graph_columns cols)) (entered_by (get_or walk i d).via)) a b c (s.takes bytes is)
+          (at_start now image p o (λ x q. Takes (sum_by (asked_length (kept_in x q) (graph_columns cols)) (entered_by (get_or walk i d).via)) b c) same_image same takes bytes is));
       rest = subst (λ l. HoldsWhatIsEntered l (drop (i + 1) walk)) (sym (along (λ (e : Edge). entered_by e.via))) (at_next parts a b s).1;
     }
 
     -- where the next edge was read in part
-    pub most_of_walk : ForSome now (λ bytes. TakesAtMost (sum_by (asked_length (kept_in bytes p) cols) (entered_by (get_or walk i d).via)) b c)
+    pub most_of_walk : ForSome now (λ bytes. TakesAtMost (sum_by (asked_length (kept_in bytes p) (graph_columns cols)) (entered_by (get_or walk i d).via)) b c)
         → IfSome image (λ bytes. TakesAtMost (entered_length (kept_in bytes o) cols walk) a c)
     most_of_walk most =
         if_told image (λ bytes. TakesAtMost (entered_length (kept_in bytes o) cols walk) a c)
-        (λ bytes is. takes_most (entered_length (kept_in bytes o) cols (take i walk)) (sum_by (asked_length (kept_in bytes o) cols) (entered_by (get_or walk i d).via)) (entered_length (kept_in bytes o) cols walk) a b c
+        (λ bytes is. takes_most (entered_length (kept_in bytes o) cols (take i walk)) (sum_by (asked_length (kept_in bytes o) (graph_columns cols)) (entered_by (get_or walk i d).via)) (entered_length (kept_in bytes o) cols walk) a b c
         (s.takes bytes is)
-        (at_start now image p o (λ x q. TakesAtMost (sum_by (asked_length (kept_in x q) cols) (entered_by (get_or walk i d).via)) b c) same_image same most bytes is)
+        (at_start now image p o (λ x q. TakesAtMost (sum_by (asked_length (kept_in x q) (graph_columns cols)) (entered_by (get_or walk i d).via)) b c) same_image same most bytes is)
         (no_more (kept_in bytes o)))

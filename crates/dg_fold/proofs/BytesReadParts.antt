@@ -17,6 +17,7 @@ use Rattle.dg_index.proofs.IndexRecordColumns.{columns_are_kept}
 use Rattle.dg_plan.specs.declared.edge.Way.{Way}
 use Rattle.dg_fold.specs.declared.part.Part.{Part}
 use Rattle.dg_fold.specs.BytesRead.{ColumnBytes, AreParts, kept_in}
+use Rattle.dg_fold.specs.Parts.{graph_columns}
 use Rattle.dg_fold.specs.HistoryTrees.{KeepsKey, KeptPartsAreTheRecords}
 
 -- parts of some bytes are parts of others that are the same at these keys
@@ -32,7 +33,7 @@ parts_alike a b cols (n ∷ named) same (p ∷ parts) are =
         key = are.0.key;
         way = are.0.way;
         until = are.0.until;
-        columns = λ col. are.0.columns col ∙ ap (λ l. cond (asks cols col) l []) (here col);
+        columns = λ col. are.0.columns col ∙ ap (λ l. cond (asks (graph_columns cols) col) l []) (here col);
       },
       parts_alike a b cols named (All-tail Same n named same) parts are.1,
     )

@@ -29,7 +29,7 @@ use Rattle.dg_fold.specs.declared.part.Part.{Part}
 use Rattle.dg_fold.specs.BytesRead.{ColumnBytes, AreParts, asked_column, named_along, named_by}
 use Rattle.dg_fold.specs.Ends.{last_in, list_part, part_until}
 use Rattle.dg_fold.specs.HistoryPaths.{IsIndexed, IsGraphOf}
-use Rattle.dg_fold.specs.Parts.{beside, bytes_in, is_events, taken_as, PartHasRecord, RecordFits}
+use Rattle.dg_fold.specs.Parts.{beside, bytes_in, graph_columns, is_events, taken_as, PartHasRecord, RecordFits}
 use Rattle.dg_fold.specs.PathIndependence.{contents, Contents, IsSoundEdge}
 use Rattle.dg_fold.specs.Steps.{FoldGoesOn, By_part, By_events, PartedStep, paired, part_deltas, step_by, steps_in, StepHolds, PartHolds}
 use Rattle.dg_fold.specs.Trees.{IsAmong, IsStepOf, PathIn, Begins_at_root, Steps_on}
@@ -87,7 +87,7 @@ module _ (bytes : ColumnBytes) (cols : Columns) (i : ℕ) where
   -- the part of the list, with its columns
   record IsListPart (p : Part) : Type 0 where
     pub of : p.key ≡ key.List i
-    pub columns : (col : Column) → bytes_in p.bytes col ≡ asked_column bytes cols (key.List i) col
+    pub columns : (col : Column) → bytes_in p.bytes col ≡ asked_column bytes (graph_columns cols) (key.List i) col
 
   part_found : (named : ListOf (Key × Way)) (parts : ListOf Part) → AreParts bytes cols named parts → IfSome (list_part i parts) IsListPart
   part_found [] [] are = tt
@@ -98,7 +98,7 @@ module _ (bytes : ColumnBytes) (cols : Columns) (i : ℕ) where
       by : (b : Bool) → same_key p.key (key.List i) ≡ b → IfSome (list_part i parts) IsListPart → IfSome (cond b (Some p) (list_part i parts)) IsListPart
       by true is more =
           let same : p.key ≡ key.List i = same_key_exact p.key (key.List i) is in
-          record { of = same; columns = λ col. are.0.columns col ∙ ap (λ k. asked_column bytes cols k col) (sym are.0.key ∙ same) }
+          record { of = same; columns = λ col. are.0.columns col ∙ ap (λ k. asked_column bytes (graph_columns cols) k col) (sym are.0.key ∙ same) }
       by false is more = more
 
   named_found : (named : ListOf (Key × Way)) (parts : ListOf Part) → AreParts bytes cols named parts → IsNamed i named → (p : Part) × (list_part i parts ≡ Some p)

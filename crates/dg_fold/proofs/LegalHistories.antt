@@ -33,6 +33,7 @@ body_fits n set (body.NodeAttr id key old new) h c =
 body_fits n set (body.EdgeAttr id key old new) h c =
     let change = (and_parts (is_some (edge_of set id)) (is_value_change (edge_value set id key) old new) c).1 in
     record { id_fits = h.0; key_fits = h.1; old_fits = h.2; new_fits = h.3; some = (and_parts (option_eq nat_eq old (edge_value set id key)) (is_some old || is_some new) change).1 }
+body_fits n set (body.Message src dst value) h c = h
 
 made_fit : (n t : ℕ) (set : List Element) (events : List Event) → RisesFrom t events → AreMadeByChanges set events → All (FitsEvent n) events → EventsFit n t events
 made_fit n t set [] rises made fit = tt

@@ -1,6 +1,7 @@
 -- The columns of a record say together what the record says.
 use Rattle.std.proofs.Common.{◌≡◌, ◌<◌, ◌^◌, ℕ, ◌+◌, Bool, true, false, cond, ◌||◌, ◌&&◌, List, [], ◌∷◌, ◌++◌, map, filter, reverse, Option, Some, None, IfSome, Ok, nat_eq, refl, sym, ap, ◌∙◌}
 use Rattle.std.specs.Option.{option_to_list, option_map, option_eq}
+use Rattle.std.proofs.lemmas.Bool.{false≢true}
 use Rattle.std.proofs.lemmas.List.Elements.{filter-append}
 use Rattle.std.proofs.lemmas.List.{append-nil, reverse-append}
 use Rattle.dg_graph.specs.declared.element.Column.{Column}
@@ -12,11 +13,13 @@ use Rattle.dg_graph.specs.declared.event.Body.{Body}
 use Rattle.dg_graph.specs.declared.event.Body.TheVariants as body
 use Rattle.dg_graph.specs.declared.event.Event.{Event}
 use Rattle.dg_graph.specs.declared.placed.Placed.{Placed}
-use Rattle.dg_graph.specs.Columns.{same_column, column_of_body, placed_from, placed_in, in_column}
+use Rattle.dg_graph.specs.Columns.{same_column, column_of_body, placed_from, placed_in, in_column, delta_column, parts_bytes}
+use Rattle.dg_graph.specs.ColumnGrammar.{may_change, changes_in, no_changes_in, delta_in}
 use Rattle.dg_graph.specs.Composition.{Delta, Says, In, Out, As_it_was, says, then_says, composition}
 use Rattle.dg_graph.specs.Effect.{moved, removed_by, added_by}
 use Rattle.dg_graph.specs.Elements.{has, same, asks, column_of}
 use Rattle.dg_graph.proofs.Sets.{element_exact, has-filter, and_swap}
+use Rattle.dg_columns.specs.ColumnLaws.{HasNoMessage}
 use Rattle.dg_columns.proofs.ColumnLawDeltas.{deltas_back}
 use Rattle.dg_columns.proofs.ColumnLawEvents.{events_back}
 use Rattle.dg_delta.proofs.Deltas.{word, can_be_cut}
@@ -26,9 +29,9 @@ use Rattle.dg_net.proofs.ReplayNets.{back_of}
 use Rattle.dg_fold.specs.declared.part.Part.{Part}
 use Rattle.dg_plan.specs.declared.edge.Way.{Way}
 use Rattle.dg_plan.specs.declared.edge.Way.TheVariants as way
-use Rattle.dg_index.specs.IndexRecords.{Record, Events, Exact, column_of_record}
+use Rattle.dg_index.specs.IndexRecords.{Record, Events, Exact, column_of_record, exact_column}
 use Rattle.dg_fold.specs.PathIndependence.{taken}
-use Rattle.dg_fold.specs.Parts.{and_then, fault_named, record_in, part_column_in, beside, are_events, PartHasRecord, RecordFits, PartsAreRead}
+use Rattle.dg_fold.specs.Parts.{and_then, fault_named, record_in, part_column_in, beside, are_events, graph_columns, PartHasRecord, RecordFits, PartsAreRead}
 
 -- ---- columns
 
@@ -36,17 +39,25 @@ same_itself : (c : Column) → same_column c c ≡ true
 same_itself column.Structure = refl
 same_itself column.NodeAttr = refl
 same_itself column.EdgeAttr = refl
+same_itself column.Transient = refl
 
 same_is : (a b : Column) → same_column a b ≡ true → a ≡ b
 same_is column.Structure column.Structure e = refl
 same_is column.NodeAttr column.NodeAttr e = refl
 same_is column.EdgeAttr column.EdgeAttr e = refl
+same_is column.Transient column.Transient e = refl
 same_is column.Structure column.NodeAttr e = cc
 same_is column.Structure column.EdgeAttr e = cc
+same_is column.Structure column.Transient e = cc
 same_is column.NodeAttr column.Structure e = cc
 same_is column.NodeAttr column.EdgeAttr e = cc
+same_is column.NodeAttr column.Transient e = cc
 same_is column.EdgeAttr column.Structure e = cc
 same_is column.EdgeAttr column.NodeAttr e = cc
+same_is column.EdgeAttr column.Transient e = cc
+same_is column.Transient column.Structure e = cc
+same_is column.Transient column.NodeAttr e = cc
+same_is column.Transient column.EdgeAttr e = cc
 
 -- x is in the column c, and y is not
 differ : (x y c : Column) → same_column x c ≡ true → same_column y c ≡ false → same_column x y ≡ false
@@ -93,6 +104,7 @@ added_in (body.EdgeAdded id src dst directed) = refl
 added_in (body.EdgeRemoved id src dst directed) = tt
 added_in (body.NodeAttr id key old new) = moved_in column.NodeAttr (element.NodeAttr id key) (λ n. refl) new old
 added_in (body.EdgeAttr id key old new) = moved_in column.EdgeAttr (element.EdgeAttr id key) (λ n. refl) new old
+added_in (body.Message src dst value) = tt
 
 removed_in : (b : Body) → IfSome (removed_by b) (λ y. column_of y ≡ column_of_body b)
 removed_in (body.NodeAdded id) = tt
@@ -101,6 +113,7 @@ removed_in (body.EdgeAdded id src dst directed) = tt
 removed_in (body.EdgeRemoved id src dst directed) = refl
 removed_in (body.NodeAttr id key old new) = moved_in column.NodeAttr (element.NodeAttr id key) (λ n. refl) old new
 removed_in (body.EdgeAttr id key old new) = moved_in column.EdgeAttr (element.EdgeAttr id key) (λ n. refl) old new
+removed_in (body.Message src dst value) = tt
 
 -- an event says nothing of an element of another column
 abbrev pub IsOfItsColumn : (Event → Delta) → Type 0
@@ -117,6 +130,29 @@ back_apart e x h =
     let plus = away_option (column_of_body e.body) (added_by e.body) x (added_in e.body) h in
     let minus = away_option (column_of_body e.body) (removed_by e.body) x (removed_in e.body) h in
     λ i. word (minus i) (plus i)
+
+-- a message says nothing
+abbrev pub IsSilent : (Event → Delta) → Type 0
+IsSilent f = (e : Event) (x : Element) → same_column (column_of_body e.body) column.Transient ≡ true → says (f e) x ≡ As_it_was
+
+unmoved : (b : Body) → same_column (column_of_body b) column.Transient ≡ true → (added_by b ≡ None) × (removed_by b ≡ None)
+unmoved (body.NodeAdded id) is = absurd (false≢true is)
+unmoved (body.NodeRemoved id) is = absurd (false≢true is)
+unmoved (body.EdgeAdded id src dst directed) is = absurd (false≢true is)
+unmoved (body.EdgeRemoved id src dst directed) is = absurd (false≢true is)
+unmoved (body.NodeAttr id key old new) is = absurd (false≢true is)
+unmoved (body.EdgeAttr id key old new) is = absurd (false≢true is)
+unmoved (body.Message src dst value) is = (refl, refl)
+
+effect_silent : IsSilent effect_of
+effect_silent e x is =
+    let none = unmoved e.body is in
+    λ i. word (has (option_to_list (none.0 i)) x) (has (option_to_list (none.1 i)) x)
+
+back_silent : IsSilent back_of
+back_silent e x is =
+    let none = unmoved e.body is in
+    λ i. word (has (option_to_list (none.1 i)) x) (has (option_to_list (none.0 i)) x)
 
 -- ---- the events of a column
 
@@ -198,6 +234,18 @@ kept f own col x (e ∷ events) =
         ∙ ap (λ v. then_says v (composition (map f events) x)) (sym (own e x (differ_back (column_of_body e.body) (column_of x) col in_c at)))
     by false in_c false at rest = rest
 
+-- events say nothing of a message
+unsaid : (f : Event → Delta) → IsOfItsColumn f → IsSilent f → (x : Element) → column_of x ≡ column.Transient → (events : List Event) → composition (map f events) x ≡ As_it_was
+unsaid f own silent x is [] = refl
+unsaid f own silent x is (e ∷ events) =
+    let rest = unsaid f own silent x is events in
+    let first = by (same_column (column_of_body e.body) (column_of x)) refl in
+    λ i. then_says (first i) (rest i)
+  where
+    by : (b : Bool) → same_column (column_of_body e.body) (column_of x) ≡ b → says (f e) x ≡ As_it_was
+    by true here = silent e x (ap (same_column (column_of_body e.body)) (sym is) ∙ here)
+    by false here = own e x here
+
 -- ---- a record in one column
 
 abbrev pub only : Bool → Says → Says
@@ -235,6 +283,31 @@ delta_in_column col x d way.Back until =
     let at = λ (s : List Element). has-filter (λ y. same_column (column_of y) col) s x in
     (λ i. word (at d.minus i) (at d.plus i)) ∙ word_only (same_column (column_of x) col) (has d.minus x) (has d.plus x)
 
+absent : (x : Element) → column_of x ≡ column.Transient → (set : List Element) → in_column column.Transient set ≡ [] → has set x ≡ false
+absent x is set none =
+    ap (λ c. same_column c column.Transient && has set x) (sym is)
+    ∙ sym (has-filter (λ y. same_column (column_of y) column.Transient) set x)
+    ∙ ap (λ l. has l x) none
+
+-- no record that can be spelled says anything of a message
+record_silent : (names : ℕ) (r : Record) → RecordFits names r → (w : Way) (until : Option ℕ) (x : Element) → column_of x ≡ column.Transient
+    → composition (taken w until r) x ≡ As_it_was
+record_silent names (Events events) fits way.Same until x is = refl
+record_silent names (Events events) fits way.Forward until x is = unsaid effect_of effect_apart effect_silent x is (filter (counts until) events)
+record_silent names (Events events) fits way.Back until x is = unsaid back_of back_apart back_silent x is (reverse events)
+record_silent names (Exact d) fits way.Same until x is = refl
+record_silent names (Exact d) fits way.Forward until x is =
+    (λ i. word (absent x is d.plus fits.5.1 i) (absent x is d.minus fits.5.0 i))
+record_silent names (Exact d) fits way.Back until x is =
+    (λ i. word (absent x is d.minus fits.5.0 i) (absent x is d.plus fits.5.1 i))
+
+-- the column of a delta without messages
+spelled : (col : Column) (d : Delta) → HasNoMessage d → exact_column col d ≡ delta_column col d
+spelled column.Structure d none = refl
+spelled column.NodeAttr d none = refl
+spelled column.EdgeAttr d none = refl
+spelled column.Transient d none = sym (λ i. parts_bytes (none.0 i) (none.1 i))
+
 -- ---- a column of a part
 
 -- the deltas of a column that says this of each element
@@ -257,7 +330,8 @@ module _ (names : ℕ) (few : names < 2 ^ 32) (col : Column) (w : Way) (until : 
   )
   read_asked (Exact d) fits = (
     Exact (record { minus = in_column col d.minus; plus = in_column col d.plus }),
-    ap (λ e. and_then e (λ (z : Delta). Ok (Exact z))) (deltas_back col names d few fits.0 fits.1 fits.2 fits.3 fits.4),
+    ap (λ e. and_then e (λ (z : Delta). Ok (Exact z)))
+        (ap (delta_in col names) (spelled col d fits.5) ∙ deltas_back col names d few fits.0 fits.1 fits.2 fits.3 fits.4 fits.5),
     λ x. delta_in_column col x d w until,
   )
 
@@ -269,8 +343,16 @@ module _ (names : ℕ) (few : names < 2 ^ 32) (col : Column) (w : Way) (until : 
       no_events x way.Same u = refl
       no_events x way.Forward u = refl
       no_events x way.Back u = refl
-  read_none (Exact d) = (Exact (record { minus = []; plus = [] }), refl, λ x. no_delta x w until ∙ only_none (same_column (column_of x) col))
+  read_none (Exact d) = (
+    Exact (record { minus = []; plus = [] }),
+    ap (λ e. and_then e (λ (z : Delta). Ok (Exact z))) (nothing_read (may_change col)),
+    λ x. no_delta x w until ∙ only_none (same_column (column_of x) col),
+  )
     where
+      nothing_read : (may : Bool) → cond may (changes_in col names []) (no_changes_in []) ≡ Ok (record { minus = []; plus = [] })
+      nothing_read true = refl
+      nothing_read false = refl
+
       no_delta : (x : Element) (v : Way) (u : Option ℕ) → composition (taken v u (Exact (record { minus = []; plus = [] }))) x ≡ As_it_was
       no_delta x way.Same u = refl
       no_delta x way.Forward u = refl
@@ -281,9 +363,9 @@ module _ (names : ℕ) (few : names < 2 ^ 32) (col : Column) (w : Way) (until : 
   read_column r fits false = read_none r
 
 column_says : (names : ℕ) → names < 2 ^ 32 → (cols : Columns) (r : Record) → RecordFits names r → (p : Part) → PartHasRecord cols r p → (col : Column)
-    → Column_says names p col (λ x. only (asks cols col) (composition (taken p.way p.until r) x))
+    → Column_says names p col (λ x. only (asks (graph_columns cols) col) (composition (taken p.way p.until r) x))
 column_says names few cols r fits p h col =
-    let one = read_column names few col p.way p.until r fits (asks cols col) in (
+    let one = read_column names few col p.way p.until r fits (asks (graph_columns cols) col) in (
       taken p.way p.until one.0,
       (λ i. fault_named (λ (offset : ℕ). (p.key, col)) (and_then (record_in names (h.kind i) col (h.bytes col i)) (λ (x : Record). Ok (taken p.way p.until x))))
           ∙ ap (λ e. fault_named (λ (offset : ℕ). (p.key, col)) (and_then e (λ (x : Record). Ok (taken p.way p.until x)))) one.1,
@@ -292,14 +374,15 @@ column_says names few cols r fits p h col =
 
 -- ---- all columns of a part
 
--- one of the three columns decides
-one_decides : (c : Column) (f : Column → Says)
+-- one of the three columns decides, where nothing is said of messages
+one_decides : (c : Column) (f : Column → Says) → (c ≡ column.Transient → f column.Transient ≡ As_it_was)
     → then_says (only (same_column c column.Structure) (f column.Structure))
     (then_says (only (same_column c column.NodeAttr) (f column.NodeAttr)) (only (same_column c column.EdgeAttr) (f column.EdgeAttr)))
     ≡ f c
-one_decides column.Structure f = refl
-one_decides column.NodeAttr f = then_none (f column.NodeAttr)
-one_decides column.EdgeAttr f = ap (then_says As_it_was) (then_none (f column.EdgeAttr)) ∙ then_none (f column.EdgeAttr)
+one_decides column.Structure f silent = refl
+one_decides column.NodeAttr f silent = then_none (f column.NodeAttr)
+one_decides column.EdgeAttr f silent = ap (then_says As_it_was) (then_none (f column.EdgeAttr)) ∙ then_none (f column.EdgeAttr)
+one_decides column.Transient f silent = sym (silent refl)
 
 pub parts_are_read : PartsAreRead
 parts_are_read names few cols r fits p h =
@@ -313,5 +396,6 @@ parts_are_read names few cols r fits p h =
           can_be_cut s.0 (n.0 ++ e.0) x
           ∙ ap (then_says (composition s.0 x)) (can_be_cut n.0 e.0 x)
           ∙ (λ i. then_says (s.2 x i) (then_says (n.2 x i) (e.2 x i)))
-          ∙ one_decides (column_of x) (λ c. only (asks cols c) (composition (taken p.way p.until r) x)),
+          ∙ one_decides (column_of x) (λ c. only (asks cols c) (composition (taken p.way p.until r) x))
+          (λ is. ap (only cols.transient) (record_silent names r fits p.way p.until x is) ∙ sym (only_none cols.transient)),
     )

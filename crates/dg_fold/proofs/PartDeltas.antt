@@ -2,7 +2,7 @@
 use Rattle.std.proofs.Common.{◌≡◌, Bool, true, false, cond, ◌||◌, ◌&&◌, ℕ, List, [], ◌∷◌, ◌++◌, Option, Ok, refl, sym, ap, ◌∙◌}
 use Rattle.std.proofs.lemmas.List.Folds.{list_any-append}
 use Rattle.dg_graph.specs.declared.element.Column.{Column}
-use Rattle.dg_graph.specs.declared.element.Column.TheVariants.{Structure, NodeAttr, EdgeAttr}
+use Rattle.dg_graph.specs.declared.element.Column.TheVariants.{Structure, NodeAttr, EdgeAttr, Transient}
 use Rattle.dg_graph.specs.declared.element.Element.{Element}
 use Rattle.dg_graph.specs.Columns.{same_column, in_column}
 use Rattle.dg_graph.specs.Composition.{Delta, Says, In, Out, As_it_was, then_says, composition, Composes, reversed}
@@ -52,6 +52,8 @@ words NodeAttr sp sm np nm ep em a b c d e f =
     (λ i. word ((a i || np) || e i) ((b i || nm) || f i)) ∙ second_word np nm ∙ sym (λ i. in_turn (word (a i) (b i)) (word np nm) (word (e i) (f i)))
 words EdgeAttr sp sm np nm ep em a b c d e f =
     (λ i. word ((a i || c i) || ep) ((b i || d i) || em)) ∙ third_word ep em ∙ sym (λ i. in_turn (word (a i) (b i)) (word (c i) (d i)) (word ep em))
+words Transient sp sm np nm ep em a b c d e f =
+    (λ i. word ((a i || c i) || e i) ((b i || d i) || f i)) ∙ sym (λ i. in_turn (word (a i) (b i)) (word (c i) (d i)) (word (e i) (f i)))
 
 -- an element that stands in a column is of the column
 of_column : (col : Column) (xs : List Element) (x : Element) → in_column col xs ≡ xs → has xs x ≡ (same_column (column_of x) col && has xs x)

@@ -3,14 +3,16 @@ use Rattle.std.proofs.Common.{◌≡◌, ◌<◌, ◌≤◌, ◌^◌, ◌+◌, �
 use Rattle.std.specs.Option.{option_to_list, option_map, option_eq}
 use Rattle.std.specs.List.{flat_map}
 use Rattle.std.proofs.lemmas.Bool.{false≢true, or_right}
+use Rattle.dg_graph.specs.declared.element.Column.TheVariants as column
 use Rattle.dg_graph.specs.declared.element.Element.{Element}
 use Rattle.dg_graph.specs.declared.element.Element.TheVariants as element
 use Rattle.dg_graph.specs.declared.event.Body.{Body}
 use Rattle.dg_graph.specs.declared.event.Body.TheVariants as body
 use Rattle.dg_graph.specs.declared.event.Event.{Event}
+use Rattle.dg_graph.specs.Columns.{in_column, same_column}
 use Rattle.dg_graph.specs.Composition.{between}
 use Rattle.dg_graph.specs.Effect.{moved, added_by}
-use Rattle.dg_graph.specs.Elements.{same, IsSet, has, with_one}
+use Rattle.dg_graph.specs.Elements.{column_of, same, IsSet, has, with_one}
 use Rattle.dg_graph.specs.Sets.{without_all}
 use Rattle.dg_graph.proofs.Sets.{element_exact, has_first, has-put, has-without_all, IsSet-put, IsSet-without_all}
 use Rattle.dg_columns.specs.Ranges.{BodyFits, ElementFits, ElementsFit, EventsFit}
@@ -67,6 +69,7 @@ added_fits names (body.EdgeAdded id src dst directed) f = f
 added_fits names (body.EdgeRemoved id src dst directed) f = tt
 added_fits names (body.NodeAttr id k old new) f = moved_fits names (element.NodeAttr id k) new old (λ n h. (f.id_fits, f.key_fits, h)) f.new_fits
 added_fits names (body.EdgeAttr id k old new) f = moved_fits names (element.EdgeAttr id k) new old (λ n h. (f.id_fits, f.key_fits, h)) f.new_fits
+added_fits names (body.Message src dst value) f = tt
 
 one_fits : (names : ℕ) (o : Option Element) (q : Element) → IfSome o (ElementFits names) → has (option_to_list o) q ≡ true → ElementFits names q
 one_fits names None q f h = absurd (false≢true h)
@@ -81,6 +84,45 @@ ever_fits names earliest (e ∷ events) f q h =
 elements_fit : (names : ℕ) (set : List Element) → ((q : Element) → has set q ≡ true → ElementFits names q) → ElementsFit names set
 elements_fit names [] f = tt
 elements_fit names (x ∷ set) f = (f x (has_first x set), elements_fit names set (λ q h. f q (or_right (same q x) (has set q) h)))
+
+-- ---- messages
+
+abbrev IsNoMessage : Element → Type 0
+IsNoMessage x = same_column (column_of x) column.Transient ≡ false
+
+moved_quiet : (make : ℕ → Element) → ((n : ℕ) → IsNoMessage (make n)) → (value other : Option ℕ) → IfSome (moved make value other) IsNoMessage
+moved_quiet make quiet value other = by (option_eq nat_eq value other) value
+  where
+    by : (b : Bool) (v : Option ℕ) → IfSome (cond b None (option_map make v)) IsNoMessage
+    by true v = tt
+    by false None = tt
+    by false (Some n) = quiet n
+
+-- no event adds a message
+added_quiet : (b : Body) → IfSome (added_by b) IsNoMessage
+added_quiet (body.NodeAdded id) = refl
+added_quiet (body.NodeRemoved id) = tt
+added_quiet (body.EdgeAdded id src dst directed) = refl
+added_quiet (body.EdgeRemoved id src dst directed) = tt
+added_quiet (body.NodeAttr id k old new) = moved_quiet (element.NodeAttr id k) (λ n. refl) new old
+added_quiet (body.EdgeAttr id k old new) = moved_quiet (element.EdgeAttr id k) (λ n. refl) new old
+added_quiet (body.Message src dst value) = tt
+
+one_quiet : (o : Option Element) (q : Element) → IfSome o IsNoMessage → has (option_to_list o) q ≡ true → IsNoMessage q
+one_quiet None q f h = absurd (false≢true h)
+one_quiet (Some y) q f h = or_of (same q y) false h (λ is. subst IsNoMessage (sym (element_exact q y is)) f) (λ e. absurd (false≢true e))
+
+ever_quiet : (events : List Event) (q : Element) → has (ever events) q ≡ true → IsNoMessage q
+ever_quiet [] q h = absurd (false≢true h)
+ever_quiet (e ∷ events) q h =
+    or_of (has (option_to_list (added_by e.body)) q) (has (ever events) q) (sym (has_with (ever events) (added_by e.body) q) ∙ h)
+    (one_quiet (added_by e.body) q (added_quiet e.body)) (ever_quiet events q)
+
+no_messages : (set : List Element) → ((q : Element) → has set q ≡ true → IsNoMessage q) → in_column column.Transient set ≡ []
+no_messages [] f = refl
+no_messages (x ∷ set) f =
+    let rest = no_messages set (λ q h. f q (or_right (same q x) (has set q) h)) in
+    ap (λ b. cond b (x ∷ in_column column.Transient set) (in_column column.Transient set)) (f x (has_first x set)) ∙ rest
 
 -- ---- the events of lists
 
@@ -121,6 +163,10 @@ module _ (names : ℕ) (z : History) (fit : EventsFit names 0 (events_of z)) (fe
     small (without_all b a) (IsSet-without_all b a t) (λ q h. g q (part b a q h)),
     elements_fit names (without_all a b) (λ q h. ever_fits names 0 events fit q (f q (part a b q h))),
     elements_fit names (without_all b a) (λ q h. ever_fits names 0 events fit q (g q (part b a q h))),
+    (
+      no_messages (without_all a b) (λ q h. ever_quiet events q (f q (part a b q h))),
+      no_messages (without_all b a) (λ q h. ever_quiet events q (g q (part b a q h))),
+    ),
   )
     where
       and_first : (u v : Bool) → (u && v) ≡ true → u ≡ true

@@ -4,7 +4,7 @@ use Rattle.std.specs.List.{Contains, flat_map}
 use Rattle.std.specs.Map.{lookup}
 use Rattle.dg_disk.specs.Counts.{raised_by}
 use Rattle.dg_graph.specs.declared.element.Column.{Column}
-use Rattle.dg_graph.specs.declared.element.Column.TheVariants.{Structure, NodeAttr, EdgeAttr}
+use Rattle.dg_graph.specs.declared.element.Column.TheVariants.{Structure, NodeAttr, EdgeAttr, Transient}
 use Rattle.dg_graph.specs.declared.element.Columns.{Columns}
 use Rattle.dg_graph.specs.Elements.{asks}
 use Rattle.dg_history.specs.declared.node.Key.{Key}
@@ -15,7 +15,7 @@ use Rattle.dg_plan.specs.declared.edge.Via.{Via}
 use Rattle.dg_plan.specs.declared.edge.Via.TheVariants as via
 use Rattle.dg_plan.specs.declared.edge.Way.{Way}
 use Rattle.dg_fold.specs.declared.part.Part.{Part}
-use Rattle.dg_fold.specs.Parts.{bytes_in}
+use Rattle.dg_fold.specs.Parts.{bytes_in, graph_columns}
 
 -- ---- what is read
 
@@ -76,12 +76,12 @@ HoldsWhatIsEntered entered (e ∷ walk) = IsEntered entered e.via × HoldsWhatIs
 
 -- ---- parts
 
--- The part is that of the record in this way, with the columns that are asked for; the others have no bytes.
+-- The part is that of the record in this way, with the columns of graphs that are asked for; the others have no bytes.
 pub record IsPartOf (bytes : ColumnBytes) (cols : Columns) (named : Key × Way) (p : Part) : Type 0 where
   pub key : p.key ≡ named.0
   pub way : p.way ≡ named.1
   pub until : p.until ≡ None
-  pub columns : (col : Column) → bytes_in p.bytes col ≡ asked_column bytes cols named.0 col
+  pub columns : (col : Column) → bytes_in p.bytes col ≡ asked_column bytes (graph_columns cols) named.0 col
 
 -- one part for each, in order
 abbrev pub AreParts : ColumnBytes → Columns → List (Key × Way) → List Part → Type 0
@@ -107,8 +107,9 @@ TakesAtMost n before after = raised_by 0 after ≤ raised_by n before
 -- the bytes of the asked columns of a record
 abbrev pub asked_length : ColumnBytes → Columns → Key → ℕ
 asked_length bytes cols key =
-    sum_by (λ col. length (asked_column bytes cols key col)) (Structure ∷ NodeAttr ∷ EdgeAttr ∷ [])
+    sum_by (λ col. length (asked_column bytes cols key col)) (Structure ∷ NodeAttr ∷ EdgeAttr ∷ Transient ∷ [])
 
--- the weight of a walk: the bytes of the asked columns of the records that it enters, each as often as it does
+-- the weight of a walk: the bytes of the asked columns, but of messages, of the records that it enters, each as often
+-- as it does
 abbrev pub entered_length : ColumnBytes → Columns → List Edge → ℕ
-entered_length bytes cols walk = sum_by (asked_length bytes cols) (entered_along walk)
+entered_length bytes cols walk = sum_by (asked_length bytes (graph_columns cols)) (entered_along walk)

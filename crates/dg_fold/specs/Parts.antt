@@ -1,7 +1,7 @@
 -- The parts of a plan: the bytes of records, and what they spell.
 use Rattle.std.specs.Prelude.{◌≡◌, ◌<◌, ◌≤◌, ◌^◌, length, ℕ, Bool, true, false, List, [], ◌∷◌, ◌++◌, map, Option, Result, Ok, Err, if◌then◌else◌}
 use Rattle.dg_graph.specs.declared.element.Column.{Column}
-use Rattle.dg_graph.specs.declared.element.Column.TheVariants.{Structure, NodeAttr, EdgeAttr}
+use Rattle.dg_graph.specs.declared.element.Column.TheVariants.{Structure, NodeAttr, EdgeAttr, Transient}
 use Rattle.dg_graph.specs.declared.element.Columns.{Columns}
 use Rattle.dg_graph.specs.declared.element.Element.{Element}
 use Rattle.dg_history.specs.declared.node.Key.{Key}
@@ -9,6 +9,7 @@ use Rattle.dg_history.specs.declared.node.Key.TheVariants as key
 use Rattle.dg_graph.specs.declared.placed.Placed.{Placed}
 use Rattle.dg_graph.specs.Composition.{Delta, IsDelta, Composes, Says, As_it_was, composition}
 use Rattle.dg_graph.specs.Elements.{asks, column_of}
+use Rattle.dg_columns.specs.ColumnLaws.{HasNoMessage}
 use Rattle.dg_columns.specs.Ranges.{EventsFit, ElementsFit}
 use Rattle.dg_graph.specs.ColumnGrammar.{events_in, delta_in}
 use Rattle.dg_columns.specs.declared.fault.ReadFault.{ReadFault}
@@ -38,10 +39,12 @@ is_events (key.Piece s) = true
 is_events (key.Top h) = false
 is_events (key.Down h c) = false
 
+-- the bytes of a column; messages are not read
 abbrev pub bytes_in : Bytes → Column → List ℕ
 bytes_in b Structure = b.structure.items
 bytes_in b NodeAttr = b.node_attr.items
 bytes_in b EdgeAttr = b.edge_attr.items
+bytes_in b Transient = []
 
 -- what a column of the record is read as
 abbrev pub record_in : ℕ → Bool → Column → List ℕ → Result Record ℕ
@@ -78,20 +81,24 @@ abbrev pub fault_at : Key → Column → ReadFault → FoldFault
 fault_at k col (read.Damaged offset) = fault.Damaged k col
 fault_at k col read.Memory = fault.Memory
 
+-- of the columns those in which graphs have elements: a walk reads no others
+abbrev pub graph_columns : Columns → Columns
+graph_columns cols = record cols { transient = false }
+
 -- the record's key names events
 abbrev pub are_events : Record → Bool
 are_events (Events events) = true
 are_events (Exact d) = false
 
--- The part's bytes are the record's columns, of those that are asked for; a column that is not has none.
+-- The part's bytes are the record's columns, of those of graphs that are asked for; a column that is not has none.
 pub record PartHasRecord (cols : Columns) (r : Record) (p : Part) : Type 0 where
   pub kind : is_events p.key ≡ are_events r
-  pub bytes : (col : Column) → bytes_in p.bytes col ≡ (if asks cols col then column_of_record col r else [])
+  pub bytes : (col : Column) → bytes_in p.bytes col ≡ (if asks (graph_columns cols) col then column_of_record col r else [])
 
--- what can be spelled, with so many names
+-- what can be spelled, with so many names; no delta has a message
 abbrev pub RecordFits : ℕ → Record → Type 0
 RecordFits names (Events events) = (length events ≤ 65536) × EventsFit names 0 events
-RecordFits names (Exact d) = IsDelta d × (length d.minus < 2 ^ 32) × (length d.plus < 2 ^ 32) × ElementsFit names d.minus × ElementsFit names d.plus
+RecordFits names (Exact d) = IsDelta d × (length d.minus < 2 ^ 32) × (length d.plus < 2 ^ 32) × ElementsFit names d.minus × ElementsFit names d.plus × HasNoMessage d
 
 -- the word, where its element's column is asked for
 abbrev pub word_in : Columns → Element → Says → Says

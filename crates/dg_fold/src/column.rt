@@ -30,7 +30,7 @@ fn is_events(key: Key) -> bool
     }
 }
 
-// The bytes of a column.
+// The bytes of a column; that of messages is not read.
 fn bytes_of(bytes: &Bytes, col: Column) -> &[u8]
     ensures { result.now ≡ bytes_in bytes.now col }
 {
@@ -38,6 +38,7 @@ fn bytes_of(bytes: &Bytes, col: Column) -> &[u8]
         Column::Structure => bytes.structure.as_slice(),
         Column::NodeAttr => bytes.node_attr.as_slice(),
         Column::EdgeAttr => bytes.edge_attr.as_slice(),
+        Column::Transient => &[],
     }
 }
 

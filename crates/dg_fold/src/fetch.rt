@@ -12,7 +12,7 @@ ghost use Rattle.dg_plan.specs.declared.edge.Edge.{Edge};
 ghost use Rattle.dg_plan.specs.declared.edge.Way.{Way};
 ghost use Rattle.dg_fold.specs.declared.part.Part.{Part};
 ghost use Rattle.dg_fold.specs.BytesRead.{AreParts, HoldsWhatIsEntered, IsEntered, IsKept, Takes, TakesAtMost, asked_length, entered_by, entered_length, kept_in, named_along, named_by, named_in};
-ghost use Rattle.dg_fold.specs.Parts.{bytes_in};
+ghost use Rattle.dg_fold.specs.Parts.{bytes_in, graph_columns};
 
 use crate::part::{Bytes, Part};
 use crate::record::read_record;
@@ -85,8 +85,8 @@ fn take_step<D: Disk>(
     ensures named { OnOk result (named_in parts.new.items ≡ named_in parts.old.items ++ named_by via) }
     ensures parts { OnOk result (ForSome (D.image disk.old) (λ image. (named : List (Key × Way)) → AreParts (kept_in image index.old.opening) cols named parts.old.items
         → AreParts (kept_in image index.old.opening) cols (named ++ named_by via) parts.new.items)) }
-    ensures takes { OnOk result (ForSome (D.image disk.old) (λ image. Takes (sum_by (asked_length (kept_in image index.old.opening) cols) (entered_by via)) (D.taken disk.old) (D.taken disk.new))) }
-    ensures most { ForSome (D.image disk.old) (λ image. TakesAtMost (sum_by (asked_length (kept_in image index.old.opening) cols) (entered_by via)) (D.taken disk.old) (D.taken disk.new)) }
+    ensures takes { OnOk result (ForSome (D.image disk.old) (λ image. Takes (sum_by (asked_length (kept_in image index.old.opening) (graph_columns cols)) (entered_by via)) (D.taken disk.old) (D.taken disk.new))) }
+    ensures most { ForSome (D.image disk.old) (λ image. TakesAtMost (sum_by (asked_length (kept_in image index.old.opening) (graph_columns cols)) (entered_by via)) (D.taken disk.old) (D.taken disk.new)) }
 
     // errors
     ensures cause { IsErrOf result FetchFault.Disk → Fails D.Disk disk.old disk.new }
@@ -111,10 +111,11 @@ fn take_step<D: Disk>(
 }
 
 /// Reads the records of a walk through an index: each record that its edges enter, as often as they do, in
-/// the order of the edges and of the columns structure, node attributes, edge attributes. Gives one part
-/// for each edge that names a record, in order; a column that is not asked for has no bytes. The index
-/// keeps each record that the walk enters, and each edge that holds a record comes after one that enters
-/// it. `FetchFault::Disk` where the disk failed, `FetchFault::Memory` for want of memory.
+/// the order of the edges and of the columns structure, node attributes, edge attributes. It does not look at
+/// whether messages are asked for, and reads none. Gives one part for each edge that names a record, in order; a
+/// column that is not asked for has no bytes. The index keeps each record that the walk enters, and each edge that
+/// holds a record comes after one that enters it. `FetchFault::Disk` where the disk failed, `FetchFault::Memory` for
+/// want of memory.
 pub fn fetch_walk<D: Disk>(
     alloc: Global,
     index: &mut Index,

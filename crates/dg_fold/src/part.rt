@@ -3,7 +3,7 @@
 use dg_history::Key;
 use dg_plan::Way;
 
-/// The bytes of the three columns of a record. A column that is not asked for has none.
+/// The bytes of the three columns of a record in which graphs have elements. A column that is not asked for has none.
 #[derive(Drop)]
 pub struct Bytes {
     pub structure: Vec<u8>,

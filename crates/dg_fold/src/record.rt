@@ -9,7 +9,7 @@ ghost use Rattle.dg_file.specs.Images.{IsOpenedAs};
 ghost use Rattle.dg_graph.specs.declared.element.Column.{Column};
 ghost use Rattle.dg_history.specs.Keys.{same_key};
 ghost use Rattle.dg_fold.specs.BytesRead.{Takes, TakesAtMost, asked_column, asked_length, kept_in};
-ghost use Rattle.dg_fold.specs.Parts.{bytes_in};
+ghost use Rattle.dg_fold.specs.Parts.{bytes_in, graph_columns};
 
 use crate::part::Bytes;
 use dg_disk::Disk;
@@ -48,8 +48,8 @@ fn read_column<D: Disk>(
     }
 }
 
-/// Reads the asked columns of a record that the index keeps. `FetchFault::Disk` where the disk failed,
-/// `FetchFault::Memory` for want of memory.
+/// Reads the asked columns of a record that the index keeps, but no messages. `FetchFault::Disk` where the disk
+/// failed, `FetchFault::Memory` for want of memory.
 pub(crate) fn read_record<D: Disk>(
     alloc: Global,
     index: &mut Index,
@@ -59,9 +59,9 @@ pub(crate) fn read_record<D: Disk>(
 ) -> Result<Bytes, FetchFault>
     requires held { is_some (lookup (same_key key) index.old.opening.records) ≡ true }
     requires image { IfSome (D.image disk.old) (λ image. IsOpenedAs image index.old.opening) }
-    ensures bytes { IfOk result (λ b. ForSome (D.image disk.old) (λ image. (col : Column) → bytes_in b col ≡ asked_column (kept_in image index.old.opening) cols key col)) }
-    ensures takes { OnOk result (ForSome (D.image disk.old) (λ image. Takes (asked_length (kept_in image index.old.opening) cols key) (D.taken disk.old) (D.taken disk.new))) }
-    ensures most { ForSome (D.image disk.old) (λ image. TakesAtMost (asked_length (kept_in image index.old.opening) cols key) (D.taken disk.old) (D.taken disk.new)) }
+    ensures bytes { IfOk result (λ b. ForSome (D.image disk.old) (λ image. (col : Column) → bytes_in b col ≡ asked_column (kept_in image index.old.opening) (graph_columns cols) key col)) }
+    ensures takes { OnOk result (ForSome (D.image disk.old) (λ image. Takes (asked_length (kept_in image index.old.opening) (graph_columns cols) key) (D.taken disk.old) (D.taken disk.new))) }
+    ensures most { ForSome (D.image disk.old) (λ image. TakesAtMost (asked_length (kept_in image index.old.opening) (graph_columns cols) key) (D.taken disk.old) (D.taken disk.new)) }
 
     // errors
     ensures cause { IsErrOf result FetchFault.Disk → Fails D.Disk disk.old disk.new }

@@ -2,10 +2,10 @@
 use Rattle.std.proofs.Common.{◌≡◌, ℕ, ◌<◌, Bool, true, false, ◌&&◌, ◌||◌, not, [], Option, Some, None, IsSome, length, get_or, unwrap_or, refl, sym, ap, ◌∙◌, subst}
 use Rattle.std.proofs.lemmas.Bool.{both_ways, eq-eqb}
 use Rattle.dg_graph.specs.declared.element.Column.{Column}
-use Rattle.dg_graph.specs.declared.element.Column.TheVariants.{Structure, NodeAttr, EdgeAttr}
+use Rattle.dg_graph.specs.declared.element.Column.TheVariants.{Structure, NodeAttr, EdgeAttr, Transient}
 use Rattle.dg_graph.specs.declared.element.Columns.{Columns}
 use Rattle.dg_graph.specs.Elements.{asks, column_of}
-use Rattle.dg_handles.specs.Handles.{HandlesState, SlotHolds, IsBaseHandle, IsGraphIn, IsNoSlot, IsTied, RestsOn, TieIsKept, at_slot, slot_graphs, held_by, members_at, slot_of}
+use Rattle.dg_handles.specs.Handles.{HandlesState, SlotHolds, IsBaseHandle, IsGraphIn, IsNoSlot, IsTied, RestsOn, TieIsKept, at_slot, slot_graphs, held_by, members_at, slot_of, with_messages}
 use Rattle.dg_handles.proofs.HandleEntries.{beside, graph_beside, handles_in, none_dependent, slot_apart, slot_beside, slot_listed, zip-each, zip-length}
 use Rattle.dg_machine.specs.declared.stands.Stands.{Stands}
 use Rattle.dg_machine.specs.declared.stands.Stands.TheVariants.{Overlay, Base}
@@ -32,9 +32,10 @@ some_in cols allowed (Some g) h = refl
 
 some_held : (h : HandlesState) (stands : Stands) (o : Option SlotGraph) → SlotHolds h stands o → IsSome o
 some_held h (Overlay t cols on) o held = some_in cols (RestsOn h cols on) o held
-some_held h (Base node cols) o held = some_in cols (λ b. b ≡ base.Nothing) o held
+some_held h (Base node cols) o held = some_in (with_messages cols) (λ b. b ≡ base.Nothing) o held
 
-included : (all cols : Columns) → includes all cols ≡ true → Includes all cols
+-- a set with the messages serves an overlay in fewer columns, or with them
+included : (all cols : Columns) → includes all cols ≡ true → Includes (with_messages all) cols
 included all cols is = λ x. at (column_of x) is
   where
     first : (a b c d : Bool) → ((a || not b) && (c || not d)) ≡ true → b ≡ true → a ≡ true
@@ -51,10 +52,11 @@ included all cols is = λ x. at (column_of x) is
     second false true false false e f = cc
     second false false false false e f = cc
 
-    at : (column : Column) → includes all cols ≡ true → asks cols column ≡ true → asks all column ≡ true
+    at : (column : Column) → includes all cols ≡ true → asks cols column ≡ true → asks (with_messages all) column ≡ true
     at Structure e f = refl
     at NodeAttr e f = first all.nodes_attr cols.nodes_attr all.edges_attr cols.edges_attr e f
     at EdgeAttr e f = second all.nodes_attr cols.nodes_attr all.edges_attr cols.edges_attr e f
+    at Transient e f = refl
 
 abbrev slot_number : PoolBase → ℕ
 slot_number base.Nothing = 0
@@ -78,7 +80,7 @@ module _ (p : PoolState) (h : HandlesState) (t : IsTied p h) where
       let r = slot_beside (λ (stands : Stands) (k : ℕ). SlotHolds h stands (slot_graph p k)) handle h.table h.slots t.held (Base b.0 b.1) b.2 in
       (r.0, r.1, at (slot_graph p r.0) r.2)
     where
-      at : (o : Option SlotGraph) → IsGraphIn b.1 (λ x. x ≡ base.Nothing) o → IsBaseWith cols o
+      at : (o : Option SlotGraph) → IsGraphIn (with_messages b.1) (λ x. x ≡ base.Nothing) o → IsBaseWith cols o
       at None g = absurd g
       at (Some g) e = (e.1, subst (λ (all : Columns). Includes all cols) (sym e.0) (included b.1 cols b.3))
 

@@ -114,11 +114,15 @@ abbrev pub IsGraphIn : Columns → (PoolBase → Type 0) → Option SlotGraph �
 IsGraphIn cols allowed None = ⊥
 IsGraphIn cols allowed (Some g) = (g.cols ≡ cols) × allowed g.base
 
+-- the columns, and the messages with them
+abbrev pub with_messages : Columns → Columns
+with_messages cols = record cols { transient = true }
+
 -- A slot has a graph in the columns of what a handle stands for: an overlay rests as it is entered, and the set of a
--- node rests on nothing.
+-- node rests on nothing. The set has the messages with its columns, so that overlays with messages can rest on it.
 abbrev pub SlotHolds : HandlesState → Stands → Option SlotGraph → Type 0
 SlotHolds h (Overlay t cols on) o = IsGraphIn cols (RestsOn h cols on) o
-SlotHolds h (Base node cols) o = IsGraphIn cols (λ b. b ≡ base.Nothing) o
+SlotHolds h (Base node cols) o = IsGraphIn (with_messages cols) (λ b. b ≡ base.Nothing) o
 
 -- There are as many slots as handles. Each handle has a slot of its own, whose graph rests as the handle's entry says,
 -- and no other slot is live.

@@ -60,7 +60,7 @@ pub(crate) fn dependent(entries: &[Entry], handle: u32) -> Option<u32>
     None
 }
 
-// Whether the first columns have all of the second.
+// Whether a base in the first columns has all of the second. It has the messages in any case.
 fn includes(all: Columns, cols: Columns) -> bool
     ensures { result ≡ includes all cols }
 {

@@ -6,7 +6,7 @@ ghost use Rattle.std.specs.Option.{option_map};
 ghost use Rattle.dg_graph.specs.Composition.{applied};
 ghost use Rattle.dg_graph.specs.Elements.{shown};
 ghost use Rattle.dg_handles.specs.Attached.{AreAttached, graph_begun, graph_led, resting};
-ghost use Rattle.dg_handles.specs.Handles.{BeginsOn, CanBegin, HoldsNode, IsTied, graph_among, slot_graphs, graphs_without, held_by, numbered, overlays_on, slot_of};
+ghost use Rattle.dg_handles.specs.Handles.{BeginsOn, CanBegin, HoldsNode, IsTied, graph_among, slot_graphs, graphs_without, held_by, numbered, overlays_on, slot_of, with_messages};
 ghost use Rattle.dg_machine.specs.MachineState.{dependent_on, stands_at, without_handle};
 ghost use Rattle.dg_machine.specs.Planning.{bases_in};
 ghost use Rattle.dg_machine.specs.declared.limits.TheConstants.{HANDLE_MAX, LIVE_HANDLES_MAX};
@@ -53,6 +53,16 @@ impl Model for Handles {
 
     ghost invariant = { λ h. (vec_len h.entries ≤ LIVE_HANDLES_MAX) × (LIVE_HANDLES_MAX ≤ vec_capacity h.entries) × (h.next ≤ HANDLE_MAX + 1)
         × RiseWithin 0 h.next (map (λ e. e.handle) h.entries.items) };
+}
+
+// The columns, and the messages with them.
+fn with_messages(cols: Columns) -> Columns
+    ensures { result ≡ with_messages cols }
+{
+    Columns {
+        transient: true,
+        ..cols
+    }
 }
 
 impl Handles {
@@ -234,8 +244,8 @@ impl Handles {
     }
 
     /// A handle for the set of a node in these columns, to which the delta leads from the empty graph. The set gets a
-    /// slot of the pool, which rests on nothing. An `Err` says that memory ran out; then all handles and all graphs are
-    /// as before.
+    /// slot of the pool, which rests on nothing and has the messages with its columns. An `Err` says that memory ran
+    /// out; then all handles and all graphs are as before.
     pub fn add_base(
         &mut self,
         pool: &mut Pool,
@@ -251,7 +261,7 @@ impl Handles {
         ensures table { OnOk result (self.new.table ≡ self.old.table ++ (self.old.next, stands.Base node cols) ∷ []) }
         ensures next { OnOk result (self.new.next ≡ self.old.next + 1) }
         ensures graphs { OnOk result (slot_graphs pool.new self.new.slots
-            ≡ slot_graphs pool.old self.old.slots ++ shown (applied delta.now []) cols ∷ []) }
+            ≡ slot_graphs pool.old self.old.slots ++ shown (applied delta.now []) (with_messages cols) ∷ []) }
         ensures tied { IsTied pool.new self.new }
         ensures now { graph_now pool.new ≡ graph_now pool.old }
 
@@ -259,7 +269,7 @@ impl Handles {
         ensures err { OnErr result (self.new ≡ self.old) }
         ensures graphs_err { OnErr result (SameGraphs pool.old pool.new) }
     {
-        let slot = attach(pool, Base::Nothing, delta, cols)?;
+        let slot = attach(pool, Base::Nothing, delta, with_messages(cols))?;
         self.entries.push_reserved(Entry {
             handle: self.next as u32,
             stands: Stands::Base { node, cols },

@@ -34,7 +34,7 @@ none_asked cols = by cols.nodes_attr cols.edges_attr
 pub asked_within : (e : Entry) (cols : Columns) → asked_in e cols ≤ total e.lengths
 asked_within e cols = by cols.nodes_attr cols.edges_attr
   where
-    by : (n m : Bool) → asked_in e (record { nodes_attr = n; edges_attr = m }) ≤ total e.lengths
+    by : (n m : Bool) → asked_in e (record { nodes_attr = n; edges_attr = m; transient = cols.transient }) ≤ total e.lengths
     by true true = omega arith
     by true false = omega arith
     by false true = omega arith

@@ -1,5 +1,5 @@
 -- A catalogue that holds the records of a history gives the graph of the history.
-use Rattle.std.proofs.Common.{◌≡◌, ℕ, ◌+◌, ◌-◌, ◌*◌, ◌/◌, ◌^◌, ◌≤◌, ◌<◌, Bool, true, List as ListOf, [], ◌∷◌, length, map, Option, Some, None, is_some, refl, sym, ap, subst, ◌∙◌, arith, if◌then◌else◌, le-div_iff_mul-le, div-lt_iff_lt-mul}
+use Rattle.std.proofs.Common.{◌≡◌, ℕ, ◌+◌, ◌-◌, ◌*◌, ◌/◌, ◌^◌, ◌≤◌, ◌<◌, Bool, true, List as ListOf, [], length, map, Option, Some, None, is_some, refl, sym, ap, subst, ◌∙◌, arith, if◌then◌else◌, le-div_iff_mul-le, div-lt_iff_lt-mul}
 use Rattle.std.specs.Prelude.{unwrap_or, nat_le, nat_lt, slice_index}
 use Rattle.std.specs.List.{All, Contains}
 use Rattle.std.specs.Map.{lookup}
@@ -21,7 +21,7 @@ use Rattle.dg_index.specs.Hierarchy.{leaves, numbers, parent}
 use Rattle.dg_index.specs.IndexKeys.{key_exists}
 use Rattle.dg_index.specs.IndexRecords.{heights, keys_of, lists_due, column_in, length_in as length_in_history}
 use Rattle.dg_index.specs.OpenedIndex.{opened_of}
-use Rattle.dg_index.proofs.OpenedIndexRecords.{told_at, record_held}
+use Rattle.dg_index.proofs.OpenedIndexRecords.{lengths_in, told_at, record_held}
 use Rattle.dg_index.proofs.IndexRecordColumns.{parent_is, power_some}
 use Rattle.dg_index.proofs.OpenedIndexHistories.{large_parameters}
 use Rattle.dg_plan.specs.IndexGraph.{edges_of, inners_at}
@@ -88,10 +88,11 @@ module _ (z : History) (legal : IsLegal z) where
   pub held_lengths : (k : Key) (e : Entry) → lookup (same_key k) (opened_of z).index.records ≡ Some e → (col : Column) → column_length_in e col ≡ length (column_in z k col)
   held_lengths k e is col = by col (told_at z legal k e is).0
     where
-      by : (col : Column) → e.lengths ≡ length (column_in z k column.Structure) ∷ length (column_in z k column.NodeAttr) ∷ length (column_in z k column.EdgeAttr) ∷ [] → column_length_in e col ≡ length (column_in z k col)
+      by : (col : Column) → e.lengths ≡ lengths_in z k → column_length_in e col ≡ length (column_in z k col)
       by column.Structure told = ap (λ (l : ListOf ℕ). slice_index l 0) told
       by column.NodeAttr told = ap (λ (l : ListOf ℕ). slice_index l 1) told
       by column.EdgeAttr told = ap (λ (l : ListOf ℕ). slice_index l 2) told
+      by column.Transient told = ap (λ (l : ListOf ℕ). slice_index l 3) told
 
   -- each of the keys of the index is held
   pub keys_held : (k : Key) → Contains (keys_of z.params (length (events_of z))) k → is_some (lookup (same_key k) (opened_of z).index.records) ≡ true

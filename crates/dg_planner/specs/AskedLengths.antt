@@ -8,7 +8,8 @@ use Rattle.dg_index.specs.declared.entry.Entry.{Entry}
 use Rattle.dg_catalogue.specs.Entries.{Holdings, column_length_in}
 use Rattle.dg_catalogue.specs.Held.{length_of}
 
--- the bytes of the asked columns, where this is what each column has: the structure is always asked for
+-- the bytes of the asked columns, where this is what each column has: the structure is always asked for, and messages never
+-- count, since no step reads them
 abbrev pub asked_of : Columns → (Column → ℕ) → ℕ
 asked_of cols bytes =
     bytes Structure

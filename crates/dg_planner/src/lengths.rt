@@ -8,18 +8,18 @@ use dg_catalogue::{Catalogue, Entry};
 use dg_graph::Columns;
 use dg_history::Key;
 
-// The bytes of the asked columns of an entry.
+// The bytes of the asked columns of an entry, without messages: no step reads them.
 fn asked_in(entry: &Entry, cols: Columns) -> u64
     requires { IsInRange entry.now }
     ensures { result ≡ asked_in entry.now cols }
 {
-    let [structure, nodes_attr, edges_attr] = entry.lengths;
+    let [structure, nodes_attr, edges_attr, _] = entry.lengths;
     let of_nodes = if cols.nodes_attr { nodes_attr } else { 0 };
     let of_edges = if cols.edges_attr { edges_attr } else { 0 };
     structure + (of_nodes + of_edges)
 }
 
-/// The bytes of the asked columns of a record, and 0 where its key is not held.
+/// The bytes of the asked columns of a record, without messages, and 0 where its key is not held.
 pub fn asked_length(catalogue: &Catalogue, cols: Columns, key: Key) -> u64
     ensures { result ≡ asked_length_of catalogue.now cols key }
 {

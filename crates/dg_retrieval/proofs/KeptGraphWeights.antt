@@ -1,7 +1,7 @@
 -- What a tree of plans weighs is the bytes of the records that it enters.
-use Rattle.std.proofs.Common.{◌≡◌, ℕ, ◌+◌, ◌<◌, Bool, true, false, List as ListOf, [], ◌∷◌, ◌++◌, map, length, length-append, Option, Some, None, is_some, refl, sym, ap, subst, ◌∙◌, arith}
+use Rattle.std.proofs.Common.{◌≡◌, ℕ, ◌+◌, ◌<◌, Bool, true, false, List as ListOf, [], ◌∷◌, ◌++◌, map, length, Option, Some, None, is_some, refl, sym, ap, subst, ◌∙◌, arith}
 use Rattle.std.specs.Prelude.{slice_get}
-use Rattle.std.specs.List.{All, flat_map, sum_by}
+use Rattle.std.specs.List.{All, sum_by}
 use Rattle.std.specs.Map.{lookup}
 use Rattle.std.specs.Option.{option_map, option_to_list}
 use Rattle.std.proofs.lemmas.Bool.{false≢true}
@@ -11,23 +11,20 @@ use Rattle.std.proofs.lemmas.Option.{slice_get-map}
 use Rattle.dg_graph.specs.declared.element.Column.{Column}
 use Rattle.dg_graph.specs.declared.element.Column.TheVariants.{Structure, NodeAttr, EdgeAttr}
 use Rattle.dg_graph.specs.declared.element.Columns.{Columns}
-use Rattle.dg_graph.specs.declared.event.Event.{Event}
 use Rattle.dg_history.specs.declared.node.Key.{Key}
 use Rattle.dg_history.specs.declared.node.NodeId.{NodeId}
 use Rattle.dg_history.specs.declared.params.Params.{Params}
-use Rattle.dg_history.specs.History.{Batch, History, events_of}
+use Rattle.dg_history.specs.History.{History, events_of}
 use Rattle.dg_history.specs.Keys.{same_key}
-use Rattle.dg_index.specs.declared.entry.BatchEntry.{BatchEntry}
 use Rattle.dg_index.specs.declared.entry.Entry.{Entry}
-use Rattle.dg_index.specs.FileOfHistory.{segment_of}
 use Rattle.dg_index.specs.ImageOfHistory.{IsImageOf}
 use Rattle.dg_index.specs.IndexKeys.{key_exists}
 use Rattle.dg_index.specs.IndexRecords.{column_in, length_in}
-use Rattle.dg_index.specs.OpenedIndex.{Opened, Opening, bare, column_at, entry_or_none, event_total, opened_of, opened_onto, with_segment}
+use Rattle.dg_index.specs.OpenedIndex.{Opening, column_at, entry_or_none, event_total, opened_of}
+use Rattle.dg_index.proofs.HeldRecords.{known}
 use Rattle.dg_index.proofs.OpenedIndexRecords.{record_held}
 use Rattle.dg_index.proofs.IndexRecordColumns.{columns_are_kept}
 use Rattle.dg_index.proofs.OpenedIndexHistories.{large_parameters}
-use Rattle.dg_index.proofs.RecentEventPieces.{batches_of, noted}
 use Rattle.dg_plan.specs.declared.edge.Edge.{Edge}
 use Rattle.dg_plan.specs.declared.edge.Via.{Via}
 use Rattle.dg_plan.specs.declared.edge.Via.TheVariants as via
@@ -36,6 +33,7 @@ use Rattle.dg_plan.specs.Walks.{Arc, Graft, IsTree, entered, steps_of, tree_weig
 use Rattle.dg_plan.proofs.WalkPlans.{one_plan}
 use Rattle.dg_planner.proofs.HistoryLawGraphs.{lengths_are}
 use Rattle.dg_fold.specs.BytesRead.{ColumnBytes, asked_length, entered_along, entered_by, entered_length, kept_in}
+use Rattle.dg_fold.specs.Parts.{graph_columns}
 use Rattle.dg_plan.specs.TreePaths.{edges_at}
 use Rattle.dg_retrieval.specs.KeptGraph.{holding, index_edges, index_ground}
 use Rattle.dg_retrieval.proofs.BranchTrees.{at_index}
@@ -43,9 +41,9 @@ use Rattle.dg_retrieval.proofs.KeptGraphTrees.{IsPaid, paid_edges}
 
 -- ---- any edges
 
--- the edge weighs the asked bytes of the record that it enters
+-- the edge weighs the asked bytes of the record that it enters, without messages
 abbrev pub WeighsWhatItEnters : ColumnBytes → Columns → Edge → Type 0
-WeighsWhatItEnters bytes cols e = e.weight ≡ sum_by (asked_length bytes cols) (entered_by e.via)
+WeighsWhatItEnters bytes cols e = e.weight ≡ sum_by (asked_length bytes (graph_columns cols)) (entered_by e.via)
 
 -- steps weigh the asked bytes of the records that they enter
 pub weigh_all : (edges : ListOf Edge) (bytes : ColumnBytes) (cols : Columns) → All (WeighsWhatItEnters bytes cols) edges → (steps : ListOf ℕ)
@@ -59,9 +57,9 @@ weigh_all edges bytes cols all (i ∷ steps) = by (weigh_all edges bytes cols al
         omega (arith, rest, here)
     by rest (Some e) is =
         let here : weight_in (slice_get (arcs_of edges) i) ≡ e.weight = ap weight_in (slice_get-map arc_of edges i ∙ ap (option_map arc_of) is) in
-        let one : e.weight ≡ sum_by (asked_length bytes cols) (entered_by e.via) = at_index (WeighsWhatItEnters bytes cols) edges i e all is in
-        let both : entered_length bytes cols (e ∷ edges_at edges steps) ≡ sum_by (asked_length bytes cols) (entered_by e.via) + entered_length bytes cols (edges_at edges steps) =
-        sum_by-append (asked_length bytes cols) (entered_by e.via) (entered_along (edges_at edges steps)) in
+        let one : e.weight ≡ sum_by (asked_length bytes (graph_columns cols)) (entered_by e.via) = at_index (WeighsWhatItEnters bytes cols) edges i e all is in
+        let both : entered_length bytes cols (e ∷ edges_at edges steps) ≡ sum_by (asked_length bytes (graph_columns cols)) (entered_by e.via) + entered_length bytes cols (edges_at edges steps) =
+        sum_by-append (asked_length bytes (graph_columns cols)) (entered_by e.via) (entered_along (edges_at edges steps)) in
         omega (arith, rest, here, one, both)
 
 -- a tree weighs what its steps do
@@ -88,21 +86,11 @@ one_weight g tree targets xs ys t u = tree_steps_weigh g xs ∙ ap (weight_of g)
 
 -- ---- what a history is opened as
 
-params_onto : (p : Params) (x : Opened) (before : ListOf Event) (batches : ListOf Batch) → (opened_onto p x before batches).index.params ≡ x.index.params
-params_onto p x before [] = refl
-params_onto p x before (b ∷ batches) = params_onto p (with_segment x (segment_of p before b)) (before ++ b.events) batches
-
 pub opened_params : (z : History) → (opened_of z).index.params ≡ z.params
-opened_params z = params_onto z.params (bare z.params) [] z.batches
-
-events_noted : (batches : ListOf Batch) → event_total (map noted batches) ≡ length (flat_map (λ (b : Batch). b.events) batches)
-events_noted [] = refl
-events_noted (b ∷ batches) =
-    sum_by-cons (λ (e : BatchEntry). e.events) (noted b) (map noted batches) ∙ ap (λ n. length b.events + n) (events_noted batches)
-    ∙ sym (length-append b.events (flat_map (λ (b : Batch). b.events) batches))
+opened_params z = (known z).params
 
 pub opened_events : (z : History) → event_total (opened_of z).index.batches ≡ length (events_of z)
-opened_events z = ap event_total (batches_of z) ∙ events_noted z.batches
+opened_events z = (known z).count
 
 -- ---- over an image of a history
 
@@ -121,10 +109,10 @@ has_columns z image stands o opened k held col = by (lookup (same_key k) o.recor
         ∙ columns_are_kept z image stands k e (ap (λ (x : Opening). lookup (same_key k) x.records) (sym opened) ∙ is) col
 
 -- the asked bytes of a record
-asked_is : (z : History) (bytes : ColumnBytes) (cols : Columns) (k : Key) → ((col : Column) → bytes k col ≡ column_in z k col) → asked_length bytes cols k ≡ length_in z k cols
+asked_is : (z : History) (bytes : ColumnBytes) (cols : Columns) (k : Key) → ((col : Column) → bytes k col ≡ column_in z k col) → asked_length bytes (graph_columns cols) k ≡ length_in z k cols
 asked_is z bytes cols k same = by cols.nodes_attr cols.edges_attr
   where
-    by : (n m : Bool) → asked_length bytes (record { nodes_attr = n; edges_attr = m }) k ≡ length_in z k (record { nodes_attr = n; edges_attr = m })
+    by : (n m : Bool) → asked_length bytes (record { nodes_attr = n; edges_attr = m; transient = false }) k ≡ length_in z k (record { nodes_attr = n; edges_attr = m; transient = cols.transient })
     by true true = omega (arith, ap length (same Structure), ap length (same NodeAttr), ap length (same EdgeAttr))
     by true false = omega (arith, ap length (same Structure), ap length (same NodeAttr))
     by false true = omega (arith, ap length (same Structure), ap length (same EdgeAttr))
@@ -143,14 +131,14 @@ module _ (z : History) (image : ListOf ℕ) (stands : IsImageOf z image) (o : Op
   weighs : (e : Edge) → IsPaid o.params n (index_ground o cols memory bases).weight e.weight e.via → WeighsWhatItEnters (kept_in image o) cols e
   weighs e = by e.via e.weight
     where
-      by : (v : Via) (w : ℕ) → IsPaid o.params n (index_ground o cols memory bases).weight w v → w ≡ sum_by (asked_length (kept_in image o) cols) (entered_by v)
+      by : (v : Via) (w : ℕ) → IsPaid o.params n (index_ground o cols memory bases).weight w v → w ≡ sum_by (asked_length (kept_in image o) (graph_columns cols)) (entered_by v)
       by via.Now w paid = paid
       by (via.Base handle) w paid = paid
       by (via.Paid k way) w paid =
           let there : key_exists z.params (length (events_of z)) k ≡ true = (λ i. key_exists (sym params i) (sym count i) k) ∙ paid.0 in
           let held : is_some (lookup (same_key k) o.records) ≡ true = ap (λ (x : Opening). is_some (lookup (same_key k) x.records)) opened ∙ record_held z stands.legal k there in
           let weight : (index_ground o cols memory bases).weight k ≡ length_in z k cols = lengths_are z stands.legal (holding o.records) (ap (λ (x : Opening). x.records) opened) cols k there in
-          let bytes : asked_length (kept_in image o) cols k ≡ length_in z k cols = asked_is z (kept_in image o) cols k (has k held) in
+          let bytes : asked_length (kept_in image o) (graph_columns cols) k ≡ length_in z k cols = asked_is z (kept_in image o) cols k (has k held) in
           omega (arith, paid.1, weight, bytes)
       by (via.Held k way) w paid = paid
       by (via.Recent way) w paid = paid

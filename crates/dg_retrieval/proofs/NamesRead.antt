@@ -8,7 +8,7 @@ use Rattle.std.proofs.lemmas.List.Elements.{All-nil, All-cons}
 use Rattle.dg_columns.proofs.ReadFitsDeltas.{name_bound}
 use Rattle.dg_columns.proofs.FieldElements.{bind_ok, elements_are, ok_is, passed}
 use Rattle.dg_columns.proofs.Fields.{field_ok}
-use Rattle.dg_graph.specs.ColumnGrammar.{and_read, any_number, body_at, body_size, delta_in, edge_fields, eight_bytes, element_at, element_size, elements_at, end_at, events_at, events_in, four_bytes, one_byte, rises_from, structure_body, two_bytes, value_element, value_fields, value_of}
+use Rattle.dg_graph.specs.ColumnGrammar.{and_read, any_number, body_at, body_size, changes_in, delta_in, edge_fields, eight_bytes, element_at, element_size, elements_at, end_at, events_at, events_in, four_bytes, one_byte, rises_from, structure_body, two_bytes, value_element, value_fields, value_of}
 use Rattle.dg_graph.specs.Composition.{Delta}
 use Rattle.dg_graph.specs.declared.element.Column.{Column}
 use Rattle.dg_graph.specs.declared.element.Column.TheVariants as column
@@ -68,6 +68,7 @@ module _ (names : ℕ) where
         ] a.2
     element_there column.NodeAttr at x e = made_value (λ id key value. element.NodeAttr id key value) at x (λ id key value h. h) e
     element_there column.EdgeAttr at x e = made_value (λ id key value. element.EdgeAttr id key value) at x (λ id key value h. h) e
+    element_there column.Transient at x e = absurd cc
 
     elements_there : (k : ℕ) (col : Column) (others : List Element) (at : ℕ) (last : Option Element) (xs : List Element) (n : ℕ) → elements_at k col names bytes others at last ≡ Ok (xs, n) → NamesAreThere names xs
     elements_there zero col others at last xs n e = subst (NamesAreThere names) (elements_are [] xs at n e) (of_none (HasNamesThere names))
@@ -131,6 +132,13 @@ module _ (names : ℕ) where
         structure_there k.0 (at + 1) what k.2
     body_there column.NodeAttr at what e = change_there (λ id key old new. body.NodeAttr id key old new) at what (λ id key old new h. h) e
     body_there column.EdgeAttr at what e = change_there (λ id key old new. body.EdgeAttr id key old new) at what (λ id key old new h. h) e
+    body_there column.Transient at what e =
+        let last : ℕ → ℕ → ℕ → Result Body ℕ = λ src dst value. Ok (body.Message src dst value) in
+        let is_value : ℕ → Bool = λ n. nat_lt n names in
+        let a = bind_ok (eight_bytes any_number bytes at) (λ src. and_read (eight_bytes any_number bytes (at + 8)) (λ dst. and_read (four_bytes is_value bytes (at + 16)) (last src dst))) what e in
+        let b = bind_ok (eight_bytes any_number bytes (at + 8)) (λ dst. and_read (four_bytes is_value bytes (at + 16)) (last a.0 dst)) what a.2 in
+        let c = bind_ok (four_bytes is_value bytes (at + 16)) (last a.0 b.0) what b.2 in
+        subst (BodyHasNamesThere names) (ok_is (body.Message a.0 b.0 c.0) what c.2) (name_bound names bytes (at + 16) c.0 c.1)
 
     abbrev events_of_placed : List Placed → List Event
     events_of_placed placed = map (λ (p : Placed). p.event) placed
@@ -159,9 +167,12 @@ module _ (names : ℕ) where
       let c = bind_ok (four_bytes (λ n. nat_le 1 n) (b ∷ bytes) 0) (λ count. events_at count col names (b ∷ bytes) 4 0 0) placed e in
       events_there (b ∷ bytes) c.0 col 4 0 0 placed c.2
 
-  pub read_delta_there : (col : Column) (bytes : List ℕ) (d : Delta) → delta_in col names bytes ≡ Ok d → DeltaThere d
-  read_delta_there col [] d e = subst DeltaThere (ok_is (record { minus = []; plus = [] }) d e) (of_none (HasNamesThere names), of_none (HasNamesThere names))
-  read_delta_there col (b0 ∷ more) d e =
+  none_there : (d : Delta) → record { minus = []; plus = [] } ≡ d → DeltaThere d
+  none_there d is = subst DeltaThere is (of_none (HasNamesThere names), of_none (HasNamesThere names))
+
+  changes_there : (col : Column) (bytes : List ℕ) (d : Delta) → changes_in col names bytes ≡ Ok d → DeltaThere d
+  changes_there col [] d e = none_there d (ok_is (record { minus = []; plus = [] }) d e)
+  changes_there col (b0 ∷ more) d e =
       let bytes : List ℕ = b0 ∷ more in
       let is_count : ℕ → ℕ → Bool = λ out n. not (out == 0 && n == 0) in
       let made : List Element × ℕ → List Element × ℕ → Delta = λ m p. record { minus = m.0; plus = p.0 } in
@@ -171,3 +182,10 @@ module _ (names : ℕ) where
       let p = bind_ok (elements_at c.0 col names bytes m.0.0 (m.0.1 + 4) None) (λ p. end_at (made m.0 p) bytes p.1) d c.2 in
       subst DeltaThere (passed (length bytes == p.0.1) p.0.1 (made m.0 p.0) d p.2).1
       (elements_there bytes a.0 col [] 4 None m.0.0 m.0.1 m.1, elements_there bytes c.0 col m.0.0 (m.0.1 + 4) None p.0.0 p.0.1 p.1)
+
+  pub read_delta_there : (col : Column) (bytes : List ℕ) (d : Delta) → delta_in col names bytes ≡ Ok d → DeltaThere d
+  read_delta_there column.Structure bytes d e = changes_there column.Structure bytes d e
+  read_delta_there column.NodeAttr bytes d e = changes_there column.NodeAttr bytes d e
+  read_delta_there column.EdgeAttr bytes d e = changes_there column.EdgeAttr bytes d e
+  read_delta_there column.Transient [] d e = none_there d (ok_is (record { minus = []; plus = [] }) d e)
+  read_delta_there column.Transient (b ∷ bytes) d e = absurd cc

@@ -42,6 +42,7 @@ all_shown (element.Node id ∷ set) = ap (λ t. element.Node id ∷ t) (all_show
 all_shown (element.Edge id src dst directed ∷ set) = ap (λ t. element.Edge id src dst directed ∷ t) (all_shown set)
 all_shown (element.NodeAttr id key value ∷ set) = ap (λ t. element.NodeAttr id key value ∷ t) (all_shown set)
 all_shown (element.EdgeAttr id key value ∷ set) = ap (λ t. element.EdgeAttr id key value ∷ t) (all_shown set)
+all_shown (element.Message src dst value ∷ set) = ap (λ t. element.Message src dst value ∷ t) (all_shown set)
 
 -- ---- edges without memory
 

@@ -24,6 +24,7 @@ values_fit name_count few set there x h = own x (there x h)
     own (element.Edge id src dst directed) named = tt
     own (element.NodeAttr id key value) named = let below = named.1 in omega (arith, below, few)
     own (element.EdgeAttr id key value) named = let below = named.1 in omega (arith, below, few)
+    own (element.Message src dst value) named = omega (arith, named, few)
 
 added_value : (b : Body) → NamesFit b → IfSome (added_by b) ValueFits
 added_value (body.NodeAdded id) f = tt
@@ -32,6 +33,7 @@ added_value (body.EdgeAdded id src dst directed) f = tt
 added_value (body.EdgeRemoved id src dst directed) f = tt
 added_value (body.NodeAttr id key old new) f = moved_value (2 ^ 30) ValueFits (element.NodeAttr id key) new old (λ n h. h) f.2
 added_value (body.EdgeAttr id key old new) f = moved_value (2 ^ 30) ValueFits (element.EdgeAttr id key) new old (λ n h. h) f.2
+added_value (body.Message src dst value) f = tt
 
 -- the graph past the event
 pub forwards_fit : (set : List Element) (e : Event) → ValuesFit set → NamesFit e.body → ValuesFit (forwards set e)

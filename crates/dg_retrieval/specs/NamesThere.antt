@@ -14,6 +14,7 @@ HasNamesThere name_count (element.Node id) = Unit {0}
 HasNamesThere name_count (element.Edge id src dst directed) = Unit {0}
 HasNamesThere name_count (element.NodeAttr id key value) = (key < name_count) × (value < name_count)
 HasNamesThere name_count (element.EdgeAttr id key value) = (key < name_count) × (value < name_count)
+HasNamesThere name_count (element.Message src dst value) = value < name_count
 
 -- so are those of all elements of the set
 abbrev pub NamesAreThere : ℕ → List Element → Type 0
@@ -31,6 +32,7 @@ BodyHasNamesThere name_count (body.EdgeAdded id src dst directed) = Unit {0}
 BodyHasNamesThere name_count (body.EdgeRemoved id src dst directed) = Unit {0}
 BodyHasNamesThere name_count (body.NodeAttr id key old new) = ChangeHasNamesThere name_count key old new
 BodyHasNamesThere name_count (body.EdgeAttr id key old new) = ChangeHasNamesThere name_count key old new
+BodyHasNamesThere name_count (body.Message src dst value) = value < name_count
 
 -- and of all these events
 abbrev pub EventNamesAreThere : ℕ → List Event → Type 0

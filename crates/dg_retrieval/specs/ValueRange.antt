@@ -10,6 +10,7 @@ ValueFits (element.Node id) = Unit {0}
 ValueFits (element.Edge id src dst directed) = Unit {0}
 ValueFits (element.NodeAttr id key value) = value < 2 ^ 30
 ValueFits (element.EdgeAttr id key value) = value < 2 ^ 30
+ValueFits (element.Message src dst value) = value < 2 ^ 30
 
 -- so are those of all elements of the set
 abbrev pub ValuesFit : List Element → Type 0

@@ -28,7 +28,7 @@ use std::thread::Threads;
 pub struct NodeLead {
     /// What is put in; the set is what comes, cut to the asked columns.
     pub delta: Delta,
-    /// The bytes of the records that the node's least plan enters, in the asked columns.
+    /// The bytes of the records that the node's least plan enters, in the asked columns, without messages.
     pub weight: u64,
 }
 

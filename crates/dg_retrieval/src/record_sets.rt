@@ -26,15 +26,16 @@ use dg_set::Set;
 use std::alloc::{AllocError, Global};
 use std::thread::Threads;
 
-/// All columns of a record.
+/// All columns of a record; messages are in no set, and are not read.
 pub const ALL_COLUMNS: Columns = Columns {
     nodes_attr: true,
     edges_attr: true,
+    transient: true,
 };
 
 /// The set of a node, by its least plan over the records of the index alone. Each record that the plan enters is
-/// read once, with all its columns, and nothing else; the parts are composed by halves. The history has
-/// `name_count` names; each one in the set is among them.
+/// read once, with all its columns but messages, and nothing else; the parts are composed by halves. The history
+/// has `name_count` names; each one in the set is among them.
 ///
 /// `Disk` where a read failed, `Damaged` with the first column that is in no spelling, in the order of the plan's
 /// steps and of structure, node attributes, edge attributes, and `Memory`.
@@ -98,8 +99,8 @@ fn sets_led(alloc: Global, leads: &Leads) -> Result<Vec<Set>, AllocError>
 }
 
 /// The sets of several nodes, 32 of them at the most, by one tree over the records of the index alone. Each record that
-/// the tree enters is read once, with all its columns, and nothing else. The history has `name_count` names; each one in
-/// the sets is among them.
+/// the tree enters is read once, with all its columns but messages, and nothing else. The history has `name_count` names;
+/// each one in the sets is among them.
 ///
 /// `Disk` where a read failed, `Damaged` with the first column that is in no spelling, in the order of the tree's
 /// steps and of structure, node attributes, edge attributes, and `Memory`.

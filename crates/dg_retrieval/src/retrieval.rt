@@ -26,7 +26,7 @@ pub struct Retrieved {
     /// What leads to the graph as of each instant: what its path begins with, and the deltas from there. The graph is
     /// what comes, cut to the asked columns.
     pub leads: Leads,
-    /// The bytes of the records that the tree enters, in the asked columns.
+    /// The bytes of the records that the tree enters, in the asked columns, without messages.
     pub weight: u64,
     /// What the single plan of each instant weighs, in bytes.
     pub singles: Vec<u64>,

@@ -11,6 +11,7 @@ use Rattle.dg_graph.specs.declared.placed.Placed.{Placed}
 use Rattle.dg_graph.specs.ColumnMerge.{at_positions}
 use Rattle.dg_graph.specs.Columns.{same_column, column_of_body, placed_from}
 use Rattle.dg_columns.specs.ReadFits.{PositionsRise}
+use Rattle.dg_columns.proofs.ColumnLawEvents.{same_column_is}
 use Rattle.dg_index.proofs.IndexRecordColumns.{Each}
 use Rattle.dg_sound_files.proofs.ImageTextNames.{then_is, map_is, some_is}
 
@@ -130,72 +131,33 @@ popped n (p ∷ xs) r = by (p.at == n) refl
 abbrev EachIn : Column → List Placed → Type 0
 EachIn col xs = Each (λ (p : Placed). stands_in col p ≡ true) xs
 
+-- what holds of the events of a column
+abbrev Holds : (Event → Type 0) → List Placed → Type 0
+Holds P xs = Each (λ (p : Placed). P p.event) xs
+
 each_rest : (P : Placed → Type 0) (o : Option Placed) (rest : List Placed) → Each P (in_front o rest) → Each P rest
 each_rest P None rest all = all
 each_rest P (Some p) rest all = all.1
 
-pub record Unmerged (P : Event → Type 0) (n : ℕ) (a b c : List Placed) (events : List Event) : Type 0 where
-  pub structure : a ≡ filter (stands_in column.Structure) (placed_from n events)
-  pub node_attrs : b ≡ filter (stands_in column.NodeAttr) (placed_from n events)
-  pub edge_attrs : c ≡ filter (stands_in column.EdgeAttr) (placed_from n events)
-  pub each : Each P events
+-- the four columns one behind another
+abbrev pub all_of : (Column → List Placed) → List Placed
+all_of parts = parts column.Structure ++ parts column.NodeAttr ++ parts column.EdgeAttr ++ parts column.Transient
 
--- one of three events is there, and stands where it does
-record OneHere (P : Event → Type 0) (n : ℕ) (x y z : Option Placed) (e : Event) : Type 0 where
-  structure : (rest : List Placed) → in_front x rest ≡ cond (stands_in column.Structure (record { at = n; event = e })) (record { at = n; event = e } ∷ rest) rest
-  node_attrs : (rest : List Placed) → in_front y rest ≡ cond (stands_in column.NodeAttr (record { at = n; event = e })) (record { at = n; event = e } ∷ rest) rest
-  edge_attrs : (rest : List Placed) → in_front z rest ≡ cond (stands_in column.EdgeAttr (record { at = n; event = e })) (record { at = n; event = e } ∷ rest) rest
-  holds : P e
+-- of what stands at the position in each column: the first, and how many there are
+abbrev first_of : (Column → Option Placed) → Option Placed
+first_of here = option_or (option_or (option_or (here column.Structure) (here column.NodeAttr)) (here column.EdgeAttr)) (here column.Transient)
+
+abbrev count_of : (Column → Option Placed) → ℕ
+count_of here =
+    counted_one (here column.Structure) + counted_one (here column.NodeAttr) + counted_one (here column.EdgeAttr) + counted_one (here column.Transient)
+
+pub record Unmerged (P : Event → Type 0) (n : ℕ) (parts : Column → List Placed) (events : List Event) : Type 0 where
+  pub columns : (col : Column) → parts col ≡ filter (stands_in col) (placed_from n events)
+  pub each : Each P events
 
 abbrev IsHere : (Event → Type 0) → ℕ → Column → Option Placed → Type 0
 IsHere P n col None = Unit {0}
 IsHere P n col (Some p) = (p.at ≡ n) × (stands_in col p ≡ true) × P p.event
-
-column_same : (a b : Column) → same_column a b ≡ true → a ≡ b
-column_same column.Structure column.Structure e = refl
-column_same column.NodeAttr column.NodeAttr e = refl
-column_same column.EdgeAttr column.EdgeAttr e = refl
-column_same column.Structure column.NodeAttr e = absurd cc
-column_same column.Structure column.EdgeAttr e = absurd cc
-column_same column.NodeAttr column.Structure e = absurd cc
-column_same column.NodeAttr column.EdgeAttr e = absurd cc
-column_same column.EdgeAttr column.Structure e = absurd cc
-column_same column.EdgeAttr column.NodeAttr e = absurd cc
-
-one_here : (P : Event → Type 0) (n : ℕ) (x y z : Option Placed) (p : Placed) → IsHere P n column.Structure x → IsHere P n column.NodeAttr y → IsHere P n column.EdgeAttr z
-    → option_or (option_or x y) z ≡ Some p → counted_one x + counted_one y + counted_one z ≤ 1 → OneHere P n x y z p.event
-one_here P n None None None p hx hy hz e one = absurd cc
-one_here P n (Some q) None None p hx hy hz e one =
-    let col : column_of_body q.event.body ≡ column.Structure = column_same _ _ hx.1 in
-    subst (λ (p : Placed). OneHere P n (Some q) None None p.event) (some_is q p e) (record {
-      structure = λ rest. (λ i. record { at = hx.0 i; event = q.event } ∷ rest) ∙ ap (λ (c : Column). cond (same_column c column.Structure) (record { at = n; event = q.event } ∷ rest) rest) (sym col);
-      node_attrs = λ rest. ap (λ (c : Column). cond (same_column c column.NodeAttr) (record { at = n; event = q.event } ∷ rest) rest) (sym col);
-      edge_attrs = λ rest. ap (λ (c : Column). cond (same_column c column.EdgeAttr) (record { at = n; event = q.event } ∷ rest) rest) (sym col);
-      holds = hx.2;
-    })
-one_here P n None (Some q) None p hx hy hz e one =
-    let col : column_of_body q.event.body ≡ column.NodeAttr = column_same _ _ hy.1 in
-    subst (λ (p : Placed). OneHere P n None (Some q) None p.event) (some_is q p e) (record {
-      structure = λ rest. ap (λ (c : Column). cond (same_column c column.Structure) (record { at = n; event = q.event } ∷ rest) rest) (sym col);
-      node_attrs = λ rest. (λ i. record { at = hy.0 i; event = q.event } ∷ rest) ∙ ap (λ (c : Column). cond (same_column c column.NodeAttr) (record { at = n; event = q.event } ∷ rest) rest) (sym col);
-      edge_attrs = λ rest. ap (λ (c : Column). cond (same_column c column.EdgeAttr) (record { at = n; event = q.event } ∷ rest) rest) (sym col);
-      holds = hy.2;
-    })
-one_here P n None None (Some q) p hx hy hz e one =
-    let col : column_of_body q.event.body ≡ column.EdgeAttr = column_same _ _ hz.1 in
-    subst (λ (p : Placed). OneHere P n None None (Some q) p.event) (some_is q p e) (record {
-      structure = λ rest. ap (λ (c : Column). cond (same_column c column.Structure) (record { at = n; event = q.event } ∷ rest) rest) (sym col);
-      node_attrs = λ rest. ap (λ (c : Column). cond (same_column c column.NodeAttr) (record { at = n; event = q.event } ∷ rest) rest) (sym col);
-      edge_attrs = λ rest. (λ i. record { at = hz.0 i; event = q.event } ∷ rest) ∙ ap (λ (c : Column). cond (same_column c column.EdgeAttr) (record { at = n; event = q.event } ∷ rest) rest) (sym col);
-      holds = hz.2;
-    })
-one_here P n (Some q) (Some r) z p hx hy hz e one = absurd (omega (arith, one))
-one_here P n (Some q) None (Some r) p hx hy hz e one = absurd (omega (arith, one))
-one_here P n None (Some q) (Some r) p hx hy hz e one = absurd (omega (arith, one))
-
--- what holds of the events of a column
-abbrev Holds : (Event → Type 0) → List Placed → Type 0
-Holds P xs = Each (λ (p : Placed). P p.event) xs
 
 is_here : (P : Event → Type 0) (n : ℕ) (col : Column) (o : Option Placed) (rest : List Placed) → PositionsRise n (in_front o rest) → (find (stands_at n) (in_front o rest) ≡ o) → EachIn col (in_front o rest) → Holds P (in_front o rest) → IsHere P n col o
 is_here P n col None rest r f inside holds = tt
@@ -205,51 +167,152 @@ is_here P n col (Some p) rest r f inside holds = by (p.at == n) refl f
     by true e f = (eqb-true p.at n e, inside.0, holds.0)
     by false e f = absurd (let none = none_before n (p.at + 1) rest (omega (arith, r.0)) r.1 in let no : None ≡ Some p = sym none ∙ f in cc)
 
-three_found : (n : ℕ) (a b c : List Placed) → find (stands_at n) (a ++ b ++ c) ≡ option_or (option_or (find (stands_at n) a) (find (stands_at n) b)) (find (stands_at n) c)
-three_found n a b c = find-append (stands_at n) (a ++ b) c ∙ ap (λ o. option_or o (find (stands_at n) c)) (find-append (stands_at n) a b)
+-- ---- one column has an event at the position
 
-pub unmerged : (P : Event → Type 0) (k n : ℕ) (a b c : List Placed) (events : List Event) → length a + length b + length c ≡ k
-    → PositionsRise n a → PositionsRise n b → PositionsRise n c → EachIn column.Structure a → EachIn column.NodeAttr b → EachIn column.EdgeAttr c → Holds P a → Holds P b → Holds P c
-    → at_positions k n (a ++ b ++ c) ≡ Some events → Unmerged P n a b c events × (length events ≡ k)
-unmerged P zero n [] [] [] events len ra rb rc ia ib ic ha hb hc e =
+-- it stands in this column, and nothing in the others
+record IsOnly (here : Column → Option Placed) (p : Placed) : Type 0 where
+  col : Column
+  is : here col ≡ Some p
+  others : (c : Column) → same_column col c ≡ false → here c ≡ None
+
+none_of : (o : Option Placed) → counted_one o ≡ 0 → o ≡ None
+none_of None e = refl
+none_of (Some p) e = absurd (omega (arith, e))
+
+only : (here : Column → Option Placed) (p : Placed) → first_of here ≡ Some p → count_of here ≤ 1 → IsOnly here p
+only here p first one = by (here column.Structure) refl (here column.NodeAttr) refl (here column.EdgeAttr) refl (here column.Transient) refl first
+  where
+    by : (s : Option Placed) → here column.Structure ≡ s → (n : Option Placed) → here column.NodeAttr ≡ n → (e : Option Placed) → here column.EdgeAttr ≡ e → (t : Option Placed) → here column.Transient ≡ t
+        → option_or (option_or (option_or s n) e) t ≡ Some p → IsOnly here p
+    by (Some q) s n is_n e is_e t is_t first = record { col = column.Structure; is = s ∙ first; others = others }
+      where
+        others : (c : Column) → same_column column.Structure c ≡ false → here c ≡ None
+        others column.Structure apart = absurd cc
+        others column.NodeAttr apart = none_of (here column.NodeAttr) (omega (arith, one, ap counted_one s))
+        others column.EdgeAttr apart = none_of (here column.EdgeAttr) (omega (arith, one, ap counted_one s))
+        others column.Transient apart = none_of (here column.Transient) (omega (arith, one, ap counted_one s))
+    by None s (Some q) n e is_e t is_t first = record { col = column.NodeAttr; is = n ∙ first; others = others }
+      where
+        others : (c : Column) → same_column column.NodeAttr c ≡ false → here c ≡ None
+        others column.Structure apart = s
+        others column.NodeAttr apart = absurd cc
+        others column.EdgeAttr apart = none_of (here column.EdgeAttr) (omega (arith, one, ap counted_one n))
+        others column.Transient apart = none_of (here column.Transient) (omega (arith, one, ap counted_one n))
+    by None s None n (Some q) e t is_t first = record { col = column.EdgeAttr; is = e ∙ first; others = others }
+      where
+        others : (c : Column) → same_column column.EdgeAttr c ≡ false → here c ≡ None
+        others column.Structure apart = s
+        others column.NodeAttr apart = n
+        others column.EdgeAttr apart = absurd cc
+        others column.Transient apart = none_of (here column.Transient) (omega (arith, one, ap counted_one e))
+    by None s None n None e (Some q) t first = record { col = column.Transient; is = t ∙ first; others = others }
+      where
+        others : (c : Column) → same_column column.Transient c ≡ false → here c ≡ None
+        others column.Structure apart = s
+        others column.NodeAttr apart = n
+        others column.EdgeAttr apart = e
+        others column.Transient apart = absurd cc
+    by None s None n None e None t first = absurd cc
+
+-- what stands in front of a column is the event, where it stands in this one
+record OneHere (P : Event → Type 0) (n : ℕ) (here : Column → Option Placed) (e : Event) : Type 0 where
+  column : (col : Column) (rest : List Placed) → in_front (here col) rest ≡ cond (stands_in col (record { at = n; event = e })) (record { at = n; event = e } ∷ rest) rest
+  holds : P e
+
+one_here : (P : Event → Type 0) (n : ℕ) (here : Column → Option Placed) (p : Placed) → ((col : Column) → IsHere P n col (here col)) → first_of here ≡ Some p → count_of here ≤ 1 → OneHere P n here p.event
+one_here P n here p each first one =
+    let o = only here p first one in
+    let h : (p.at ≡ n) × (stands_in o.col p ≡ true) × P p.event = subst (IsHere P n o.col) o.is (each o.col) in
+    let in_it : column_of_body p.event.body ≡ o.col = same_column_is _ _ h.1 in
+    record {
+      column = λ col rest. by o h.0 in_it col rest (same_column o.col col) refl;
+      holds = h.2;
+    }
+  where
+    by : (o : IsOnly here p) → p.at ≡ n → column_of_body p.event.body ≡ o.col → (col : Column) (rest : List Placed) (b : Bool) → same_column o.col col ≡ b
+        → in_front (here col) rest ≡ cond (stands_in col (record { at = n; event = p.event })) (record { at = n; event = p.event } ∷ rest) rest
+    by o at in_it col rest true same =
+        let col_is : o.col ≡ col = same_column_is o.col col same in
+        let stands : stands_in col (record { at = n; event = p.event }) ≡ true = ap (λ (c : Column). same_column c col) in_it ∙ same in
+        ap (λ (o : Option Placed). in_front o rest) (ap here (sym col_is) ∙ o.is) ∙ (λ i. record { at = at i; event = p.event } ∷ rest)
+        ∙ ap (λ b. cond b (record { at = n; event = p.event } ∷ rest) rest) (sym stands)
+    by o at in_it col rest false same =
+        let stands : stands_in col (record { at = n; event = p.event }) ≡ false = ap (λ (c : Column). same_column c col) in_it ∙ same in
+        ap (λ (o : Option Placed). in_front o rest) (o.others col same) ∙ ap (λ b. cond b (record { at = n; event = p.event } ∷ rest) rest) (sym stands)
+
+-- ---- all positions
+
+all_found : (n : ℕ) (parts : Column → List Placed) → find (stands_at n) (all_of parts) ≡ first_of (λ col. find (stands_at n) (parts col))
+all_found n parts =
+    let a : List Placed = parts column.Structure in
+    let b : List Placed = parts column.NodeAttr in
+    let c : List Placed = parts column.EdgeAttr in
+    let d : List Placed = parts column.Transient in
+    find-append (stands_at n) (a ++ b ++ c) d
+    ∙ ap (λ o. option_or o (find (stands_at n) d)) (find-append (stands_at n) (a ++ b) c ∙ ap (λ o. option_or o (find (stands_at n) c)) (find-append (stands_at n) a b))
+
+all_long : (parts : Column → List Placed) → length (all_of parts) ≡ length (parts column.Structure) + length (parts column.NodeAttr) + length (parts column.EdgeAttr) + length (parts column.Transient)
+all_long parts =
+    let a : List Placed = parts column.Structure in
+    let b : List Placed = parts column.NodeAttr in
+    let c : List Placed = parts column.EdgeAttr in
+    omega (arith, length-append (a ++ b ++ c) (parts column.Transient), length-append (a ++ b) c, length-append a b)
+
+no_placed : (xs : List Placed) → length xs ≡ 0 → xs ≡ []
+no_placed [] e = refl
+no_placed (p ∷ xs) e = absurd (omega (arith, e))
+
+one_at_least : (here : Column → Option Placed) (p : Placed) → first_of here ≡ Some p → 1 ≤ count_of here
+one_at_least here p first = by (here column.Structure) (here column.NodeAttr) (here column.EdgeAttr) (here column.Transient) first
+  where
+    by : (s n e t : Option Placed) → option_or (option_or (option_or s n) e) t ≡ Some p → 1 ≤ counted_one s + counted_one n + counted_one e + counted_one t
+    by (Some q) n e t first = omega arith
+    by None (Some q) e t first = omega arith
+    by None None (Some q) t first = omega arith
+    by None None None (Some q) first = omega arith
+    by None None None None first = absurd cc
+
+pub unmerged : (P : Event → Type 0) (k n : ℕ) (parts : Column → List Placed) (events : List Event) → length (all_of parts) ≡ k
+    → ((col : Column) → PositionsRise n (parts col)) → ((col : Column) → EachIn col (parts col)) → ((col : Column) → Holds P (parts col))
+    → at_positions k n (all_of parts) ≡ Some events → Unmerged P n parts events × (length events ≡ k)
+unmerged P zero n parts events len rise inside holds e =
     let nothing : List Event = [] in
-    subst (λ (events : List Event). Unmerged P n [] [] [] events × (length events ≡ 0)) (some_is nothing events e) (record { structure = refl; node_attrs = refl; edge_attrs = refl; each = tt }, refl)
-unmerged P zero n (p ∷ a) b c events len ra rb rc ia ib ic ha hb hc e = absurd (omega (arith, len))
-unmerged P zero n [] (p ∷ b) c events len ra rb rc ia ib ic ha hb hc e = absurd (omega (arith, len))
-unmerged P zero n [] [] (p ∷ c) events len ra rb rc ia ib ic ha hb hc e = absurd (omega (arith, len))
-unmerged P (suc k) n a b c events len ra rb rc ia ib ic ha hb hc e =
-    let pa = popped n a ra in
-    let pb = popped n b rb in
-    let pc = popped n c rc in
-    let found = then_is (λ (p : Placed). front_of p (at_positions k (n + 1) (a ++ b ++ c))) (find (stands_at n) (a ++ b ++ c)) events e in
-    let more = map_is (λ (events : List Event). found.0.event ∷ events) (at_positions k (n + 1) (a ++ b ++ c)) events found.2 in
-    let rest : at_positions k (n + 1) (pa.rest ++ pb.rest ++ pc.rest) ≡ Some more.0 =
-    same_found k (n + 1) (pa.rest ++ pb.rest ++ pc.rest) (a ++ b ++ c) (λ j le. three_found j pa.rest pb.rest pc.rest ∙ sym (three_found j a b c ∙ (λ i. option_or (option_or (pa.later j (omega (arith, le)) i) (pb.later j (omega (arith, le)) i)) (pc.later j (omega (arith, le)) i)))) ∙ more.1 in
-    let enough = room k (n + 1) (pa.rest ++ pb.rest ++ pc.rest) more.0 rest in
-    let long : length (pa.rest ++ pb.rest ++ pc.rest) ≡ length pa.rest + length pb.rest + length pc.rest = omega (arith, length-append (pa.rest ++ pb.rest) pc.rest, length-append pa.rest pb.rest) in
-    let one : counted_one pa.here + counted_one pb.here + counted_one pc.here ≤ 1 = omega (arith, enough, long, len, pa.len, pb.len, pc.len) in
-    let here : option_or (option_or pa.here pb.here) pc.here ≡ Some found.0 = (λ i. option_or (option_or (sym pa.found i) (sym pb.found i)) (sym pc.found i)) ∙ sym (three_found n a b c) ∙ found.1 in
-    let some : 1 ≤ counted_one pa.here + counted_one pb.here + counted_one pc.here = at_least pa.here pb.here pc.here found.0 here in
-    let h = one_here P n pa.here pb.here pc.here found.0 (is_here P n column.Structure pa.here pa.rest (subst (PositionsRise n) pa.whole ra) (ap (find (stands_at n)) (sym pa.whole) ∙ pa.found) (subst (EachIn column.Structure) pa.whole ia) (subst (Holds P) pa.whole ha))
-    (is_here P n column.NodeAttr pb.here pb.rest (subst (PositionsRise n) pb.whole rb) (ap (find (stands_at n)) (sym pb.whole) ∙ pb.found) (subst (EachIn column.NodeAttr) pb.whole ib) (subst (Holds P) pb.whole hb))
-    (is_here P n column.EdgeAttr pc.here pc.rest (subst (PositionsRise n) pc.whole rc) (ap (find (stands_at n)) (sym pc.whole) ∙ pc.found) (subst (EachIn column.EdgeAttr) pc.whole ic) (subst (Holds P) pc.whole hc)) here one in
-    let deeper = unmerged P k (n + 1) pa.rest pb.rest pc.rest more.0 (omega (arith, len, pa.len, pb.len, pc.len, one, some)) pa.rises pb.rises pc.rises
-    (each_rest (λ (p : Placed). stands_in column.Structure p ≡ true) pa.here pa.rest (subst (EachIn column.Structure) pa.whole ia))
-    (each_rest (λ (p : Placed). stands_in column.NodeAttr p ≡ true) pb.here pb.rest (subst (EachIn column.NodeAttr) pb.whole ib))
-    (each_rest (λ (p : Placed). stands_in column.EdgeAttr p ≡ true) pc.here pc.rest (subst (EachIn column.EdgeAttr) pc.whole ic))
-    (each_rest (λ (p : Placed). P p.event) pa.here pa.rest (subst (Holds P) pa.whole ha)) (each_rest (λ (p : Placed). P p.event) pb.here pb.rest (subst (Holds P) pb.whole hb)) (each_rest (λ (p : Placed). P p.event) pc.here pc.rest (subst (Holds P) pc.whole hc)) rest in
-    subst (λ (events : List Event). Unmerged P n a b c events × (length events ≡ suc k)) more.2 (
+    let long = all_long parts in
+    subst (λ (events : List Event). Unmerged P n parts events × (length events ≡ 0)) (some_is nothing events e) (record { columns = λ col. by long col; each = tt }, refl)
+  where
+    by : length (all_of parts) ≡ length (parts column.Structure) + length (parts column.NodeAttr) + length (parts column.EdgeAttr) + length (parts column.Transient) → (col : Column) → parts col ≡ []
+    by long column.Structure = no_placed (parts column.Structure) (omega (arith, len, long))
+    by long column.NodeAttr = no_placed (parts column.NodeAttr) (omega (arith, len, long))
+    by long column.EdgeAttr = no_placed (parts column.EdgeAttr) (omega (arith, len, long))
+    by long column.Transient = no_placed (parts column.Transient) (omega (arith, len, long))
+unmerged P (suc k) n parts events len rise inside holds e =
+    let pop : (col : Column) → Popped n (parts col) = λ col. popped n (parts col) (rise col) in
+    let here : Column → Option Placed = λ col. (pop col).here in
+    let left : Column → List Placed = λ col. (pop col).rest in
+    let found = then_is (λ (p : Placed). front_of p (at_positions k (n + 1) (all_of parts))) (find (stands_at n) (all_of parts)) events e in
+    let more = map_is (λ (events : List Event). found.0.event ∷ events) (at_positions k (n + 1) (all_of parts)) events found.2 in
+    let first : first_of here ≡ Some found.0 =
+    (λ i. option_or (option_or (option_or (sym (pop column.Structure).found i) (sym (pop column.NodeAttr).found i)) (sym (pop column.EdgeAttr).found i)) (sym (pop column.Transient).found i))
+    ∙ sym (all_found n parts) ∙ found.1 in
+    let rest : at_positions k (n + 1) (all_of left) ≡ Some more.0 =
+    same_found k (n + 1) (all_of left) (all_of parts)
+    (λ j le. all_found j left ∙ sym (all_found j parts ∙ (λ i. option_or (option_or (option_or ((pop column.Structure).later j (omega (arith, le)) i) ((pop column.NodeAttr).later j (omega (arith, le)) i)) ((pop column.EdgeAttr).later j (omega (arith, le)) i)) ((pop column.Transient).later j (omega (arith, le)) i))))
+    ∙ more.1 in
+    let enough = room k (n + 1) (all_of left) more.0 rest in
+    let sum : length (all_of parts) ≡ count_of here + length (all_of left) =
+    omega (arith, all_long parts, all_long left, (pop column.Structure).len, (pop column.NodeAttr).len, (pop column.EdgeAttr).len, (pop column.Transient).len) in
+    let one : count_of here ≤ 1 = omega (arith, enough, sum, len) in
+    let some = one_at_least here found.0 first in
+    let each : (col : Column) → IsHere P n col (here col) =
+    λ col. is_here P n col (here col) (left col) (subst (PositionsRise n) (pop col).whole (rise col)) (ap (find (stands_at n)) (sym (pop col).whole) ∙ (pop col).found) (subst (EachIn col) (pop col).whole (inside col)) (subst (Holds P) (pop col).whole (holds col)) in
+    let h = one_here P n here found.0 each first one in
+    let deeper = unmerged P k (n + 1) left more.0 (omega (arith, len, sum, one, some)) (λ col. (pop col).rises)
+    (λ col. each_rest (λ (p : Placed). stands_in col p ≡ true) (here col) (left col) (subst (EachIn col) (pop col).whole (inside col)))
+    (λ col. each_rest (λ (p : Placed). P p.event) (here col) (left col) (subst (Holds P) (pop col).whole (holds col))) rest in
+    subst (λ (events : List Event). Unmerged P n parts events × (length events ≡ suc k)) more.2 (
       record {
-        structure = pa.whole ∙ ap (in_front pa.here) deeper.0.structure ∙ h.structure (filter (stands_in column.Structure) (placed_from (n + 1) more.0));
-        node_attrs = pb.whole ∙ ap (in_front pb.here) deeper.0.node_attrs ∙ h.node_attrs (filter (stands_in column.NodeAttr) (placed_from (n + 1) more.0));
-        edge_attrs = pc.whole ∙ ap (in_front pc.here) deeper.0.edge_attrs ∙ h.edge_attrs (filter (stands_in column.EdgeAttr) (placed_from (n + 1) more.0));
+        columns = λ col. (pop col).whole ∙ ap (in_front (here col)) (deeper.0.columns col) ∙ h.column col (filter (stands_in col) (placed_from (n + 1) more.0));
         each = (h.holds, deeper.0.each);
       },
       ap suc deeper.1,
     )
-  where
-    at_least : (x y z : Option Placed) (p : Placed) → option_or (option_or x y) z ≡ Some p → 1 ≤ counted_one x + counted_one y + counted_one z
-    at_least (Some q) y z p e = omega arith
-    at_least None (Some q) z p e = omega arith
-    at_least None None (Some q) p e = omega arith
-    at_least None None None p e = absurd cc

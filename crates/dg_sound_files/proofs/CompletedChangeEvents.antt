@@ -12,7 +12,7 @@ use Rattle.dg_graph.specs.declared.event.Change.{Change}
 use Rattle.dg_graph.specs.declared.event.Event.{Event}
 use Rattle.dg_graph.specs.declared.event.TheConstants.{REASON_EDGE_EXISTS, REASON_NODE_EXISTS, REASON_NODE_IN_USE, REASON_NO_EDGE, REASON_NO_END, REASON_NO_NODE, REASON_TIME}
 use Rattle.dg_graph.specs.declared.event.What.{What}
-use Rattle.dg_graph.specs.declared.event.What.TheVariants.{AddNode, RemoveNode, AddEdge, RemoveEdge, SetNode, UnsetNode, SetEdge, UnsetEdge}
+use Rattle.dg_graph.specs.declared.event.What.TheVariants.{AddNode, RemoveNode, AddEdge, RemoveEdge, SetNode, UnsetNode, SetEdge, UnsetEdge, Message}
 use Rattle.dg_graph.specs.CompletedChanges.{completed, event_of, go_on, on_value}
 use Rattle.dg_graph.specs.Completion.{complete, completes, edge_of, edge_removal, edge_value, has_key, has_node, is_change_of, is_found, is_value_change, needs_edge, needs_node, node_value, value_removal}
 use Rattle.dg_graph.specs.Effect.{forwards}
@@ -66,6 +66,8 @@ made set (body.NodeAttr id key old new) e =
 made set (body.EdgeAttr id key old new) e =
     let t = and_parts (is_some (edge_of set id)) _ e in
     value_made set (is_some (edge_of set id)) (edge_value set id key) (λ old new. body.EdgeAttr id key old new) (λ v. SetEdge id key v) (UnsetEdge id key) REASON_NO_EDGE (λ v. refl) refl t.0 old new t.1
+made set (body.Message src dst value) e =
+    (Message src dst value, ap (λ b. cond b (Ok (body.Message src dst value)) (Err REASON_NO_END)) e)
 
 -- ---- the changes of events
 

@@ -1,3 +1,4 @@
+pub mod EachParts
 pub mod OwnEventCompletions
 pub mod OpenedIndexRecords
 pub mod OwnEventRecords
@@ -10,6 +11,7 @@ pub mod ImageTextNames
 pub mod ImageTextDirectories
 pub mod OpenedIndexColumns
 pub mod OpenedIndexDirectories
+pub mod SilentBatches
 pub mod OpenedIndexSegments
 pub mod OpenedIndexFiles
 pub mod ColumnMergeEvents

@@ -1,5 +1,5 @@
 -- The columns of a record that is read as events are those of these events.
-use Rattle.std.proofs.Common.{◌≡◌, ℕ, suc, ◌+◌, ◌≤◌, ◌<◌, Bool, true, false, cond, List, [], ◌∷◌, ◌++◌, length, drop, filter, map, Option, Some, None, Result, Ok, Err, refl, ap, ◌∙◌, arith, length-append}
+use Rattle.std.proofs.Common.{◌≡◌, ℕ, suc, ◌+◌, ◌≤◌, ◌<◌, Bool, true, false, cond, List, [], ◌∷◌, ◌++◌, length, drop, filter, map, Option, Some, None, Result, Ok, Err, refl, ap, ◌∙◌, arith}
 use Rattle.std.specs.Prelude.{◌==◌, option_and_then, slice_index}
 use Rattle.std.proofs.lemmas.Bool.{eqb-true}
 use Rattle.std.proofs.lemmas.List.Elements.{All-take, All-drop}
@@ -11,7 +11,7 @@ use Rattle.dg_graph.specs.declared.event.Event.{Event}
 use Rattle.dg_graph.specs.declared.placed.Placed.{Placed}
 use Rattle.dg_graph.specs.ColumnGrammar.{events_in as read_as_events}
 use Rattle.dg_graph.specs.ColumnMerge.{at_positions, if_never_fall, merged, never_fall}
-use Rattle.dg_graph.specs.Columns.{counted, events_column}
+use Rattle.dg_graph.specs.Columns.{counted, events_column, placed_in}
 use Rattle.dg_history.specs.LegalHistory.{FitsBody, FitsEvent}
 use Rattle.dg_history.specs.declared.node.Key.{Key}
 use Rattle.dg_index.specs.OpenedIndex.{Opened, column_at, entry_at}
@@ -50,6 +50,7 @@ fits_body names (body.EdgeAdded id src dst directed) h = h
 fits_body names (body.EdgeRemoved id src dst directed) h = h
 fits_body names (body.NodeAttr id key old new) h = (h.id_fits, h.key_fits, h.old_fits, h.new_fits)
 fits_body names (body.EdgeAttr id key old new) h = (h.id_fits, h.key_fits, h.old_fits, h.new_fits)
+fits_body names (body.Message src dst value) h = h
 
 fits_each : (names earliest : ℕ) (placed : List Placed) → EventsFit names earliest (map (λ (p : Placed). p.event) placed) → Each (λ (p : Placed). FitsEvent names p.event) placed
 fits_each names earliest [] h = tt
@@ -79,6 +80,9 @@ column_bytes image e column.NodeAttr all =
     All-take (λ b. b < 256) (slice_index e.lengths 1) (drop (e.offset + slice_index e.lengths 0) image) (All-drop (λ b. b < 256) (e.offset + slice_index e.lengths 0) image all)
 column_bytes image e column.EdgeAttr all =
     All-take (λ b. b < 256) (slice_index e.lengths 2) (drop (e.offset + slice_index e.lengths 0 + slice_index e.lengths 1) image) (All-drop (λ b. b < 256) (e.offset + slice_index e.lengths 0 + slice_index e.lengths 1) image all)
+column_bytes image e column.Transient all =
+    All-take (λ b. b < 256) (slice_index e.lengths 3) (drop (e.offset + slice_index e.lengths 0 + slice_index e.lengths 1 + slice_index e.lengths 2) image)
+    (All-drop (λ b. b < 256) (e.offset + slice_index e.lengths 0 + slice_index e.lengths 1 + slice_index e.lengths 2) image all)
 
 -- what is known of the events that a record is read as
 pub record AreOf (image : List ℕ) (x : Opened) (k : Key) (size : ℕ) (events : List Event) : Type 0 where
@@ -96,6 +100,9 @@ in_time xs events e = some_is xs events (if_same (never_fall 0 xs) (Some xs) eve
 turned : (o : Option (List Event)) (xs events : List Event) → o ≡ Some xs → xs ≡ events → o ≡ Some events
 turned o xs events e is = e ∙ ap (λ (l : List Event). Some l) is
 
+counted_as : (bytes : List ℕ) (placed others : List Placed) → bytes ≡ counted placed → placed ≡ others → bytes ≡ counted others
+counted_as bytes placed others e is = e ∙ ap counted is
+
 module _ (spelled : EventsHaveOneSpelling) (fit : EventsThatAreReadFit) (image : List ℕ) (x : Opened) (all : AreBytes image) where
   record ColumnRead (k : Key) (col : Column) (placed : List Placed) : Type 0 where
     text : column_at image (entry_at x.index k) col ≡ counted placed
@@ -110,28 +117,32 @@ module _ (spelled : EventsHaveOneSpelling) (fit : EventsThatAreReadFit) (image :
         fits = fit col (length x.names) (column_at image (entry_at x.index k) col) placed bytes read;
       }
 
+  -- the four columns by what each is
+  abbrev by_column : List Placed → List Placed → List Placed → List Placed → Column → List Placed
+  by_column a b c d column.Structure = a
+  by_column a b c d column.NodeAttr = b
+  by_column a b c d column.EdgeAttr = c
+  by_column a b c d column.Transient = d
+
   pub events_are_of : (k : Key) (count : ℕ) (events : List Event) → events_of_record image x k count ≡ Ok events → AreOf image x k count events
   events_are_of k count events e =
-      let a = and_then_is (placed_in_column image x k column.Structure) (λ a. and_own (placed_in_column image x k column.NodeAttr) (λ b. and_own (placed_in_column image x k column.EdgeAttr) (λ c. merged_or (merged a b c count)))) events e in
-      let b = and_then_is (placed_in_column image x k column.NodeAttr) (λ b. and_own (placed_in_column image x k column.EdgeAttr) (λ c. merged_or (merged a.0 b c count))) events a.2 in
-      let c = and_then_is (placed_in_column image x k column.EdgeAttr) (λ c. merged_or (merged a.0 b.0 c count)) events b.2 in
-      let ra = column_read k column.Structure a.0 a.1 in
-      let rb = column_read k column.NodeAttr b.0 b.1 in
-      let rc = column_read k column.EdgeAttr c.0 c.1 in
-      let m = if_same (length (a.0 ++ b.0 ++ c.0) == count) (option_and_then if_never_fall (at_positions count 0 (a.0 ++ b.0 ++ c.0))) events (merged_is (merged a.0 b.0 c.0 count) events c.2) in
-      let f = then_is if_never_fall (at_positions count 0 (a.0 ++ b.0 ++ c.0)) events m.1 in
-      let found = turned (at_positions count 0 (a.0 ++ b.0 ++ c.0)) f.0 events f.1 (in_time f.0 events f.2) in
-      let long : length a.0 + length b.0 + length c.0 ≡ count = omega (arith, eqb-true (length (a.0 ++ b.0 ++ c.0)) count m.0, length-append (a.0 ++ b.0) c.0, length-append a.0 b.0) in
-      let u = unmerged (FitsEvent (length x.names)) count 0 a.0 b.0 c.0 events long ra.fits.positions rb.fits.positions rc.fits.positions
-      (all_pass (stands_in column.Structure) a.0 ra.fits.inside) (all_pass (stands_in column.NodeAttr) b.0 rb.fits.inside) (all_pass (stands_in column.EdgeAttr) c.0 rc.fits.inside)
-      (fits_each (length x.names) 0 a.0 ra.fits.events) (fits_each (length x.names) 0 b.0 rb.fits.events) (fits_each (length x.names) 0 c.0 rc.fits.events) found in
-      let col_a : column_at image (entry_at x.index k) column.Structure ≡ events_column column.Structure events = ra.text ∙ ap counted u.0.structure in
-      let col_b : column_at image (entry_at x.index k) column.NodeAttr ≡ events_column column.NodeAttr events = rb.text ∙ ap counted u.0.node_attrs in
-      let col_c : column_at image (entry_at x.index k) column.EdgeAttr ≡ events_column column.EdgeAttr events = rc.text ∙ ap counted u.0.edge_attrs in
-      record { columns = λ col. by_column k events col_a col_b col_c col; count = u.1; fit = u.0.each }
+      let a = and_then_is (placed_in_column image x k column.Structure) (λ a. and_own (placed_in_column image x k column.NodeAttr) (λ b. and_own (placed_in_column image x k column.EdgeAttr) (λ c. and_own (placed_in_column image x k column.Transient) (λ d. merged_or (merged a b c d count))))) events e in
+      let b = and_then_is (placed_in_column image x k column.NodeAttr) (λ b. and_own (placed_in_column image x k column.EdgeAttr) (λ c. and_own (placed_in_column image x k column.Transient) (λ d. merged_or (merged a.0 b c d count)))) events a.2 in
+      let c = and_then_is (placed_in_column image x k column.EdgeAttr) (λ c. and_own (placed_in_column image x k column.Transient) (λ d. merged_or (merged a.0 b.0 c d count))) events b.2 in
+      let d = and_then_is (placed_in_column image x k column.Transient) (λ d. merged_or (merged a.0 b.0 c.0 d count)) events c.2 in
+      let parts : Column → List Placed = by_column a.0 b.0 c.0 d.0 in
+      let read : (col : Column) → ColumnRead k col (by_column a.0 b.0 c.0 d.0 col) = reads k a.0 b.0 c.0 d.0 a.1 b.1 c.1 d.1 in
+      let all : List Placed = a.0 ++ b.0 ++ c.0 ++ d.0 in
+      let m = if_same (length all == count) (option_and_then if_never_fall (at_positions count 0 all)) events (merged_is (merged a.0 b.0 c.0 d.0 count) events d.2) in
+      let f = then_is if_never_fall (at_positions count 0 all) events m.1 in
+      let found = turned (at_positions count 0 all) f.0 events f.1 (in_time f.0 events f.2) in
+      let u = unmerged (FitsEvent (length x.names)) count 0 parts events (eqb-true (length all) count m.0) (λ col. (read col).fits.positions)
+      (λ col. all_pass (stands_in col) (parts col) (read col).fits.inside) (λ col. fits_each (length x.names) 0 (parts col) (read col).fits.events) found in
+      record { columns = λ col. counted_as (column_at image (entry_at x.index k) col) (parts col) (placed_in col events) (read col).text (u.0.columns col); count = u.1; fit = u.0.each }
     where
-      by_column : (k : Key) (events : List Event) → column_at image (entry_at x.index k) column.Structure ≡ events_column column.Structure events → column_at image (entry_at x.index k) column.NodeAttr ≡ events_column column.NodeAttr events
-          → column_at image (entry_at x.index k) column.EdgeAttr ≡ events_column column.EdgeAttr events → (col : Column) → column_at image (entry_at x.index k) col ≡ events_column col events
-      by_column k events a b c column.Structure = a
-      by_column k events a b c column.NodeAttr = b
-      by_column k events a b c column.EdgeAttr = c
+      reads : (k : Key) (a b c d : List Placed) → placed_in_column image x k column.Structure ≡ Ok a → placed_in_column image x k column.NodeAttr ≡ Ok b → placed_in_column image x k column.EdgeAttr ≡ Ok c → placed_in_column image x k column.Transient ≡ Ok d
+          → (col : Column) → ColumnRead k col (by_column a b c d col)
+      reads k a b c d ra rb rc rd column.Structure = column_read k column.Structure a ra
+      reads k a b c d ra rb rc rd column.NodeAttr = column_read k column.NodeAttr b rb
+      reads k a b c d ra rb rc rd column.EdgeAttr = column_read k column.EdgeAttr c rc
+      reads k a b c d ra rb rc rd column.Transient = column_read k column.Transient d rd

@@ -19,7 +19,8 @@ use Rattle.dg_sound_files.proofs.OpenedIndexBatches.{AllFollow}
 use Rattle.dg_sound_files.proofs.CompletedChangeEvents.{StartsFrom, changes_come, keys_of_completions}
 use Rattle.dg_sound_files.proofs.OwnEventsRead.{completions_append}
 use Rattle.dg_sound_files.proofs.OpenedIndexDirectories.{batch_entries}
-use Rattle.dg_sound_files.proofs.OpenedIndexSegments.{Agree, each_parts}
+use Rattle.dg_sound_files.proofs.EachParts.{each_parts}
+use Rattle.dg_sound_files.proofs.OpenedIndexSegments.{Agree}
 
 all_of : (P : Event → Type 0) (events : List Event) → Each P events → All P events
 all_of P [] e = All-nil P

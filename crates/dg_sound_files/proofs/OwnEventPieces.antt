@@ -131,7 +131,7 @@ module _ (kept : ColumnsAreKept) (back : EventsAreReadBack) (merge : EventsAreMe
         λ col. bytes_same (column_at image (entry_at x.index k) col) (events_column col events) (columns col ∙ ap (events_column col) (sym own)) in
         let first : (is_column_of image x k events column.Structure && has_batch_ends count (noted b) (take listed all)) ≡ true =
         and_from (is_column_of image x k events column.Structure) _ (right column.Structure) (batch_ends listed inside) in
-        λ i. if_columns (first i) (right column.NodeAttr i) (right column.EdgeAttr i) k (take listed all)
+        λ i. if_columns (first i) (right column.NodeAttr i) (right column.EdgeAttr i) (right column.Transient i) k (take listed all)
 
     -- ---- a recent batch
 

@@ -17,8 +17,8 @@ use Rattle.dg_index.specs.OpenedIndex.{Opened, column_at, entry_at}
 use Rattle.dg_sound.specs.OwnEvents.{and_own, are_ends, events_of_record, if_right, events_may_follow, merged_or, placed_in_column, spelled_or, with_record}
 use Rattle.dg_columns.proofs.EventRanges.{no_fall}
 
-abbrev by_columns : ℕ → Result (List Placed) Column → Result (List Placed) Column → Result (List Placed) Column → Result (List Event) Column
-by_columns count a b c = and_own a (λ a. and_own b (λ b. and_own c (λ c. merged_or (merged a b c count))))
+abbrev by_columns : ℕ → Result (List Placed) Column → Result (List Placed) Column → Result (List Placed) Column → Result (List Placed) Column → Result (List Event) Column
+by_columns count a b c d = and_own a (λ a. and_own b (λ b. and_own c (λ c. and_own d (λ d. merged_or (merged a b c d count)))))
 
 pub record_read : EventsAreReadBack → EventsAreMergedBack → (image : List ℕ) (x : Opened) → length x.names ≤ NAMES_MAX → (k : Key) (count : ℕ) (own : List Event)
     → ((col : Column) → column_at image (entry_at x.index k) col ≡ events_column col own) → count ≡ length own → length own ≤ 65536 → EventsFit (length x.names) 0 own
@@ -28,7 +28,7 @@ record_read back merge image x few k count own there long short fit =
     let col_is : (col : Column) → placed_in_column image x k col ≡ Ok (placed_in col own) =
     λ col. ap (λ (bytes : List ℕ). spelled_or col (read_as_events col n bytes)) (there col)
     ∙ ap (spelled_or col) (back col n own (omega (arith, few)) short fit) in
-    (λ i. by_columns (long i) (col_is column.Structure i) (col_is column.NodeAttr i) (col_is column.EdgeAttr i))
+    (λ i. by_columns (long i) (col_is column.Structure i) (col_is column.NodeAttr i) (col_is column.EdgeAttr i) (col_is column.Transient i))
     ∙ ap merged_or (merge own (no_fall n 0 own fit))
 
 -- the times of events are theirs

@@ -179,11 +179,12 @@ module _ (spelled : EventsHaveOneSpelling) (fit : EventsThatAreReadFit) (image :
     sound : AreSound x result
     right : (later : List Event) → IsRightPiece number count b (result ++ later)
 
-  if_columns_is : (s n e : Bool) (k : Key) (before result : List Event) → if_columns s n e k before ≡ Ok result → (s ≡ true) × (n ≡ true) × (e ≡ true) × (before ≡ result)
-  if_columns_is true true true k before result is = (refl, refl, refl, ok_same before result is)
-  if_columns_is true true false k before result is = absurd cc
-  if_columns_is true false e k before result is = absurd cc
-  if_columns_is false n e k before result is = absurd cc
+  if_columns_is : (s n e t : Bool) (k : Key) (before result : List Event) → if_columns s n e t k before ≡ Ok result → (s ≡ true) × (n ≡ true) × (e ≡ true) × (t ≡ true) × (before ≡ result)
+  if_columns_is true true true true k before result is = (refl, refl, refl, refl, ok_same before result is)
+  if_columns_is true true true false k before result is = absurd cc
+  if_columns_is true true false t k before result is = absurd cc
+  if_columns_is true false e t k before result is = absurd cc
+  if_columns_is false n e t k before result is = absurd cc
 
   ends_front : (count : ℕ) (b : BatchEntry) (xs ys : List Event) → count + b.events ≤ length xs → has_batch_ends count b xs ≡ true → has_batch_ends count b (xs ++ ys) ≡ true
   ends_front count b xs ys le e = ap (are_ends b.ends) (range_front b.events count xs ys le) ∙ e
@@ -203,10 +204,11 @@ module _ (spelled : EventsHaveOneSpelling) (fit : EventsThatAreReadFit) (image :
       let events : List Event = take (piece_length x.index count b) (drop (piece_start x.index count b) before) in
       let a = if_columns_is (is_column_of image x (key.Piece number) (take (piece_length x.index count b) (drop (piece_start x.index count b) before)) column.Structure && has_batch_ends count b before)
       (is_column_of image x (key.Piece number) (take (piece_length x.index count b) (drop (piece_start x.index count b) before)) column.NodeAttr)
-      (is_column_of image x (key.Piece number) (take (piece_length x.index count b) (drop (piece_start x.index count b) before)) column.EdgeAttr) (key.Piece number) before result e in
+      (is_column_of image x (key.Piece number) (take (piece_length x.index count b) (drop (piece_start x.index count b) before)) column.EdgeAttr)
+      (is_column_of image x (key.Piece number) (take (piece_length x.index count b) (drop (piece_start x.index count b) before)) column.Transient) (key.Piece number) before result e in
       let s = and_parts (is_column_of image x (key.Piece number) (take (piece_length x.index count b) (drop (piece_start x.index count b) before)) column.Structure) _ a.0 in
       let under : count + b.events < list_total x.index * x.index.params.l = (div-lt_iff_lt-mul pos).0 less in
-      let same = a.3 in
+      let same = a.4 in
       let upto : piece_start x.index count b + piece_length x.index count b ≤ length before = omega (arith, reach count b, len, under) in
       let front : (later : List Event) → take (piece_length x.index count b) (drop (piece_start x.index count b) (result ++ later)) ≡ take (piece_length x.index count b) (drop (piece_start x.index count b) before) = λ later.
       ap (λ (l : List Event). take (piece_length x.index count b) (drop (piece_start x.index count b) (l ++ later))) (sym same) ∙ range_front (piece_length x.index count b) (piece_start x.index count b) before later upto in
@@ -216,15 +218,16 @@ module _ (spelled : EventsHaveOneSpelling) (fit : EventsThatAreReadFit) (image :
         size = ap length (sym same) ∙ omega (arith, len, under);
         sound = subst (AreSound x) same so;
         right = λ later. right_piece number count b (result ++ later) (take (piece_length x.index count b) (drop (piece_start x.index count b) before)) (front later)
-            (by_column (take (piece_length x.index count b) (drop (piece_start x.index count b) before)) s.0 a.1 a.2)
+            (by_column (take (piece_length x.index count b) (drop (piece_start x.index count b) before)) s.0 a.1 a.2 a.3)
             (ends_behind count b before result later same (omega (arith, len, under)) s.1);
       }
     where
-      by_column : (events : List Event) → is_column_of image x (key.Piece number) events column.Structure ≡ true → is_column_of image x (key.Piece number) events column.NodeAttr ≡ true → is_column_of image x (key.Piece number) events column.EdgeAttr ≡ true
+      by_column : (events : List Event) → is_column_of image x (key.Piece number) events column.Structure ≡ true → is_column_of image x (key.Piece number) events column.NodeAttr ≡ true → is_column_of image x (key.Piece number) events column.EdgeAttr ≡ true → is_column_of image x (key.Piece number) events column.Transient ≡ true
           → (col : Column) → column_at image (entry_at x.index (key.Piece number)) col ≡ events_column col events
-      by_column events s n e column.Structure = (bytes_eq-Decides (column_at image (entry_at x.index (key.Piece number)) column.Structure) (events_column column.Structure events)).0 s
-      by_column events s n e column.NodeAttr = (bytes_eq-Decides (column_at image (entry_at x.index (key.Piece number)) column.NodeAttr) (events_column column.NodeAttr events)).0 n
-      by_column events s n e column.EdgeAttr = (bytes_eq-Decides (column_at image (entry_at x.index (key.Piece number)) column.EdgeAttr) (events_column column.EdgeAttr events)).0 e
+      by_column events s n e t column.Structure = (bytes_eq-Decides (column_at image (entry_at x.index (key.Piece number)) column.Structure) (events_column column.Structure events)).0 s
+      by_column events s n e t column.NodeAttr = (bytes_eq-Decides (column_at image (entry_at x.index (key.Piece number)) column.NodeAttr) (events_column column.NodeAttr events)).0 n
+      by_column events s n e t column.EdgeAttr = (bytes_eq-Decides (column_at image (entry_at x.index (key.Piece number)) column.EdgeAttr) (events_column column.EdgeAttr events)).0 e
+      by_column events s n e t column.Transient = (bytes_eq-Decides (column_at image (entry_at x.index (key.Piece number)) column.Transient) (events_column column.Transient events)).0 t
 
   recent_read : (number count : ℕ) (b : BatchEntry) (before result : List Event) → length before ≡ max (list_total x.index * x.index.params.l) count → AreSound x before → leaves x.index.params (count + b.events) ≡ list_total x.index
       → with_recent image x before number count b ≡ Ok result → PieceRead number count b before result

@@ -5,13 +5,14 @@ use Rattle.std.proofs.lemmas.List.{drop_at, take_at}
 use Rattle.dg_columns.specs.ColumnLaws.{EventsAreReadBack, EventsAreMergedBack}
 use Rattle.dg_graph.specs.declared.event.Event.{Event}
 use Rattle.dg_history.specs.History.{History, Batch, events_of}
+use Rattle.dg_history.specs.LegalHistory.{IsLegal}
 use Rattle.dg_index.specs.FileLaws.{ColumnsAreKept}
 use Rattle.dg_index.specs.OpenedIndex.{opened_of}
 use Rattle.dg_index.proofs.RecentEventPieces.{batches_of, noted}
 use Rattle.dg_sound_files.specs.SoundFiles.{StandingFilesAreSound}
 use Rattle.dg_sound.specs.Soundness.{delta_keys, first_wrong, history_of, if_read, judged_events, own_batches, record_total, sound_unless}
 use Rattle.dg_sound_files.proofs.SoundnessDeltas.{deltas_right}
-use Rattle.dg_sound_files.proofs.OpenedIndexRecords.{count_is, names_are, params_are}
+use Rattle.dg_sound_files.proofs.OpenedIndexRecords.{count_is, form_is, names_are, params_are}
 use Rattle.dg_sound_files.proofs.OwnEventPieces.{all_read}
 
 -- the names and the events of some batches, cut as these are, are the batches
@@ -24,15 +25,15 @@ batches_cut (b ∷ more) =
     ∷ own_batches (drop_at b.names names (length b.names) refl i) (drop_at b.events events (length b.events) refl i) (map noted more))
     ∙ ap (λ (l : List Batch). b ∷ l) (batches_cut more)
 
-own_is : (z : History) → history_of (opened_of z) (events_of z) ≡ z
-own_is z =
-    (λ i. record { params = params_are z i; batches = own_batches (names_are z i) (events_of z) (batches_of z i) })
-    ∙ ap (λ (l : List Batch). record { params = z.params; batches = l }) (batches_cut z.batches)
+own_is : (z : History) → IsLegal z → history_of (opened_of z) (events_of z) ≡ z
+own_is z legal =
+    (λ i. record { params = params_are z i; form = form_is z legal i; batches = own_batches (names_are z i) (events_of z) (batches_of z i) })
+    ∙ ap (λ (l : List Batch). record { params = z.params; form = z.form; batches = l }) (batches_cut z.batches)
 
 pub standing_files_are_sound : ColumnsAreKept → EventsAreReadBack → EventsAreMergedBack → StandingFilesAreSound
 standing_files_are_sound kept back merge z image h =
     let read = all_read kept back merge z image h in (
-      ap (if_read (opened_of z)) read ∙ ap (λ (y : History). Some y) (own_is z),
+      ap (if_read (opened_of z)) read ∙ ap (λ (y : History). Some y) (own_is z h.legal),
       ap (judged_events image (opened_of z)) read
           ∙ (λ i. sound_unless (record_total (params_are z i) (count_is z i)) (first_wrong image (opened_of z) (events_of z) (delta_keys (params_are z i) (count_is z i))))
           ∙ ap (sound_unless (record_total z.params (length (events_of z)))) (deltas_right kept z image h),

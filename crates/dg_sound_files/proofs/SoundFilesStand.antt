@@ -28,9 +28,9 @@ use Rattle.dg_sound_files.proofs.SoundnessDueDeltas.{IsRightDelta, all_right}
 use Rattle.dg_sound_files.proofs.OwnEventsRead.{AreRightPieces, AreSound, IsRightList, ListsRead, lists_read, no_events, pieces_read}
 use Rattle.dg_sound_files.proofs.OwnEventLegality.{legal_after}
 use Rattle.dg_sound_files.proofs.SoundnessRecords.{IsGood, PieceColumns, all_kept, good_deltas, good_list}
-use Rattle.dg_sound_files.proofs.OpenedIndexDirectories.{batch_entries, chain_batches, chain_names, new_names}
+use Rattle.dg_sound_files.proofs.OpenedIndexDirectories.{Turn, batch_entries, chain_batches, chain_names, directories_in, new_names}
 use Rattle.dg_sound_files.proofs.OwnEventColumns.{and_then_is}
-use Rattle.dg_sound_files.proofs.OpenedIndexSegments.{Agree}
+use Rattle.dg_sound_files.proofs.OpenedIndexSegments.{Agree, IsFront, all_written}
 
 -- ---- what is read of a sound image
 
@@ -83,12 +83,14 @@ module _ (spelled : EventsHaveOneSpelling) (fit : EventsThatAreReadFit) (image :
   history_stands : (fits : IsBytes image) (o : IsOpened image x) (two : 2 ≤ x.index.params.k) (events : List Event) → AreRead spelled fit image x all pos events
       → Each (IsRightDelta image x events) (delta_keys x.index.params (event_total x.index.batches)) → IsImageOf (history_of x events) image
   history_stands fits o two events read right =
-      let ds : List Directory = o.directories in
+      let ts : List Turn = o.turns in
+      let ds : List Directory = directories_in o.turns in
+      let start : Opened = bare o.form x.index.params in
       let whole : events_of (history_of x events) ≡ events = own_events_whole x.names events x.index.batches read.size in
       -- the directories
-      let batches_are : x.index.batches ≡ batch_entries ds = chain_batches image ds (bare x.index.params) x o.chain in
-      let names_are : x.names ≡ new_names ds = chain_names image ds (bare x.index.params) x o.chain in
-      let named = chain_named image ds (bare x.index.params) x fits o.chain in
+      let batches_are : x.index.batches ≡ batch_entries ds = chain_batches image ts start x o.chain in
+      let names_are : x.names ≡ new_names ds = chain_names image ts start x o.chain in
+      let named = chain_named image ts start x fits o.chain in
       let total : 0 + event_total (batch_entries ds) ≡ event_total x.index.batches = omega (arith, ap event_total batches_are) in
       let ends : HaveEnds 0 (batch_entries ds) events = subst (λ (l : List BatchEntry). HaveEnds 0 l events) batches_are (batch_ends two events whole 0 0 x.index.batches read.pieces) in
       let agree : Agree ds (history_of x events).batches =
@@ -98,20 +100,27 @@ module _ (spelled : EventsHaveOneSpelling) (fit : EventsThatAreReadFit) (image :
       let columns : PieceColumns image x events pos two whole 0 0 (batch_entries ds) = subst (PieceColumns image x events pos two whole 0 0) batches_are (piece_columns two events whole 0 0 x.index.batches read.pieces) in
       let lists : (j : ℕ) → j < list_total x.index → IsGood image x events pos two whole (key.List j) = λ j lt. good_list image x events pos two whole j (read.lists j lt).columns (read.lists j lt).ends in
       let deltas = good_deltas image x events pos two whole (event_total x.index.batches) right in
-      let kept = all_kept image x events pos two whole fits lists deltas ds (bare x.index.params) [] (history_of x events).batches refl (record { params = refl; count = refl; number = refl }) refl total agree columns o.chain tt tt in
+      let so : IsFront (history_of x events) start [] = record { params = refl; count = refl; number = refl } in
+      let kept = all_kept image x events pos two whole fits lists deltas ts start [] (history_of x events).batches refl so refl total agree columns o.chain tt tt in
+      -- its file
+      let written = all_written (history_of x events) image fits pos (omega (arith, two)) x kept.0 kept.1 ts start [] (history_of x events).batches refl so (omega arith) o.long agree o.chain
+      (record { stands = o.begins.stands; form = o.begins.form; silent = o.begins.silent }) in
       -- its legality
       let names_whole : names_of (history_of x events) ≡ x.names = (λ i. flat_map (λ (b : Batch). b.names) (own_batches (names_are i) events (batches_are i))) ∙ own_names_whole events ds named ∙ sym names_are in
       let come : are_completions x.names [] 0 (events_among (history_of x events).batches) ≡ true = ap (are_completions x.names [] 0) whole ∙ read.sound.follow in
       let fitting : Each (FitsEvent (length x.names)) (events_among (history_of x events).batches) = subst (Each (FitsEvent (length x.names))) (sym whole) read.sound.fit in
-      let batches : AreLegalAfter x.names [] (history_of x events).batches = legal_after x.names ds (history_of x events).batches 0 [] agree (chain_follow image ds (bare x.index.params) x o.chain) come fitting in
+      let batches : AreLegalAfter x.names [] (history_of x events).batches = legal_after x.names ds (history_of x events).batches 0 [] agree (chain_follow image ts start x o.chain) come fitting in
       let legal : IsLegal (history_of x events) = record {
-        parameters = o.right;
+        parameters = o.begins.right;
+        function = o.begins.function;
+        form = written.form;
+        silent = written.silent;
         batches = subst (λ (l : List (List ℕ)). AreLegalAfter l [] (history_of x events).batches) (sym names_whole) batches;
-        names = ap (are_new []) (names_whole ∙ names_are) ∙ chain_new image ds (bare x.index.params) x o.chain;
-        few_names = omega (arith, ap length names_whole, chain_few_names image ds (bare x.index.params) x (omega arith) o.chain);
-        few = omega (arith, ap length whole, read.size, chain_few image ds (bare x.index.params) x (omega arith) o.chain);
+        names = ap (are_new []) (names_whole ∙ names_are) ∙ chain_new image ts start x o.chain;
+        few_names = omega (arith, ap length names_whole, chain_few_names image ts start x (omega arith) o.chain);
+        few = omega (arith, ap length whole, read.size, chain_few image ts start x (omega arith) o.chain);
       } in
-      stands_as_file (history_of x events) image x fits o refl pos (omega (arith, two)) kept.0 kept.1 agree legal
+      stands_as_file (history_of x events) image x o refl written legal
 
 -- ---- the law
 
@@ -119,7 +128,7 @@ pub sound_files_stand : EventsHaveOneSpelling → EventsThatAreReadFit → Sound
 sound_files_stand spelled fit = λ image x n all opened sound.
     let fits : IsBytes image = bytes_from_all image all in
     let o = is_opened image x fits opened in
-    let large = large_parameters x.index.params.l x.index.params.k o.right in
+    let large = large_parameters x.index.params.l x.index.params.k o.begins.right in
     let pos : 0 < x.index.params.l = omega (arith, large.0) in
     let j = judged_is image x n (own_events image x) sound in
     let right = all_right image x j.0 (delta_keys x.index.params (event_total x.index.batches)) j.2 in

@@ -18,13 +18,10 @@ use Rattle.dg_index.proofs.OpenedIndexRecords.{record_held}
 use Rattle.dg_index.proofs.IndexRecordColumns.{Each, each_append, each_flat, each_map, each_number, power_some}
 use Rattle.dg_index.proofs.OpenedIndexHistories.{large_parameters}
 use Rattle.dg_sound.specs.Soundness.{delta_keys, first_wrong, is_delta_column, or_later, wrong_column}
+use Rattle.dg_sound_files.proofs.EachParts.{each_then}
 use Rattle.dg_sound_files.proofs.OpenedIndexRecords.{columns_there, params_are}
 
 -- ---- facts of each of a list
-
-each_then : {A : Type 0} (P Q : A → Type 0) (xs : List A) → ((x : A) → P x → Q x) → Each P xs → Each Q xs
-each_then P Q [] f all = tt
-each_then P Q (x ∷ xs) f all = (f x all.0, each_then P Q xs f all.1)
 
 each_filter : {A : Type 0} (P Q : A → Type 0) (test : A → Bool) (xs : List A) → ((x : A) → P x → test x ≡ true → Q x) → Each P xs → Each Q (filter test xs)
 each_filter P Q test [] f all = tt

@@ -1,12 +1,13 @@
 -- Where no delta's record is wrong, each that is due is the one that the events determine.
-use Rattle.std.proofs.Common.{◌≡◌, ℕ, zero, suc, ◌+◌, ◌-◌, ◌*◌, ◌/◌, ◌^◌, ◌≤◌, ◌<◌, Bool, true, false, cond, List, [], ◌∷◌, map, filter, Option, Some, None, refl, sym, ap, subst, ◌∙◌, arith, mul-le-mul_right, le-div_iff_mul-le, eq-or-lt_of_le, ⊎_elim, add-mul}
+use Rattle.std.proofs.Common.{◌≡◌, ℕ, ◌+◌, ◌-◌, ◌*◌, ◌/◌, ◌^◌, ◌≤◌, Bool, true, false, cond, List, [], ◌∷◌, map, filter, Option, Some, None, refl, sym, ap, ◌∙◌, arith, mul-le-mul_right, le-div_iff_mul-le, add-mul}
 use Rattle.std.specs.Prelude.{◌==◌, nat_le}
 use Rattle.std.specs.List.{flat_map}
-use Rattle.std.proofs.lemmas.Bool.{le-leb}
+use Rattle.std.proofs.lemmas.Bool.{false≢true, le-leb}
 use Rattle.std.proofs.lemmas.Slice.Eq.{bytes_eq-Decides}
 use Rattle.dg_graph.specs.declared.element.Column.{Column}
 use Rattle.dg_graph.specs.declared.element.Column.TheVariants as column
 use Rattle.dg_graph.specs.declared.event.Event.{Event}
+use Rattle.dg_graph.specs.ColumnGrammar.{may_change}
 use Rattle.dg_history.specs.declared.node.Key.{Key}
 use Rattle.dg_history.specs.declared.node.Key.TheVariants as key
 use Rattle.dg_history.specs.declared.params.Params.{Params}
@@ -17,19 +18,9 @@ use Rattle.dg_index.proofs.HierarchyCounts.{due_to}
 use Rattle.dg_index.proofs.IndexKeyRecords.{height_low}
 use Rattle.dg_index.proofs.IndexRecordColumns.{Each, each_append, each_flat, each_map, each_number, power_some}
 use Rattle.dg_sound.specs.Soundness.{delta_keys, first_wrong, is_delta_column, or_later, wrong_column}
-use Rattle.dg_sound_files.proofs.OpenedIndexSegments.{each_parts}
+use Rattle.dg_sound_files.proofs.EachParts.{each_parts, each_unflat, each_unmap, of_number}
 
 -- ---- what holds of each of a list
-
-pub each_unmap : {A B : Type 0} (P : B → Type 0) (f : A → B) (xs : List A) → Each P (map f xs) → Each (λ x. P (f x)) xs
-each_unmap P f [] all = tt
-each_unmap P f (x ∷ xs) all = (all.0, each_unmap P f xs all.1)
-
-pub each_unflat : {A B : Type 0} (P : B → Type 0) (f : A → List B) (xs : List A) → Each P (flat_map f xs) → Each (λ x. Each P (f x)) xs
-each_unflat P f [] all = tt
-each_unflat P f (x ∷ xs) all =
-    let parts = each_parts P (f x) (flat_map f xs) all in
-    (parts.0, each_unflat P f xs parts.1)
 
 each_passing : {A : Type 0} (P : A → Type 0) (q : A → Bool) (xs : List A) → Each P (filter q xs) → Each (λ x. q x ≡ true → P x) xs
 each_passing P q [] all = tt
@@ -39,28 +30,24 @@ each_passing P q (x ∷ xs) all = by (λ all. each_passing P q xs all) (q x) ref
     by more true is all = (λ e. all.0, more all.1)
     by more false is all = (λ e. absurd (let no : false ≡ true = sym is ∙ e in cc), more all)
 
-of_number : (P : ℕ → Type 0) (a n c : ℕ) → a ≤ c → c < a + n → Each P (numbers a n) → P c
-of_number P a zero c le lt all = absurd (omega (arith, le, lt))
-of_number P a (suc n) c le lt all =
-    ⊎_elim (λ (is : a ≡ c). subst P is all.0) (λ (less : a < c). of_number P (a + 1) n c (omega (arith, less)) (omega (arith, lt)) all.1) (eq-or-lt_of_le le)
-
 -- ---- no record is wrong
 
--- the record has the columns that the events determine
+-- the record has the columns that the events determine, in which a delta may have elements
 abbrev pub IsRightDelta : List ℕ → Opened → List Event → Key → Type 0
-IsRightDelta image x events k = (col : Column) → column_at image (entry_at x.index k) col ≡ column_of_record col (record_among x.index.params events [] k)
+IsRightDelta image x events k = (col : Column) → may_change col ≡ true → column_at image (entry_at x.index k) col ≡ column_of_record col (record_among x.index.params events [] k)
 
 none_wrong : (image : List ℕ) (x : Opened) (events : List Event) (k : Key) → wrong_column image x events k ≡ None → IsRightDelta image x events k
 none_wrong image x events k e = by (is_delta_column image x events k column.Structure) refl (is_delta_column image x events k column.NodeAttr) refl (is_delta_column image x events k column.EdgeAttr) refl e
   where
     by : (s : Bool) → is_delta_column image x events k column.Structure ≡ s → (n : Bool) → is_delta_column image x events k column.NodeAttr ≡ n → (e : Bool) → is_delta_column image x events k column.EdgeAttr ≡ e
-        → cond s (cond n (cond e None (Some column.EdgeAttr)) (Some column.NodeAttr)) (Some column.Structure) ≡ None → (col : Column) → column_at image (entry_at x.index k) col ≡ column_of_record col (record_among x.index.params events [] k)
-    by true s true n true e is column.Structure = (bytes_eq-Decides (column_at image (entry_at x.index k) column.Structure) (column_of_record column.Structure (record_among x.index.params events [] k))).0 s
-    by true s true n true e is column.NodeAttr = (bytes_eq-Decides (column_at image (entry_at x.index k) column.NodeAttr) (column_of_record column.NodeAttr (record_among x.index.params events [] k))).0 n
-    by true s true n true e is column.EdgeAttr = (bytes_eq-Decides (column_at image (entry_at x.index k) column.EdgeAttr) (column_of_record column.EdgeAttr (record_among x.index.params events [] k))).0 e
-    by true s true n false e is col = absurd cc
-    by true s false n b e is col = absurd cc
-    by false s a n b e is col = absurd cc
+        → cond s (cond n (cond e None (Some column.EdgeAttr)) (Some column.NodeAttr)) (Some column.Structure) ≡ None → (col : Column) → may_change col ≡ true → column_at image (entry_at x.index k) col ≡ column_of_record col (record_among x.index.params events [] k)
+    by true s true n true e is column.Structure may = (bytes_eq-Decides (column_at image (entry_at x.index k) column.Structure) (column_of_record column.Structure (record_among x.index.params events [] k))).0 s
+    by true s true n true e is column.NodeAttr may = (bytes_eq-Decides (column_at image (entry_at x.index k) column.NodeAttr) (column_of_record column.NodeAttr (record_among x.index.params events [] k))).0 n
+    by true s true n true e is column.Transient may = absurd (false≢true may)
+    by true s true n true e is column.EdgeAttr may = (bytes_eq-Decides (column_at image (entry_at x.index k) column.EdgeAttr) (column_of_record column.EdgeAttr (record_among x.index.params events [] k))).0 e
+    by true s true n false e is col may = absurd cc
+    by true s false n b e is col may = absurd cc
+    by false s a n b e is col may = absurd cc
 
 none_later : (k : Key) (wrong : Option Column) (later : Option (Key × Column)) → or_later k wrong later ≡ None → (wrong ≡ None) × (later ≡ None)
 none_later k None later e = (refl, e)

@@ -39,6 +39,7 @@ body_fits names (body.EdgeAdded id src dst directed) few h = tt
 body_fits names (body.EdgeRemoved id src dst directed) few h = tt
 body_fits names (body.NodeAttr id key old new) few h = (omega (arith, h.key_fits, few), value_fits names old few h.old_fits, value_fits names new few h.new_fits)
 body_fits names (body.EdgeAttr id key old new) few h = (omega (arith, h.key_fits, few), value_fits names old few h.old_fits, value_fits names new few h.new_fits)
+body_fits names (body.Message src dst value) few h = tt
 
 pub spelled : (names : ℕ) (events : List Event) → names ≤ 2 ^ 30 → All (EventBodyFits names) events → All (λ (e : Event). NamesFit e.body) events
 spelled names [] few f = All-nil (λ (e : Event). NamesFit e.body)
@@ -52,6 +53,7 @@ body_there names (body.EdgeAdded id src dst directed) h = tt
 body_there names (body.EdgeRemoved id src dst directed) h = tt
 body_there names (body.NodeAttr id key old new) h = (h.key_fits, h.old_fits, h.new_fits)
 body_there names (body.EdgeAttr id key old new) h = (h.key_fits, h.old_fits, h.new_fits)
+body_there names (body.Message src dst value) h = h.2
 
 pub names_there : (names : ℕ) (events : List Event) → All (EventBodyFits names) events → EventNamesAreThere names events
 names_there names [] f = All-nil (λ (e : Event). BodyHasNamesThere names e.body)
@@ -119,21 +121,22 @@ module _ (names : ℕ) where
     pub fit : All (EventBodyFits names) events
     pub rises : RisesFrom 0 events
 
-  pub merged_fit : (a b c : List Placed) (len : ℕ) (events : List Event) → All (PlacedFits names) a → All (PlacedFits names) b → All (PlacedFits names) c → merged a b c len ≡ Some events → IsMerged len events
-  merged_fit a b c len events fa fb fc h = by_length (length (a ++ b ++ c) == len) h
+  pub merged_fit : (a b c d : List Placed) (len : ℕ) (events : List Event) → All (PlacedFits names) a → All (PlacedFits names) b → All (PlacedFits names) c → All (PlacedFits names) d
+      → merged a b c d len ≡ Some events → IsMerged len events
+  merged_fit a b c d len events fa fb fc fd h = by_length (length (a ++ b ++ c ++ d) == len) h
     where
-      all : All (PlacedFits names) (a ++ b ++ c)
-      all = All-append (PlacedFits names) (a ++ b) c (All-append (PlacedFits names) a b fa fb) fc
+      all : All (PlacedFits names) (a ++ b ++ c ++ d)
+      all = All-append (PlacedFits names) (a ++ b ++ c) d (All-append (PlacedFits names) (a ++ b) c (All-append (PlacedFits names) a b fa fb) fc) fd
 
-      by_positions : (o : Option (List Event)) → at_positions len 0 (a ++ b ++ c) ≡ o → option_and_then if_never_fall o ≡ Some events → IsMerged len events
+      by_positions : (o : Option (List Event)) → at_positions len 0 (a ++ b ++ c ++ d) ≡ o → option_and_then if_never_fall o ≡ Some events → IsMerged len events
       by_positions None is e = cc
       by_positions (Some es) is e =
           let kept = if_not_falling es events e in
-          let many = positions_fit len 0 (a ++ b ++ c) es all is in
+          let many = positions_fit len 0 (a ++ b ++ c ++ d) es all is in
           subst (λ (xs : List Event). IsMerged len xs) kept.0 (record { many = many.0; fit = many.1; rises = never_falls 0 es kept.1 })
 
-      by_length : (t : Bool) → (if t then option_and_then if_never_fall (at_positions len 0 (a ++ b ++ c)) else None) ≡ Some events → IsMerged len events
-      by_length true e = by_positions (at_positions len 0 (a ++ b ++ c)) refl e
+      by_length : (t : Bool) → (if t then option_and_then if_never_fall (at_positions len 0 (a ++ b ++ c ++ d)) else None) ≡ Some events → IsMerged len events
+      by_length true e = by_positions (at_positions len 0 (a ++ b ++ c ++ d)) refl e
       by_length false e = cc
 
 -- ---- a column of a record

@@ -10,7 +10,7 @@ use Rattle.dg_disk.specs.Counts.{raised_by}
 use Rattle.dg_file.specs.Images.{taken_after}
 use Rattle.dg_fold.specs.BytesRead.{Takes, TakesAtMost, asked_length, kept_in}
 use Rattle.dg_graph.specs.declared.element.Column.{Column}
-use Rattle.dg_graph.specs.declared.element.Column.TheVariants.{Structure, NodeAttr, EdgeAttr}
+use Rattle.dg_graph.specs.declared.element.Column.TheVariants.{Structure, NodeAttr, EdgeAttr, Transient}
 use Rattle.dg_history.specs.declared.node.Key.{Key}
 use Rattle.dg_history.specs.History.{History}
 use Rattle.dg_history.specs.Keys.{same_key}
@@ -80,7 +80,8 @@ module _ (z : History) (image : List ℕ) (stands : IsImageOf z image) (o : Open
           let first : slice_index (entry_at o k).lengths 0 ≡ length (column_in z k Structure) = lengths 0 ∙ ap (λ l. slice_index l 0) told.0 in
           let second : slice_index (entry_at o k).lengths 1 ≡ length (column_in z k NodeAttr) = lengths 1 ∙ ap (λ l. slice_index l 1) told.0 in
           let third : slice_index (entry_at o k).lengths 2 ≡ length (column_in z k EdgeAttr) = lengths 2 ∙ ap (λ l. slice_index l 2) told.0 in
-          omega (arith, column Structure, column NodeAttr, column EdgeAttr, first, second, third)
+          let fourth : slice_index (entry_at o k).lengths 3 ≡ length (column_in z k Transient) = lengths 3 ∙ ap (λ l. slice_index l 3) told.0 in
+          omega (arith, column Structure, column NodeAttr, column EdgeAttr, column Transient, first, second, third, fourth)
 
   abbrev Readable : EventSource → Type 0
   Readable s = CanBeRead o (source_of s)
@@ -111,12 +112,12 @@ takes_column told o k col bytes before after held is taken image h =
     let here : IfSome (lookup (same_key k) o.records) (λ e. bytes ≡ column_at image e col) = subst (λ (t : Option (List ℕ)). IfSome t (λ image. IfSome (lookup (same_key k) o.records) (λ e. bytes ≡ column_at image e col))) h is in
     subst (λ n. Takes n before after) (ap length (column_there image bytes o k col held here)) (takes_after (length bytes) before after taken)
 
--- the three columns of a record
-pub takes_record : (image : List ℕ) (o : Opening) (k : Key) (a b c d : ℕ) → Takes (length (kept_in image o k Structure)) a b → Takes (length (kept_in image o k NodeAttr)) b c
-    → Takes (length (kept_in image o k EdgeAttr)) c d → Takes (asked_length (kept_in image o) all_columns k) a d
-takes_record image o k a b c d f g h = omega (arith, f, g, h)
+-- the four columns of a record
+pub takes_record : (image : List ℕ) (o : Opening) (k : Key) (a b c d e : ℕ) → Takes (length (kept_in image o k Structure)) a b → Takes (length (kept_in image o k NodeAttr)) b c
+    → Takes (length (kept_in image o k EdgeAttr)) c d → Takes (length (kept_in image o k Transient)) d e → Takes (asked_length (kept_in image o) all_columns k) a e
+takes_record image o k a b c d e f g h i = omega (arith, f, g, h, i)
 
--- a record whose first column was not read, or not its second or third
+-- a record whose first column was not read, or not its second, third or fourth
 module _ (image : List ℕ) (o : Opening) (k : Key) (a b : ℕ) where
   abbrev column_length : Column → ℕ
   column_length col = length (kept_in image o k col)
@@ -132,3 +133,6 @@ module _ (image : List ℕ) (o : Opening) (k : Key) (a b : ℕ) where
 
   pub third_fails : (c d : ℕ) → Takes (column_length Structure) a b → Takes (column_length NodeAttr) b c → TakesAtMost (column_length EdgeAttr) c d → TakesAtMost record_length a d
   third_fails c d f g h = omega (arith, f, g, h)
+
+  pub fourth_fails : (c d e : ℕ) → Takes (column_length Structure) a b → Takes (column_length NodeAttr) b c → Takes (column_length EdgeAttr) c d → TakesAtMost (column_length Transient) d e → TakesAtMost record_length a e
+  fourth_fails c d e f g h i = omega (arith, f, g, h, i)

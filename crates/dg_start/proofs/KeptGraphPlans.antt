@@ -17,7 +17,7 @@ use Rattle.dg_fold.proofs.HistoryPaths.{history_paths_lead}
 use Rattle.dg_fold.proofs.BytesReadParts.{kept_parts_are_the_records}
 use Rattle.dg_fold.proofs.LegalHistories.{legal_is_indexed}
 use Rattle.dg_graph.specs.declared.element.Column.{Column}
-use Rattle.dg_graph.specs.declared.element.Column.TheVariants.{Structure, NodeAttr, EdgeAttr}
+use Rattle.dg_graph.specs.declared.element.Column.TheVariants.{Structure, NodeAttr, EdgeAttr, Transient}
 use Rattle.dg_graph.specs.declared.element.Columns.{Columns}
 use Rattle.dg_graph.specs.declared.element.Element.{Element}
 use Rattle.dg_graph.specs.declared.event.Event.{Event}
@@ -123,6 +123,7 @@ all_asked : (col : Column) → asks all_columns col ≡ true
 all_asked Structure = refl
 all_asked NodeAttr = refl
 all_asked EdgeAttr = refl
+all_asked Transient = refl
 
 -- a set is shown whole in all columns
 shown_whole : (set : ListOf Element) → shown set all_columns ≡ set

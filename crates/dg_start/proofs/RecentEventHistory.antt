@@ -113,8 +113,9 @@ within_joined (x ∷ xs) ys h more = (h.0, h.1, within_joined xs ys h.2 more)
 
 -- ---- one source
 
-abbrev by_columns : Key → ℕ → Result (List Placed) StartFault → Result (List Placed) StartFault → Result (List Placed) StartFault → Result (List Event) StartFault
-by_columns k count a b c = and_start a (λ a. and_start b (λ b. and_start c (λ c. merged_or_fault k (merged a b c count))))
+abbrev by_columns : Key → ℕ → (Column → Result (List Placed) StartFault) → Result (List Event) StartFault
+by_columns k count read =
+    and_start (read column.Structure) (λ a. and_start (read column.NodeAttr) (λ b. and_start (read column.EdgeAttr) (λ c. and_start (read column.Transient) (λ d. merged_or_fault k (merged a b c d count)))))
 
 -- a source in whose record these events stand, as many as are due, is read as them
 source_is : EventsAreReadBack → EventsAreMergedBack → (image : List ℕ) (n : ℕ) → n ≤ NAMES_MAX → (o : Opening) (s : Source) (own : List Event)
@@ -124,7 +125,7 @@ source_is back merge image n few o s own there count short fit =
     let col_is : (col : Column) → placed_in_record image n o s.key col ≡ Ok (placed_in col own) =
     λ col. ap (λ (bytes : List ℕ). spelled_or_fault s.key col (read_as_events col n bytes)) (there col)
     ∙ ap (spelled_or_fault s.key col) (back col n own (omega (arith, few)) short fit) in
-    (λ i. by_columns s.key (count i) (col_is column.Structure i) (col_is column.NodeAttr i) (col_is column.EdgeAttr i))
+    (λ i. by_columns s.key (count i) (λ col. col_is col i))
     ∙ ap (merged_or_fault s.key) (merge own (no_fall n 0 own fit))
 
 -- ---- the sources of an image of a history

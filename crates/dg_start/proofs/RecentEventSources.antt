@@ -164,11 +164,10 @@ added_so old more then_events slice is same = is ∙ ap (λ (es : List Event). o
 abbrev pub no_source : EventSource
 no_source = record { key = key.List 0; count = 0; ends = record { first = 0; last = 0 } }
 
--- the three columns come together
-pub record_read : (image : List ℕ) (names : ℕ) (o : Opening) (s : Source) (a b c : List Placed) (events : List Event) → placed_in_record image names o s.key column.Structure ≡ Ok a
-    → placed_in_record image names o s.key column.NodeAttr ≡ Ok b → placed_in_record image names o s.key column.EdgeAttr ≡ Ok c → merged a b c s.count ≡ Some events → events_in_source image names o s ≡ Ok events
-record_read image names o s a b c events is_a is_b is_c is =
-    ap (λ (r : Result (List Placed) StartFault). and_start r (λ a. and_start (placed_in_record image names o s.key column.NodeAttr) (λ b. and_start (placed_in_record image names o s.key column.EdgeAttr) (λ c. merged_or_fault s.key (merged a b c s.count))))) is_a
-    ∙ ap (λ (r : Result (List Placed) StartFault). and_start r (λ b. and_start (placed_in_record image names o s.key column.EdgeAttr) (λ c. merged_or_fault s.key (merged a b c s.count)))) is_b
-    ∙ ap (λ (r : Result (List Placed) StartFault). and_start r (λ c. merged_or_fault s.key (merged a b c s.count))) is_c
+-- the four columns come together
+pub record_read : (image : List ℕ) (names : ℕ) (o : Opening) (s : Source) (a b c d : List Placed) (events : List Event) → placed_in_record image names o s.key column.Structure ≡ Ok a
+    → placed_in_record image names o s.key column.NodeAttr ≡ Ok b → placed_in_record image names o s.key column.EdgeAttr ≡ Ok c → placed_in_record image names o s.key column.Transient ≡ Ok d
+    → merged a b c d s.count ≡ Some events → events_in_source image names o s ≡ Ok events
+record_read image names o s a b c d events is_a is_b is_c is_d is =
+    (λ i. and_start (is_a i) (λ a. and_start (is_b i) (λ b. and_start (is_c i) (λ c. and_start (is_d i) (λ d. merged_or_fault s.key (merged a b c d s.count))))))
     ∙ ap (merged_or_fault s.key) is

@@ -17,7 +17,7 @@ use Rattle.dg_history.proofs.LegalHistories.{events_made}
 use Rattle.dg_index.specs.declared.entry.Ends.{Ends}
 use Rattle.dg_index.specs.Hierarchy.{leaves, set_of}
 use Rattle.dg_index.specs.ImageOfHistory.{IsImageOf}
-use Rattle.dg_index.specs.ImageText.{params_in}
+use Rattle.dg_index.specs.ImageText.{header_in}
 use Rattle.dg_index.specs.IndexRecords.{recent_of}
 use Rattle.dg_index.specs.OpenedIndex.{No_index, Opened, Opening, Unopened, opened_by, opened_of, opening}
 use Rattle.dg_index.proofs.OpenedIndexHistories.{images_are_opened}
@@ -113,7 +113,7 @@ module _ (back : EventsAreReadBack) (merge : EventsAreMergedBack) (z : History) 
 
 pub starts_as_it_stands : EventsAreReadBack → EventsAreMergedBack → StartsAsItStands
 starts_as_it_stands back merge None image h due s =
-    let none : opening image ≡ Err No_index = ap (λ b. if b then Err No_index else opened_by image (params_in image)) h in
+    let none : opening image ≡ Err No_index = ap (λ b. if b then Err No_index else opened_by image (header_in image)) h in
     (None, [], [], [], subst (λ (r : Result Opened Unopened). StartsBy image r due) none s, (refl, refl, refl, refl))
 starts_as_it_stands back merge (Some z) image h due s =
     let start : IsStartOf z due = history_starts back merge z image h due s in (

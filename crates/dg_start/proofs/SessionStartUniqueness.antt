@@ -2,7 +2,7 @@
 use Rattle.std.proofs.Common.{◌≡◌, ℕ, List as ListOf, [], ◌∷◌, Option, Some, None, Result, Ok, Err, length, refl, sym, ◌∙◌, ap, subst}
 use Rattle.dg_fold.specs.BytesRead.{AreParts, ColumnBytes, IsPartOf, asked_column, kept_in, named_along}
 use Rattle.dg_fold.specs.declared.part.Part.{Part}
-use Rattle.dg_fold.specs.Parts.{and_then, beside, is_events, fault_named, part_column_in, deltas_in_part, parts_in, record_in}
+use Rattle.dg_fold.specs.Parts.{and_then, beside, is_events, fault_named, graph_columns, part_column_in, deltas_in_part, parts_in, record_in}
 use Rattle.dg_fold.specs.PathIndependence.{taken}
 use Rattle.dg_plan.specs.TreePaths.{edges_at}
 use Rattle.dg_graph.specs.declared.element.Column.{Column}
@@ -37,7 +37,7 @@ module _ (names : ℕ) (bytes : ColumnBytes) (cols : Columns) where
   column_by key way until col text =
       fault_named (λ (offset : ℕ). (key, col)) (and_then (record_in names (is_events key) col text) (λ (r : Record). Ok (taken way until r)))
 
-  column_is : (n : Key × Way) (p : Part) → IsPartOf bytes cols n p → (col : Column) → part_column_in names p col ≡ column_by n.0 n.1 None col (asked_column bytes cols n.0 col)
+  column_is : (n : Key × Way) (p : Part) → IsPartOf bytes cols n p → (col : Column) → part_column_in names p col ≡ column_by n.0 n.1 None col (asked_column bytes (graph_columns cols) n.0 col)
   column_is n p is col = λ i. column_by (is.key i) (is.way i) (is.until i) col (is.columns col i)
 
   part_is : (n : Key × Way) (p q : Part) → IsPartOf bytes cols n p → IsPartOf bytes cols n q → deltas_in_part names p ≡ deltas_in_part names q

@@ -62,7 +62,8 @@ abbrev pub events_in_source : List ℕ → ℕ → Opening → Source → Result
 events_in_source image names o s =
     and_start (placed_in_record image names o s.key column.Structure) (λ a.
     and_start (placed_in_record image names o s.key column.NodeAttr) (λ b.
-    and_start (placed_in_record image names o s.key column.EdgeAttr) (λ c. merged_or_fault s.key (merged a b c s.count))))
+    and_start (placed_in_record image names o s.key column.EdgeAttr) (λ c.
+    and_start (placed_in_record image names o s.key column.Transient) (λ d. merged_or_fault s.key (merged a b c d s.count)))))
 
 -- the events of these records, one record after another, each event with the times that it has to lie between
 abbrev pub events_in_sources : List ℕ → ℕ → Opening → List Source → Result (List (Ends × Event)) StartFault

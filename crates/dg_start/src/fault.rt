@@ -29,6 +29,7 @@ impl Display for RecordColumn {
             Column::Structure => ", column s",
             Column::NodeAttr => ", column n",
             Column::EdgeAttr => ", column e",
+            Column::Transient => ", column t",
         })
     }
 }

@@ -7,7 +7,8 @@ ghost use Rattle.dg_text.specs.Names.{is_key, name_text};
 use dg_graph::Body;
 use dg_names::{Names, is_key};
 
-/// Whether the key of a value has a text that may be a key. A change of nodes and edges has no key.
+/// Whether the key of a value has a text that may be a key. A change of nodes and edges has no key, and no message has
+/// one.
 pub fn has_key(names: &Names, body: &Body) -> bool
     ensures { result ≡ has_key names.now body.now }
 {
@@ -17,7 +18,8 @@ pub fn has_key(names: &Names, body: &Body) -> bool
         Body::NodeAdded { .. }
         | Body::NodeRemoved { .. }
         | Body::EdgeAdded { .. }
-        | Body::EdgeRemoved { .. } => true,
+        | Body::EdgeRemoved { .. }
+        | Body::Message { .. } => true,
     }
 }
 

@@ -89,7 +89,15 @@ pub fn read_record<D: Disk>(
     let structure = read_column(alloc, index, disk, names, key, Column::Structure)?;
     let node_attrs = read_column(alloc, index, disk, names, key, Column::NodeAttr)?;
     let edge_attrs = read_column(alloc, index, disk, names, key, Column::EdgeAttr)?;
-    match merge(alloc, &structure, &node_attrs, &edge_attrs, count as u32) {
+    let transient = read_column(alloc, index, disk, names, key, Column::Transient)?;
+    match merge(
+        alloc,
+        &structure,
+        &node_attrs,
+        &edge_attrs,
+        &transient,
+        count as u32,
+    ) {
         Ok(events) => Ok(events),
         Err(MergeFault::Positions) => Err(RecordFault::BadRecord(key, Column::Structure)),
         Err(MergeFault::Memory) => Err(RecordFault::Memory),

@@ -94,6 +94,7 @@ all_asked : (c : Column) → asks all_columns c ≡ true
 all_asked column.Structure = refl
 all_asked column.NodeAttr = refl
 all_asked column.EdgeAttr = refl
+all_asked column.Transient = refl
 
 -- The step takes a record that leads both ways, with a part that holds all its columns.
 pub record IsRecordStep (names : ℕ) (x : Contents) (s : PartedStep) : Type 0 where

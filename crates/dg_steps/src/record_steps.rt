@@ -22,7 +22,7 @@ use std::thread::Threads;
 
 /// The exact steps from each of the nodes to the next one. The nodes are among the targets, 32 of them at the most, to
 /// which one tree over the records of the index alone is planned. Each record that the tree enters is read once, with all
-/// its columns, and nothing else; no set of a node is made. The history has `name_count` names.
+/// its columns but messages, and nothing else; no set of a node is made. The history has `name_count` names.
 ///
 /// `Disk` where a read failed, `Damaged` with the first column that is in no spelling, in the order of the tree's steps
 /// and of structure, node attributes, edge attributes, and `Memory`.

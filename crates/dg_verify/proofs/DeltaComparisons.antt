@@ -5,7 +5,7 @@ use Rattle.dg_graph.specs.declared.element.Column.{Column}
 use Rattle.dg_history.specs.declared.node.Key.{Key}
 use Rattle.dg_index.specs.declared.entry.Row.{Row}
 use Rattle.dg_index.specs.FileOfHistory.{Stored, bytes_of, delta_blobs}
-use Rattle.dg_index.specs.OpenedIndex.{Opening, record_row}
+use Rattle.dg_index.specs.OpenedIndex.{AreUnheard, Opening, record_row}
 use Rattle.dg_sound.specs.Soundness.{or_later}
 use Rattle.dg_start.specs.EventSources.{WhereTold}
 use Rattle.dg_verify.specs.declared.deltas.DeltaKind.{DeltaKind}
@@ -16,26 +16,28 @@ use Rattle.dg_verify.specs.Verification.{IsWrong, keyed_column}
 
 -- ---- the columns of the next record
 
--- the record at an index, by its row
+-- the record at an index, by its row: it has no messages
 pub record IsAt (due : List Stored) (i : ℕ) (row : Row) : Type 0 where
   pub stored : Stored
   pub row_is : row ≡ record_row stored
+  pub unheard : stored.transient ≡ []
   pub rest : drop i due ≡ stored ∷ drop (i + 1) due
 
-pub at_index : (due : List Stored) (i : ℕ) (d : Row) → i < length due → IsAt due i (get_or (map record_row due) i d)
-at_index [] i d lt = absurd (omega (arith, lt))
-at_index (s ∷ due) zero d lt = record { stored = s; row_is = refl; rest = refl }
-at_index (s ∷ due) (suc i) d lt =
-    let below = at_index due i d (omega (arith, lt)) in
+pub at_index : (due : List Stored) (i : ℕ) (d : Row) → AreUnheard due → i < length due → IsAt due i (get_or (map record_row due) i d)
+at_index [] i d unheard lt = absurd (omega (arith, lt))
+at_index (s ∷ due) zero d unheard lt = record { stored = s; row_is = refl; unheard = unheard.0; rest = refl }
+at_index (s ∷ due) (suc i) d unheard lt =
+    let below = at_index due i d unheard.1 (omega (arith, lt)) in
     record {
       stored = below.stored;
       row_is = below.row_is;
+      unheard = below.unheard;
       rest = below.rest ∙ ap (λ n. below.stored ∷ drop n (s ∷ due)) (let e : suc (i + 1) ≡ suc i + 1 = omega arith in e);
     }
 
-pub next_row : (due : List Stored) (rows : List Row) (i : ℕ) (d : Row) → rows ≡ map record_row due → i < length rows → IsAt due i (get_or rows i d)
-next_row due rows i d are lt =
-    subst (λ (rs : List Row). IsAt due i (get_or rs i d)) (sym are) (at_index due i d (omega (arith, lt, ap length are, length-map due record_row)))
+pub next_row : (due : List Stored) (rows : List Row) (i : ℕ) (d : Row) → AreUnheard due → rows ≡ map record_row due → i < length rows → IsAt due i (get_or rows i d)
+next_row due rows i d unheard are lt =
+    subst (λ (rs : List Row). IsAt due i (get_or rs i d)) (sym are) (at_index due i d unheard (omega (arith, lt, ap length are, length-map due record_row)))
 
 take_front : (a b : List ℕ) → take (length a) (a ++ b) ≡ a
 take_front [] b = refl
@@ -56,15 +58,17 @@ module _ (column rest bytes : List ℕ) (n : ℕ) (is : bytes ≡ column ++ rest
   is_within : n ≤ length bytes
   is_within = omega (arith, long, ap length is, length-append column rest)
 
-as_parts : (s : Stored) (rest bytes : List ℕ) → bytes ≡ bytes_of s ++ rest → bytes ≡ s.structure ++ (s.node_attrs ++ (s.edge_attrs ++ rest))
-as_parts s rest bytes is =
-    is ∙ append_assoc s.structure (s.node_attrs ++ s.edge_attrs) rest
-    ∙ ap (λ (l : List ℕ). s.structure ++ l) (append_assoc s.node_attrs s.edge_attrs rest)
+as_parts : (s : Stored) (rest bytes : List ℕ) → s.transient ≡ [] → bytes ≡ bytes_of s ++ rest → bytes ≡ s.structure ++ (s.node_attrs ++ (s.edge_attrs ++ rest))
+as_parts s rest bytes unheard is =
+    is ∙ append_assoc s.structure (s.node_attrs ++ (s.edge_attrs ++ s.transient)) rest
+    ∙ ap (λ (l : List ℕ). s.structure ++ l) (append_assoc s.node_attrs (s.edge_attrs ++ s.transient) rest)
+    ∙ ap (λ (l : List ℕ). s.structure ++ (s.node_attrs ++ l)) (append_assoc s.edge_attrs s.transient rest)
+    ∙ ap (λ (l : List ℕ). s.structure ++ (s.node_attrs ++ (s.edge_attrs ++ (l ++ rest)))) unheard
 
 -- the record at the index is cut off from the columns that are left
 module _ (due : List Stored) (i : ℕ) (row : Row) (columns : List ℕ) (at : IsAt due i row) (left : columns ≡ delta_blobs (drop i due)) where
   columns_are : columns ≡ at.stored.structure ++ (at.stored.node_attrs ++ (at.stored.edge_attrs ++ delta_blobs (drop (i + 1) due)))
-  columns_are = as_parts at.stored (delta_blobs (drop (i + 1) due)) columns (left ∙ ap delta_blobs at.rest)
+  columns_are = as_parts at.stored (delta_blobs (drop (i + 1) due)) columns at.unheard (left ∙ ap delta_blobs at.rest)
 
   structure_long : slice_index_or row.lengths 0 0 ≡ length at.stored.structure
   structure_long = ap (λ (r : Row). slice_index_or r.lengths 0 0) at.row_is

@@ -1,10 +1,11 @@
 -- The tops and downs that events determine, as the segment of all of them behind nothing.
-use Rattle.std.proofs.Common.{◌≡◌, ℕ, true, zero, suc, ◌+◌, ◌-◌, ◌*◌, ◌/◌, ◌^◌, ◌≤◌, List, [], ◌∷◌, ◌++◌, length, drop, take, map, min, refl, sym, ◌∙◌, ap, arith, length-append}
+use Rattle.std.proofs.Common.{◌≡◌, ℕ, true, false, zero, suc, ◌+◌, ◌-◌, ◌*◌, ◌/◌, ◌^◌, ◌≤◌, List, [], ◌∷◌, ◌++◌, length, drop, take, map, min, refl, sym, ◌∙◌, ap, arith, length-append}
 use Rattle.std.specs.List.{flat_map}
 use Rattle.std.proofs.lemmas.List.{drop_all}
 use Rattle.dg_build.proofs.OlderSteps.{older_in_time_long}
 use Rattle.dg_build.specs.InteriorDeltas.{steps_to}
 use Rattle.dg_build.specs.OlderSteps.{AreOlderSteps, last_leaf, older_in_time}
+use Rattle.dg_build.specs.SpelledRecords.{written_segment}
 use Rattle.dg_graph.specs.declared.event.Event.{Event}
 use Rattle.dg_history.specs.declared.node.Key.{Key}
 use Rattle.dg_history.specs.declared.node.Key.TheVariants as key
@@ -95,7 +96,7 @@ no_older_steps p after parameters = sym (ap (λ (l : List NodeId). steps_to (map
 pub none_recent : (p : Params) → [] ≡ recent_of p []
 none_recent p = sym (drop_all (leaves p 0 * p.l) [] (omega arith))
 
-pub deltas_made : (p : Params) (events : List Event) (names : List (List ℕ)) (s : Segment) (keys : List Key) → s ≡ segment_of p [] (record { names = names; events = events })
+pub deltas_made : (p : Params) (events : List Event) (names : List (List ℕ)) (s : Segment) (keys : List Key) → s ≡ written_segment false (segment_of p [] (record { names = names; events = events }))
     → keys ≡ deltas_due p.k 0 (leaves p (length events)) → s.deltas ≡ map (λ k. stored (record_among p events [] k)) keys
 deltas_made p events names s keys is are =
     ap (λ (t : Segment). t.deltas) is

@@ -1,5 +1,6 @@
 -- How the pieces of an index are read or compared, one after another.
 use Rattle.std.proofs.Common.{◌≡◌, ℕ, ◌+◌, ◌≤◌, Bool, true, false, ◌&&◌, List, [], ◌∷◌, Option, Some, None, Result, Ok, Err, if◌then◌else◌, length, drop, take, slice_get, refl, sym, ◌∙◌, ap, subst, arith}
+use Rattle.std.specs.Option.{option_or}
 use Rattle.std.proofs.lemmas.List.{drop_all}
 use Rattle.std.proofs.lemmas.List.Sums.{sum_by-cons}
 use Rattle.dg_graph.specs.declared.element.Column.{Column}
@@ -17,7 +18,7 @@ use Rattle.dg_verify.specs.declared.own_events.OwnEvents.{OwnEvents}
 use Rattle.dg_verify.specs.declared.stop.Stop.{Stop}
 use Rattle.dg_verify.specs.declared.stop.Stop.TheVariants as stop
 use Rattle.dg_verify.specs.EventTests.{IsStopBehind, tested}
-use Rattle.dg_verify.specs.Verification.{IsStop, IsWrong, keyed_column, opened_with, unlike}
+use Rattle.dg_verify.specs.Verification.{IsStop, IsWrong, keyed_column, opened_with, unlike_events}
 use Rattle.dg_verify.proofs.EventTestRecords.{stops_on, stops_so, tested_then, then_behind}
 
 -- All pieces are read as these events, tested, with the pieces from this one on, and so many events stand before its
@@ -82,12 +83,14 @@ abbrev as_result : Key → List Event → Option Column → Result (List Event) 
 as_result k events None = Ok events
 as_result k events (Some col) = Err (k, col)
 
-by_columns : (a b c ends : Bool) (k : Key) (events : List Event) → ends ≡ true
-    → if_columns (a && ends) b c k events ≡ as_result k events (if a then (if b then (if c then None else Some column.EdgeAttr) else Some column.NodeAttr) else Some column.Structure)
-by_columns true true true ends k events h = ap (λ e. if_columns e true true k events) h
-by_columns true true false ends k events h = ap (λ e. if_columns e true false k events) h
-by_columns true false c ends k events h = ap (λ e. if_columns e false c k events) h
-by_columns false b c ends k events h = refl
+by_columns : (a b c d ends : Bool) (k : Key) (events : List Event) → ends ≡ true
+    → if_columns (a && ends) b c d k events
+    ≡ as_result k events (option_or (if a then (if b then (if c then None else Some column.EdgeAttr) else Some column.NodeAttr) else Some column.Structure) (if d then None else Some column.Transient))
+by_columns true true true true ends k events h = ap (λ e. if_columns e true true true k events) h
+by_columns true true true false ends k events h = ap (λ e. if_columns e true true false k events) h
+by_columns true true false d ends k events h = ap (λ e. if_columns e true false d k events) h
+by_columns true false c d ends k events h = ap (λ e. if_columns e false c d k events) h
+by_columns false b c d ends k events h = refl
 
 stops_result : (s : Stop) (k : Key) (events : List Event) (u : Option Column) → IsWrong s (keyed_column k u) → IsStop s (as_result k events u)
 stops_result (stop.Wrong key col) k events None h = absurd cc
@@ -96,25 +99,27 @@ stops_result stop.Disk k events u h = tt
 stops_result stop.Memory k events u h = tt
 
 -- the piece of an older batch, whose times are right, was compared with these columns of its events
-module _ (image : List ℕ) (o : Opening) (events piece : List Event) (number before : ℕ) (b : BatchEntry) (structure node_attrs edge_attrs : List ℕ)
+module _ (image : List ℕ) (o : Opening) (events piece : List Event) (number before : ℕ) (b : BatchEntry) (structure node_attrs edge_attrs transient : List ℕ)
     (piece_is : piece ≡ take (piece_length o before b) (drop (piece_start o before b) events)) (ends : has_batch_ends before b events ≡ true)
     (structure_is : structure ≡ events_column column.Structure piece) (node_attrs_are : node_attrs ≡ events_column column.NodeAttr piece)
-    (edge_attrs_are : edge_attrs ≡ events_column column.EdgeAttr piece) where
-  as_compared : with_older image (opened_with o []) events number before b ≡ as_result (key.Piece number) events (unlike image o (key.Piece number) structure node_attrs edge_attrs)
+    (edge_attrs_are : edge_attrs ≡ events_column column.EdgeAttr piece) (transient_is : transient ≡ events_column column.Transient piece) where
+  as_compared : with_older image (opened_with o []) events number before b ≡ as_result (key.Piece number) events (unlike_events image o (key.Piece number) structure node_attrs edge_attrs transient)
   as_compared =
       by_columns (is_column_of image (opened_with o []) (key.Piece number) (take (piece_length o before b) (drop (piece_start o before b) events)) column.Structure)
       (is_column_of image (opened_with o []) (key.Piece number) (take (piece_length o before b) (drop (piece_start o before b) events)) column.NodeAttr)
       (is_column_of image (opened_with o []) (key.Piece number) (take (piece_length o before b) (drop (piece_start o before b) events)) column.EdgeAttr)
+      (is_column_of image (opened_with o []) (key.Piece number) (take (piece_length o before b) (drop (piece_start o before b) events)) column.Transient)
       (has_batch_ends before b events) (key.Piece number) events ends
-      ∙ (λ i. as_result (key.Piece number) events (unlike image o (key.Piece number)
+      ∙ (λ i. as_result (key.Piece number) events (unlike_events image o (key.Piece number)
       ((ap (events_column column.Structure) (sym piece_is) ∙ sym structure_is) i)
       ((ap (events_column column.NodeAttr) (sym piece_is) ∙ sym node_attrs_are) i)
-      ((ap (events_column column.EdgeAttr) (sym piece_is) ∙ sym edge_attrs_are) i)))
+      ((ap (events_column column.EdgeAttr) (sym piece_is) ∙ sym edge_attrs_are) i)
+      ((ap (events_column column.Transient) (sym piece_is) ∙ sym transient_is) i)))
 
-  pub older_alike : unlike image o (key.Piece number) structure node_attrs edge_attrs ≡ None → with_older image (opened_with o []) events number before b ≡ Ok events
+  pub older_alike : unlike_events image o (key.Piece number) structure node_attrs edge_attrs transient ≡ None → with_older image (opened_with o []) events number before b ≡ Ok events
   older_alike alike = as_compared ∙ ap (as_result (key.Piece number) events) alike
 
-  pub older_stops : (s : Stop) → IsWrong s (keyed_column (key.Piece number) (unlike image o (key.Piece number) structure node_attrs edge_attrs)) → IsStop s (with_older image (opened_with o []) events number before b)
+  pub older_stops : (s : Stop) → IsWrong s (keyed_column (key.Piece number) (unlike_events image o (key.Piece number) structure node_attrs edge_attrs transient)) → IsStop s (with_older image (opened_with o []) events number before b)
   older_stops s h =
       subst (λ t. IsStop s t) (sym as_compared)
-      (stops_result s (key.Piece number) events (unlike image o (key.Piece number) structure node_attrs edge_attrs) h)
+      (stops_result s (key.Piece number) events (unlike_events image o (key.Piece number) structure node_attrs edge_attrs transient) h)

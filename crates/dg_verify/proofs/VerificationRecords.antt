@@ -1,5 +1,6 @@
 -- What is read of a record, and why nothing is, as the definitions of sound files have it.
 use Rattle.std.proofs.Common.{◌≡◌, ℕ, Bool, List, Option, Some, None, Result, Ok, Err, length, refl, sym, ◌∙◌, ap, subst}
+use Rattle.std.specs.Option.{option_or}
 use Rattle.dg_graph.specs.declared.element.Column.{Column}
 use Rattle.dg_graph.specs.declared.element.Column.TheVariants as column
 use Rattle.dg_graph.specs.declared.event.Event.{Event}
@@ -19,7 +20,7 @@ use Rattle.dg_start.specs.Refusals.{IsReason}
 use Rattle.dg_verify.specs.declared.stop.Stop.{Stop}
 use Rattle.dg_verify.specs.declared.stop.Stop.TheVariants as stop
 use Rattle.dg_verify.specs.Stops.{stop_of_record}
-use Rattle.dg_verify.specs.Verification.{IsStop, keyed, opened_with}
+use Rattle.dg_verify.specs.Verification.{IsStop, IsWrong, keyed, keyed_column, opened_with}
 
 -- a record that is not right, as a fault of starting
 abbrev as_started : {A : Type 0} → Key → Result A Column → Result A StartFault
@@ -42,7 +43,8 @@ same_events image names o s =
     then_read s.key column.Structure (read_as_events column.Structure (length names) (column_at image (entry_at o s.key) column.Structure)) _ _ (λ a.
     then_read s.key column.NodeAttr (read_as_events column.NodeAttr (length names) (column_at image (entry_at o s.key) column.NodeAttr)) _ _ (λ b.
     then_read s.key column.EdgeAttr (read_as_events column.EdgeAttr (length names) (column_at image (entry_at o s.key) column.EdgeAttr)) _ _ (λ c.
-    then_merged s.key (merged a b c s.count))))
+    then_read s.key column.Transient (read_as_events column.Transient (length names) (column_at image (entry_at o s.key) column.Transient)) _ _ (λ d.
+    then_merged s.key (merged a b c d s.count)))))
 
 from_err : (f : RecordFault) (k : Key) (r : Result (List Event) Column) → IsReason (start_fault_of_record f) (as_started k r) → IsStop (stop_of_record f) (keyed k r)
 from_err (record_fault.BadRecord key col) k (Ok x) h = absurd cc
@@ -73,3 +75,12 @@ record_stops (stop.Wrong k' col) names k right before (Ok events) h = absurd cc
 record_stops (stop.Wrong k' col) names k right before (Err c) h = h
 record_stops stop.Disk names k right before r h = tt
 record_stops stop.Memory names k right before r h = tt
+
+-- ---- the columns of a record of events
+
+-- what stops the first columns stops all
+pub columns_stop : (s : Stop) (k : Key) (first last : Option Column) → IsWrong s (keyed_column k first) → IsWrong s (keyed_column k (option_or first last))
+columns_stop (stop.Wrong key col) k None last h = absurd cc
+columns_stop (stop.Wrong key col) k (Some c) last h = h
+columns_stop stop.Disk k first last h = tt
+columns_stop stop.Memory k first last h = tt

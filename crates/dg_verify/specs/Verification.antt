@@ -1,5 +1,6 @@
 -- How an index file is verified: what is known of the events that were read, what a comparison finds, and what a stop
 -- says.
+use Rattle.std.specs.Option.{option_or}
 use Rattle.std.specs.Prelude.{◌≡◌, ℕ, ◌*◌, List, Option, Some, None, Result, Ok, Err, bytes_eq, length, max, if◌then◌else◌}
 use Rattle.dg_graph.specs.declared.element.Column.{Column}
 use Rattle.dg_graph.specs.declared.element.Column.TheVariants as column
@@ -53,7 +54,7 @@ keyed_column k found = or_later k found None
 
 -- ---- comparing
 
--- the first column of the record that is none of these
+-- the first column of the record that is none of these, but for that of messages
 abbrev pub unlike : List ℕ → Opening → Key → List ℕ → List ℕ → List ℕ → Option Column
 unlike image o k structure node_attrs edge_attrs =
     if bytes_eq (column_at image (entry_at o k) column.Structure) structure
@@ -61,3 +62,9 @@ unlike image o k structure node_attrs edge_attrs =
     then (if bytes_eq (column_at image (entry_at o k) column.EdgeAttr) edge_attrs then None else Some column.EdgeAttr)
     else Some column.NodeAttr)
     else Some column.Structure
+
+-- and of a record of events, which may have messages
+abbrev pub unlike_events : List ℕ → Opening → Key → List ℕ → List ℕ → List ℕ → List ℕ → Option Column
+unlike_events image o k structure node_attrs edge_attrs transient =
+    option_or (unlike image o k structure node_attrs edge_attrs)
+    (if bytes_eq (column_at image (entry_at o k) column.Transient) transient then None else Some column.Transient)

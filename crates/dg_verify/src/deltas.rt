@@ -81,10 +81,12 @@ pub fn compare_deltas<D: Disk>(
     ensures same { index.new ≡ index.old }
     ensures disk { ReadsDisk D.Disk disk.old disk.new }
 {
+    due.segment.facts();
     let rows = due.segment.delta_rows();
     let mut columns = due.segment.delta_columns();
     for (number, row) in rows.iter().enumerate() {
-        let [structure_len, node_len, edge_len] = row.lengths;
+        // No delta has messages.
+        let [structure_len, node_len, edge_len, _] = row.lengths;
         let (structure, after_structure) = columns.split_at(structure_len as usize);
         let (node_attrs, after_nodes) = after_structure.split_at(node_len as usize);
         let (edge_attrs, after_record) = after_nodes.split_at(edge_len as usize);

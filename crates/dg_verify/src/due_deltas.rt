@@ -62,6 +62,17 @@ pub fn due_deltas(alloc: Global, params: Params, events: &[Event]) -> Result<Due
     let count = events.len() as u64;
     let keys = delta_keys(alloc, params, count)?;
     let bare = Segment::new(alloc, count, first_time(events), last_time(events));
-    let segment = build(alloc, params, 0, &[], events, &Set::new(alloc), &[], bare)?;
+    // Of the segment the deltas alone are looked at, which have no messages.
+    let segment = build(
+        alloc,
+        params,
+        false,
+        0,
+        &[],
+        events,
+        &Set::new(alloc),
+        &[],
+        bare,
+    )?;
     Ok(DueDeltas { keys, segment })
 }

@@ -13,7 +13,7 @@ ghost use Rattle.dg_verify.specs.EventTests.{IsRead, IsStopBehind, tested};
 ghost use Rattle.dg_verify.specs.Verification.{AreSoFar, IsStop, opened_with};
 
 use crate::own_events::OwnEvents;
-use crate::records::{compare_columns, read_events};
+use crate::records::{compare_event_columns, read_events};
 use crate::stop::Stop;
 use crate::times::are_ends;
 use dg_catalogue::leaves;
@@ -106,7 +106,16 @@ fn compare_older<D: Disk>(
     let structure = write_events(alloc, piece, Column::Structure)?;
     let node_attrs = write_events(alloc, piece, Column::NodeAttr)?;
     let edge_attrs = write_events(alloc, piece, Column::EdgeAttr)?;
-    compare_columns(index, disk, key, &structure, &node_attrs, &edge_attrs)
+    let transient = write_events(alloc, piece, Column::Transient)?;
+    compare_event_columns(
+        index,
+        disk,
+        key,
+        &structure,
+        &node_attrs,
+        &edge_attrs,
+        &transient,
+    )
 }
 
 // Reads the piece of a recent batch behind the events that were read.

@@ -11,7 +11,7 @@ ghost use Rattle.dg_history.specs.Keys.{same_key};
 ghost use Rattle.dg_index.specs.OpenedIndex.{column_at, entry_at, opening};
 ghost use Rattle.dg_sound.specs.OwnEvents.{events_of_record};
 ghost use Rattle.dg_start.specs.EventSources.{WhereTold};
-ghost use Rattle.dg_verify.specs.Verification.{IsStop, IsWrong, keyed, keyed_column, opened_with, unlike};
+ghost use Rattle.dg_verify.specs.Verification.{IsStop, IsWrong, keyed, keyed_column, opened_with, unlike, unlike_events};
 
 use crate::stop::Stop;
 use dg_disk::Disk;
@@ -80,8 +80,8 @@ fn is_column<D: Disk>(
     Ok(bytes.as_slice() == due)
 }
 
-/// Compares the columns of the record with these. `Stop::Wrong` for the first that is another, `Stop::Disk` where
-/// the disk failed, `Stop::Memory` for want of memory.
+/// Compares the columns of the record with these; that of messages is not among them. `Stop::Wrong` for the first that is
+/// another, `Stop::Disk` where the disk failed, `Stop::Memory` for want of memory.
 pub fn compare_columns<D: Disk>(
     index: &mut Index,
     disk: &mut D,
@@ -112,6 +112,36 @@ pub fn compare_columns<D: Disk>(
     let are_edge_attrs = is_column(index, disk, key, Column::EdgeAttr, edge_attrs)?;
     if !are_edge_attrs {
         return Err(Stop::Wrong(key, Column::EdgeAttr));
+    }
+    Ok(())
+}
+
+/// Compares the columns of a record of events with these, and that of messages at last. `Stop::Wrong` for the first that is
+/// another, `Stop::Disk` where the disk failed, `Stop::Memory` for want of memory.
+pub fn compare_event_columns<D: Disk>(
+    index: &mut Index,
+    disk: &mut D,
+    key: Key,
+    structure: &[u8],
+    node_attrs: &[u8],
+    edge_attrs: &[u8],
+    transient: &[u8],
+) -> Result<(), Stop>
+    requires image { IfSome (D.image disk.old) (λ image. IsOpenedAs image index.old.opening) }
+    ensures alike { OnOk result (WhereTold (D.image disk.old)
+        (λ image. unlike_events image index.old.opening key structure.now node_attrs.now edge_attrs.now transient.now ≡ None)) }
+    ensures stopped { IfErr result (λ stop. WhereTold (D.image disk.old)
+        (λ image. IsWrong stop (keyed_column key (unlike_events image index.old.opening key structure.now node_attrs.now edge_attrs.now transient.now)))) }
+    ensures cause { IsErrOf result Stop.Disk → Fails D.Disk disk.old disk.new }
+
+    // what it leaves
+    ensures same { index.new ≡ index.old }
+    ensures disk { ReadsDisk D.Disk disk.old disk.new }
+{
+    compare_columns(index, disk, key, structure, node_attrs, edge_attrs)?;
+    let are_transient = is_column(index, disk, key, Column::Transient, transient)?;
+    if !are_transient {
+        return Err(Stop::Wrong(key, Column::Transient));
     }
     Ok(())
 }

@@ -1,7 +1,7 @@
 -- What the changes ask for, by their texts.
 use Rattle.std.specs.Prelude.{ℕ, List, ◌∷◌, Option, Some, None, codes, decimal}
 use Rattle.dg_text.specs.Names.{added}
-use Rattle.dg_changes.specs.ChangeGrammar.{WhatByText, Plain, Sets_node, Unsets_node, Sets_edge, Unsets_edge}
+use Rattle.dg_changes.specs.ChangeGrammar.{WhatByText, Plain, Sets_node, Unsets_node, Sets_edge, Unsets_edge, Sends}
 use Rattle.dg_workload.specs.declared.request.Key.{Key}
 use Rattle.dg_workload.specs.declared.request.Key.TheVariants as key
 use Rattle.dg_workload.specs.declared.request.Request.{Request}
@@ -43,3 +43,4 @@ with_request_key names (Sets_node id key value) = added names key
 with_request_key names (Unsets_node id key) = added names key
 with_request_key names (Sets_edge id key value) = added names key
 with_request_key names (Unsets_edge id key) = added names key
+with_request_key names (Sends src dst value) = names

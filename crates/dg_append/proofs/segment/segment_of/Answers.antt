@@ -1,12 +1,13 @@
 use Rattle.std.proofs.Common.{◌∙◌, ℕ, ap, arith, length, map, refl, subst, sym}
 use Rattle.dg_append.proofs.BatchSegmentIndex.{tail_rises}
-use Rattle.dg_append.proofs.BatchSegmentParts.{as_many_deltas, as_many_lists, begins_after_lists, given_here, listed_by, older_long, past_graph, past_long, past_recent, past_steps, range_of, recent_long}
+use Rattle.dg_append.proofs.BatchSegmentParts.{as_many_deltas, as_many_lists, begins_after_lists, given_here, listed_by, older_long, past_graph, past_long, past_recent, past_steps, range_of, recent_long, written_whole}
 use Rattle.dg_append.proofs.segment.segment_of.Goals as goal
 use Rattle.dg_build.specs.GivenDeltas.{AreGiven, IsFaultOfSuch}
 use Rattle.dg_history.specs.declared.params.Params.{Params}
-use Rattle.dg_history.specs.History.{first_time_of, last_time_from}
+use Rattle.dg_history.specs.History.{Batch, first_time_of, last_time_from}
 use Rattle.dg_history.proofs.ParameterRanges.{InRange}
 use Rattle.dg_index.specs.FileOfHistory.{segment_of}
+use Rattle.dg_index.proofs.UnheardRecords.{segment_unheard}
 use Rattle.dg_index.specs.OpenedIndex.{Opening, list_bytes_max, list_row, may_be_listed}
 use Rattle.dg_pool.specs.Graphs.{graph_now}
 use Rattle.dg_start.specs.StoredHistory.{floor_of}
@@ -43,6 +44,8 @@ returns-in-Ok-clause-behind c =
           ∙ listed_by (list_bytes_max c.params-params.result.l) (floor_of o (first_time_of c.args.next.now.events.now)) c.args.next.now.recent.now c.args.next.now.events.now (map list_row c.in-Ok.segment.lists) c.requires.next.follows.some (c.in-Ok.ensures.times (floor_of o (first_time_of c.args.next.now.events.now)) (tail_rises c.args.index.now.opening c.args.next.now.recent.now c.args.next.now.events.now c.requires.next.follows));
       behind = begins_after_lists o c.params-params.result c.events_len-before.result c.params-params.ensures c.events_len-before.ensures.events (floor_of o (first_time_of c.args.next.now.events.now)) c.in-Ok.segment.lists c.args.next.now.recent.now c.args.next.now.events.now
           (c.in-Ok.ensures.behind (floor_of o (first_time_of c.args.next.now.events.now)) (tail_rises c.args.index.now.opening c.args.next.now.recent.now c.args.next.now.events.now c.requires.next.follows));
+      deltas_unheard = c.facts-in-Ok.ensures;
+      unheard = λ narrow. c.in-Ok.ensures.unheard (c.is_wide.ensures ∙ narrow);
     }
 
 pub returns-in-Ok-clause-is : goal.returns-in-Ok-clause-is
@@ -51,6 +54,7 @@ returns-in-Ok-clause-is c past is =
     let p : Params = c.params-params.result in
     let n : ℕ = c.events_len-before.result in
     let parts = c.in_ok-segment.ensures.parts in
+    let b : Batch = record { names = c.in_ok-segment.segment.names; events = c.args.next.now.events.now } in
     c.in-Ok.ensures.is past
     (past_long o p n c.params-params.ensures c.events_len-before.ensures.events past c.args.next.now.recent.now (graph_now c.args.pool.now) c.args.next.now.events.now c.args.older.now is)
     (past_recent o p n c.params-params.ensures c.events_len-before.ensures.events past c.args.next.now.recent.now (graph_now c.args.pool.now) c.args.next.now.events.now c.args.older.now is)
@@ -59,6 +63,7 @@ returns-in-Ok-clause-is c past is =
     is.changes
     (past_steps o p n c.params-params.ensures c.events_len-before.ensures.events past c.args.next.now.recent.now (graph_now c.args.pool.now) c.args.next.now.events.now c.args.older.now is)
     parts.0 parts.1 parts.2
+    ∙ written_whole c.is_wide.result (segment_of p past b) (λ narrow. segment_unheard p past b (is.silent (sym c.is_wide.ensures ∙ narrow)))
     ∙ (λ i. segment_of (c.params-params.ensures i) past (record { names = parts.3 i; events = c.args.next.now.events.now }))
 
 pub returns-clause-never : goal.returns-clause-never

@@ -21,21 +21,21 @@ pub split_at-requires : goal.split_at-requires
 split_at-requires g c =
     let due : List Stored = c.args.due.now.segment.deltas in
     let i : ℕ = c.loop-number.number in
-    let at = next_row due c.delta_rows-rows.result.now i no_row c.delta_rows-rows.ensures c.loop-number-test.true in
+    let at = next_row due c.delta_rows-rows.result.now i no_row c.facts.ensures c.delta_rows-rows.ensures c.loop-number-test.true in
     structure_within due i (slice_index_or c.delta_rows-rows.result.now i no_row) c.loop-number.columns.now at c.loop-number.invariant.left
 
 pub split_at-requires-in-loop-number : goal.split_at-requires-in-loop-number
 split_at-requires-in-loop-number g c =
     let due : List Stored = c.args.due.now.segment.deltas in
     let i : ℕ = c.loop-number.number in
-    let at = next_row due c.delta_rows-rows.result.now i no_row c.delta_rows-rows.ensures c.loop-number-test.true in
+    let at = next_row due c.delta_rows-rows.result.now i no_row c.facts.ensures c.delta_rows-rows.ensures c.loop-number-test.true in
     nodes_within due i (slice_index_or c.delta_rows-rows.result.now i no_row) c.loop-number.columns.now at c.loop-number.invariant.left c.split_at.result.1.now c.split_at.ensures.back
 
 pub split_at-requires-in-loop-number-2 : goal.split_at-requires-in-loop-number-2
 split_at-requires-in-loop-number-2 g c =
     let due : List Stored = c.args.due.now.segment.deltas in
     let i : ℕ = c.loop-number.number in
-    let at = next_row due c.delta_rows-rows.result.now i no_row c.delta_rows-rows.ensures c.loop-number-test.true in
+    let at = next_row due c.delta_rows-rows.result.now i no_row c.facts.ensures c.delta_rows-rows.ensures c.loop-number-test.true in
     edges_within due i (slice_index_or c.delta_rows-rows.result.now i no_row) c.loop-number.columns.now at c.loop-number.invariant.left c.split_at.result.1.now c.split_at.ensures.back
     c.split_at-in-loop-number.result.1.now c.split_at-in-loop-number.ensures.back
 
@@ -48,7 +48,7 @@ returns-in_err-compare_delta-clause-stopped g c =
     let i : ℕ = c.loop-number.number in
     let columns : List ℕ = c.loop-number.columns.now in
     let row : Row = slice_index_or c.delta_rows-rows.result.now i no_row in
-    let at : IsAt due i row = next_row due c.delta_rows-rows.result.now i no_row c.delta_rows-rows.ensures c.loop-number-test.true in
+    let at : IsAt due i row = next_row due c.delta_rows-rows.result.now i no_row c.facts.ensures c.delta_rows-rows.ensures c.loop-number-test.true in
     let a = structure_is due i row columns at c.loop-number.invariant.left c.split_at.result.0.now c.split_at.ensures.front in
     let b = nodes_are due i row columns at c.loop-number.invariant.left c.split_at.result.1.now c.split_at.ensures.back c.split_at-in-loop-number.result.0.now c.split_at-in-loop-number.ensures.front in
     let d = edges_are due i row columns at c.loop-number.invariant.left c.split_at.result.1.now c.split_at.ensures.back c.split_at-in-loop-number.result.1.now c.split_at-in-loop-number.ensures.back
@@ -72,7 +72,7 @@ loop-number-preserved g c =
     let i : ℕ = c.loop-number.number in
     let columns : List ℕ = c.loop-number.columns.now in
     let row : Row = slice_index_or c.delta_rows-rows.result.now i no_row in
-    let at : IsAt due i row = next_row due c.delta_rows-rows.result.now i no_row c.delta_rows-rows.ensures c.loop-number-test.true in
+    let at : IsAt due i row = next_row due c.delta_rows-rows.result.now i no_row c.facts.ensures c.delta_rows-rows.ensures c.loop-number-test.true in
     let a = structure_is due i row columns at c.loop-number.invariant.left c.split_at.result.0.now c.split_at.ensures.front in
     let b = nodes_are due i row columns at c.loop-number.invariant.left c.split_at.result.1.now c.split_at.ensures.back c.split_at-in-loop-number.result.0.now c.split_at-in-loop-number.ensures.front in
     let d = edges_are due i row columns at c.loop-number.invariant.left c.split_at.result.1.now c.split_at.ensures.back c.split_at-in-loop-number.result.1.now c.split_at-in-loop-number.ensures.back

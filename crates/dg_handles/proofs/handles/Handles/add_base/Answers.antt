@@ -25,7 +25,7 @@ returns-in_err-slot-clause-tied c = tie_is_kept c.args.pool.now c.attach.new.poo
 
 -- the graph of the new handle
 attached : (c : goal.After-self-1) → AreAttached c.args.pool.now c.attach.new.pool (c.in_ok-slot.slot.0 ∷ [])
-    (record { base = base.Nothing; cols = c.args.cols; members = shown (applied c.args.delta.now []) c.args.cols } ∷ [])
+    (record { base = base.Nothing; cols = c.with_messages.result; members = shown (applied c.args.delta.now []) c.with_messages.result } ∷ [])
 attached c = attached_more c.args.pool.now c.args.pool.now [] [] (attached_none c.args.pool.now) c.attach.new.pool c.in_ok-slot.slot.0 _ c.in_ok-slot.ensures.slot
 
 slots_are : (c : goal.After-self-1) → map number_of c.push_reserved.new.self.items ≡ c.args.self.now.slots ++ c.in_ok-slot.slot.0 ∷ []
@@ -42,9 +42,11 @@ returns-clause-graphs c =
     let old = c.args.pool.now in
     let new = c.attach.new.pool in
     let slots : List ℕ = c.in_ok-slot.slot.0 ∷ [] in
+    let delta = c.args.delta.now in
     ap (slot_graphs new) (slots_are c) ∙ map-append (members_at new) h.slots slots
     ∙ ap (λ (l : List (List Element)). l ++ slot_graphs new slots) (held_kept old new h c.requires.tied slots _ (attached c))
     ∙ ap (λ o. slot_graphs old h.slots ++ members_as o ∷ []) c.in_ok-slot.ensures.slot.holds
+    ∙ ap (λ cols. slot_graphs old h.slots ++ shown (applied delta []) cols ∷ []) c.with_messages.ensures
 
 pub returns-clause-tied : goal.returns-clause-tied
 returns-clause-tied c =
@@ -53,7 +55,7 @@ returns-clause-tied c =
     let more : Entries = (c.self.inside.next, stands.Base c.args.node c.args.cols) ∷ [] in
     let table : map entry_of c.push_reserved.new.self.items ≡ h.table ++ more = table_is c ∙ ap (λ (s : HandlesState). s.table ++ more) c.self.view_is in
     subst (IsTied c.attach.new.pool) (λ k. record { table = sym table k; slots = sym (slots_are c) k; next = last })
-    (tied_more c.args.pool.now c.attach.new.pool h c.requires.tied more (c.in_ok-slot.slot.0 ∷ []) last _ (attached c) ((refl, refl), tt))
+    (tied_more c.args.pool.now c.attach.new.pool h c.requires.tied more (c.in_ok-slot.slot.0 ∷ []) last _ (attached c) ((c.with_messages.ensures, refl), tt))
 
 pub invariant_of-self : goal.invariant_of-self
 invariant_of-self c =
