@@ -21,9 +21,9 @@ use std::alloc::{AllocError, Global};
 fn record_line(catalogue: &Catalogue, key: Key) -> BodyLine
     ensures { result ≡ held_line catalogue.now.entries key }
 {
-    let [structure, nodes_attr, edges_attr] = match catalogue.entry(key) {
+    let [structure, nodes_attr, edges_attr, _] = match catalogue.entry(key) {
         Some(entry) => entry.lengths,
-        None => [0, 0, 0],
+        None => [0; 4],
     };
     BodyLine::Sizes {
         key,

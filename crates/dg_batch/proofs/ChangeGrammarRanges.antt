@@ -15,7 +15,7 @@ use Rattle.dg_text.specs.Lines.{ScriptLine, Text, Long}
 use Rattle.dg_text.specs.Names.{is_key, is_name}
 use Rattle.dg_text.specs.Verbs.{Verb, none_more, one, two_words, three, four_words}
 use Rattle.dg_text.specs.Words.{words, number}
-use Rattle.dg_changes.specs.ChangeGrammar.{WhatByText, Plain, Sets_node, Unsets_node, Sets_edge, Unsets_edge, ChangeByText, change_verbs, id_of, time_of, direction_of, key_text_of, value_text_of, setting_of, what_by_text_of, change_by_text_of_words, change_by_text_in}
+use Rattle.dg_changes.specs.ChangeGrammar.{WhatByText, Plain, Sets_node, Unsets_node, Sets_edge, Unsets_edge, Sends, ChangeByText, change_verbs, id_of, time_of, direction_of, key_text_of, value_text_of, setting_of, what_by_text_of, change_by_text_of_words, change_by_text_in}
 use Rattle.dg_machine.proofs.VerbTables.{each_read_by}
 
 -- what the words, or one word, are read as has the property
@@ -106,7 +106,7 @@ tested test text x e = by (test text) refl e
 
 -- ---- changes
 
--- the ids of a change of nodes and edges fit
+-- the ids of a change of nodes and edges fit; no line sends a message
 abbrev pub PlainFits : What → Type 0
 PlainFits (what.AddNode id) = id < 2 ^ 64
 PlainFits (what.RemoveNode id) = id < 2 ^ 64
@@ -116,6 +116,7 @@ PlainFits (what.SetNode id key value) = ⊥
 PlainFits (what.UnsetNode id key) = ⊥
 PlainFits (what.SetEdge id key value) = ⊥
 PlainFits (what.UnsetEdge id key) = ⊥
+PlainFits (what.Message src dst value) = ⊥
 
 -- so does what a line asks for; its key may be a key, and its value a name
 abbrev pub AskedFits : WhatByText → Type 0
@@ -124,6 +125,7 @@ AskedFits (Sets_node id key value) = (id < 2 ^ 64) × (is_key key ≡ true) × (
 AskedFits (Unsets_node id key) = (id < 2 ^ 64) × (is_key key ≡ true)
 AskedFits (Sets_edge id key value) = (id < 2 ^ 64) × (is_key key ≡ true) × (is_name value ≡ true)
 AskedFits (Unsets_edge id key) = (id < 2 ^ 64) × (is_key key ≡ true)
+AskedFits (Sends src dst value) = ⊥
 
 abbrev pub SaidFits : ChangeByText → Type 0
 SaidFits said = (said.time ≤ TIME_MAX) × AskedFits said.asked

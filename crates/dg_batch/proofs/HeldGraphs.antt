@@ -11,6 +11,7 @@ has_more n m le (element.Node id) h = tt
 has_more n m le (element.Edge id src dst directed) h = tt
 has_more n m le (element.NodeAttr id key value) h = (omega (arith, le, h.0), omega (arith, le, h.1))
 has_more n m le (element.EdgeAttr id key value) h = (omega (arith, le, h.0), omega (arith, le, h.1))
+has_more n m le (element.Message src dst value) h = omega (arith, le, h)
 
 pub names_more : (n m : ℕ) → n ≤ m → (sets : List (List Element)) → All (NamesAreThere n) sets → All (NamesAreThere m) sets
 names_more n m le [] h = All-nil (NamesAreThere m)

@@ -1,21 +1,26 @@
 -- A legal history with the next batch is legal.
-use Rattle.std.proofs.Common.{◌≡◌, ℕ, ◌+◌, ◌<◌, ◌≤◌, ◌^◌, List, [], ◌∷◌, ◌++◌, Option, Some, None, Ok, length, drop, get_or, sym, ◌∙◌, ap, subst, arith, append_assoc, length-append}
+use Rattle.std.proofs.Common.{◌≡◌, ℕ, zero, suc, ◌+◌, ◌<◌, ◌≤◌, ◌^◌, Bool, true, false, not, ◌&&◌, List, [], ◌∷◌, ◌++◌, Option, Some, None, Ok, length, take, drop, get_or, nat_le, refl, sym, ◌∙◌, ap, subst, arith, append_assoc, length-append}
 use Rattle.std.specs.Prelude.{IfSome}
-use Rattle.std.specs.List.{All}
+use Rattle.std.specs.List.{All, flat_map}
+use Rattle.std.proofs.lemmas.Bool.{and_from, and_parts, le-leb, leb-true}
 use Rattle.std.proofs.lemmas.Grind.{flat_map-append}
 use Rattle.std.proofs.lemmas.List.{append-nil}
 use Rattle.std.proofs.lemmas.List.Elements.{All-nil}
 use Rattle.dg_graph.specs.declared.element.Element.{Element}
 use Rattle.dg_graph.specs.declared.event.Change.{Change}
 use Rattle.dg_graph.specs.declared.event.Event.{Event}
+use Rattle.dg_graph.specs.declared.function.Function.{Function}
 use Rattle.dg_graph.specs.declared.limits.TheConstants.{TIME_MAX}
 use Rattle.dg_text.specs.declared.limits.TheConstants.{NAMES_MAX}
 use Rattle.dg_history.specs.declared.limits.TheConstants.{BATCH_LINES_MAX, EVENTS_MAX}
 use Rattle.dg_graph.specs.CompletedChanges.{completed}
 use Rattle.dg_changes.specs.Batch.{changes_after, names_after}
 use Rattle.dg_changes.specs.ChangeGrammar.{ChangeByText}
-use Rattle.dg_history.specs.History.{History, Batch, events_of, names_of, with_batch, span_of, earliest_next}
-use Rattle.dg_history.specs.LegalHistory.{FitsEvent, IsLegal, IsLegalBatch, AreLegalAfter}
+use Rattle.dg_history.specs.declared.form.Form.{Form}
+use Rattle.dg_history.specs.declared.form.Form.TheVariants as form
+use Rattle.dg_history.specs.History.{History, Batch, events_of, names_of, with_batch, span_of, earliest_next, is_form, is_skewed, narrow_batches}
+use Rattle.dg_history.specs.LegalHistory.{FitsEvent, IsLegal, IsLegalBatch, AreLegalAfter, are_silent}
+use Rattle.dg_index.proofs.UnheardRecords.{silent_append}
 use Rattle.dg_text.specs.Names.{are_new}
 use Rattle.dg_graph.specs.Replay.{replay}
 use Rattle.dg_graph.proofs.Completions.{AllCome, all_come, as_many, times_fit}
@@ -23,7 +28,9 @@ use Rattle.dg_history.proofs.LegalHistories.{all_fit, events_among}
 use Rattle.dg_batch.proofs.LegalHistoryRanges.{BodyFits, ChangeFits, ElementFits, HasKey, WhatFits, body_more, changes_fit, events_fit, events_keys, from_legal, has_key_more, legal_body, lines_grow, replay_fits}
 use Rattle.dg_batch.proofs.NamesAfter.{Grows, changes_length, grown_drop, grown_long, grows_none, new_joined}
 use Rattle.dg_batch.proofs.ChangeGrammarRanges.{SaidFits}
+use Rattle.dg_append.specs.AddedBatches.{sends}
 use Rattle.dg_append.specs.Fronts.{lines}
+use Rattle.dg_append.proofs.CompletedChanges.{events_silent}
 
 -- ---- batches, with more names
 
@@ -47,6 +54,37 @@ batches_more names more before (x ∷ batches) b l h = (
   batches_more names more (before ++ x.events) batches b l.1
       (subst (λ (es : List Event). IsLegalBatch (names ++ more) es b) (sym (append_assoc before x.events (events_among batches))) h),
 )
+
+-- ---- forms, with one more batch
+
+first_stay : (n : ℕ) (batches : List Batch) (b : Batch) → n ≤ length batches → take n (batches ++ b ∷ []) ≡ take n batches
+first_stay zero batches b le = refl
+first_stay (suc n) [] b le = absurd (omega (arith, le))
+first_stay (suc n) (c ∷ batches) b le = ap (λ (l : List Batch). c ∷ l) (first_stay n batches b (omega (arith, le)))
+
+-- how many batches stand before the upgrade
+upgraded_within : (skewed : Bool) (n : ℕ) (batches : List Batch) → (skewed && nat_le n (length batches)) ≡ true → n ≤ length batches
+upgraded_within skewed n batches is = leb-true n (length batches) (and_parts skewed (nat_le n (length batches)) is).1
+
+form_more : (f : Form) (function : Function) (batches : List Batch) (b : Batch) → is_form f function (length batches) ≡ true → is_form f function (length (batches ++ b ∷ [])) ≡ true
+form_more form.One function batches b is = is
+form_more (form.Upgraded n) function batches b is =
+    and_from (not (is_skewed function)) (nat_le n (length (batches ++ b ∷ []))) (and_parts (not (is_skewed function)) (nat_le n (length batches)) is).0
+    (le-leb n (length (batches ++ b ∷ [])) (omega (arith, length-append batches (b ∷ []), upgraded_within (not (is_skewed function)) n batches is)))
+form_more form.Two function batches b is = refl
+
+-- the events of batches in the first form
+abbrev silent_in : Form → List Batch → Bool
+silent_in f batches = are_silent (flat_map (λ (x : Batch). x.events) (narrow_batches f batches))
+
+silent_more : (f : Form) (function : Function) (batches : List Batch) (b : Batch) → is_form f function (length batches) ≡ true → are_silent b.events ≡ true → silent_in f batches ≡ true
+    → silent_in f (batches ++ b ∷ []) ≡ true
+silent_more form.One function batches b is next silent =
+    ap are_silent (flat_map-append (λ (x : Batch). x.events) batches (b ∷ []) ∙ ap (λ (es : List Event). flat_map (λ (x : Batch). x.events) batches ++ es) (append-nil b.events))
+    ∙ silent_append (flat_map (λ (x : Batch). x.events) batches) b.events silent next
+silent_more (form.Upgraded n) function batches b is next silent =
+    ap (λ (l : List Batch). are_silent (flat_map (λ (x : Batch). x.events) l)) (first_stay n batches b (upgraded_within (not (is_skewed function)) n batches is)) ∙ silent
+silent_more form.Two function batches b is next silent = refl
 
 -- ---- the history with the next batch
 
@@ -84,6 +122,10 @@ numbers_of names (Some c) h = h.numbers
 times_of : (names : List (List ℕ)) (c : Option Change) → IfSome c (ChangeFits names) → IfSome c (λ (x : Change). x.time ≤ TIME_MAX)
 times_of names None h = tt
 times_of names (Some c) h = h.time
+
+silences_of : (names : List (List ℕ)) (c : Option Change) → IfSome c (ChangeFits names) → IfSome c (λ (x : Change). sends x.what ≡ false)
+silences_of names None h = tt
+silences_of names (Some c) h = h.silent
 
 keys_of : (names : List (List ℕ)) (c : Option Change) → IfSome c (ChangeFits names) → IfSome c (λ (x : Change). HasKey names x.what)
 keys_of names None h = tt
@@ -123,6 +165,14 @@ next_legal z asked changes grown events legal n =
       keys = events_keys grown earliest set (lines changes) events come (λ k d lt. keys_of grown (get_or (lines changes) k d) (fit k d lt));
     }
 
+-- none of its events is a message
+silent_next : (z : History) (asked : List (Option ChangeByText)) (changes : List Change) (grown : List (List ℕ)) (events : List Event) → IsNext z asked changes grown events → are_silent events ≡ true
+silent_next z asked changes grown events n =
+    let earliest : ℕ = earliest_next (span_of (events_of z)) in
+    let set : List Element = replay (events_of z) in
+    let fit : All (λ c. IfSome c (ChangeFits grown)) (lines changes) = fitting_next (names_of z) grown asked changes n.fit n.changes_are n.names_are in
+    events_silent earliest set (lines changes) events (all_come 1 earliest set (lines changes) events n.comes) (λ k d lt. silences_of grown (get_or (lines changes) k d) (fit k d lt))
+
 -- the names and the events with the next batch
 pub names_with : (z : History) (b : Batch) → names_of (with_batch z b) ≡ names_of z ++ b.names
 names_with z b =
@@ -147,6 +197,9 @@ legal_next z asked changes grown events legal n =
     subst (λ (ns : List (List ℕ)). IsLegalBatch ns (events_of z) b) is (next_legal z asked changes grown events legal n) in
     record {
       parameters = legal.parameters;
+      function = legal.function;
+      form = form_more z.form z.params.function z.batches b legal.form;
+      silent = silent_more z.form z.params.function z.batches b legal.form (silent_next z asked changes grown events n) legal.silent;
       batches = subst (λ (ns : List (List ℕ)). AreLegalAfter ns [] (z.batches ++ b ∷ [])) (sym (all ∙ is)) (batches_more (names_of z) g.more [] z.batches b legal.batches batch);
       names = ap (are_new []) (all ∙ is) ∙ new_joined [] (names_of z) g.more legal.names g.right;
       few_names = omega (arith, ap length all, n.few_names);

@@ -18,14 +18,14 @@ use Rattle.dg_changes.specs.Batch.{changes_after, names_after}
 use Rattle.dg_graph.specs.Completion.{is_edge, node_value, edge_value, is_node_value, is_edge_value, value_in, complete, has_key}
 use Rattle.dg_graph.specs.Effect.{forwards, removed_by, added_by, moved}
 use Rattle.dg_graph.specs.Elements.{before, same, put, with_one, without}
-use Rattle.dg_changes.specs.ChangeGrammar.{WhatByText, Plain, Sets_node, Unsets_node, Sets_edge, Unsets_edge, ChangeByText, named, change_with, what_in}
+use Rattle.dg_changes.specs.ChangeGrammar.{WhatByText, Plain, Sets_node, Unsets_node, Sets_edge, Unsets_edge, Sends, ChangeByText, named, change_with, what_in}
 use Rattle.dg_history.specs.LegalHistory.{FitsBody}
 use Rattle.dg_text.specs.Names.{added, is_key, is_name, name_text}
 use Rattle.dg_graph.specs.Replay.{replay_from}
 use Rattle.dg_graph.proofs.Completions.{AllCome, IsCompletion, completion}
 use Rattle.dg_batch.proofs.NamesAfter.{Grows, Has, grows_none, grows_both, added_grows, added_has, has_more, key_is_name, number_within, text_is}
 use Rattle.dg_batch.proofs.ChangeGrammarRanges.{AskedFits, PlainFits, SaidFits}
-use Rattle.dg_append.specs.AddedBatches.{WhatHasNamesThere}
+use Rattle.dg_append.specs.AddedBatches.{WhatHasNamesThere, sends}
 
 -- Ids of which the fact `I` holds, and numbers of names below n: in a change, in an element and in what
 -- changes.
@@ -38,12 +38,14 @@ WhatFits I n (what.SetNode id key value) = I id × (key < n) × (value < n)
 WhatFits I n (what.UnsetNode id key) = I id × (key < n)
 WhatFits I n (what.SetEdge id key value) = I id × (key < n) × (value < n)
 WhatFits I n (what.UnsetEdge id key) = I id × (key < n)
+WhatFits I n (what.Message src dst value) = I src × I dst × (value < n)
 
 abbrev pub ElementFits : (ℕ → Type 0) → ℕ → Element → Type 0
 ElementFits I n (element.Node id) = Unit {0}
 ElementFits I n (element.Edge id src dst directed) = I id × I src × I dst
 ElementFits I n (element.NodeAttr id key value) = value < n
 ElementFits I n (element.EdgeAttr id key value) = value < n
+ElementFits I n (element.Message src dst value) = Unit {0}
 
 abbrev pub BodyFits : (ℕ → Type 0) → ℕ → Body → Type 0
 BodyFits I n (body.NodeAdded id) = I id
@@ -52,6 +54,7 @@ BodyFits I n (body.EdgeAdded id src dst directed) = I id × I src × I dst
 BodyFits I n (body.EdgeRemoved id src dst directed) = I id × I src × I dst
 BodyFits I n (body.NodeAttr id key old new) = I id × (key < n) × IfSome old (λ v. v < n) × IfSome new (λ v. v < n)
 BodyFits I n (body.EdgeAttr id key old new) = I id × (key < n) × IfSome old (λ v. v < n) × IfSome new (λ v. v < n)
+BodyFits I n (body.Message src dst value) = I src × I dst × (value < n)
 
 -- ---- what a set has
 
@@ -97,6 +100,7 @@ added_fits I n (body.EdgeAdded id src dst directed) h = h
 added_fits I n (body.EdgeRemoved id src dst directed) h = tt
 added_fits I n (body.NodeAttr id key old new) h = moved_fits I n (element.NodeAttr id key) new old (λ v k. k) h.3
 added_fits I n (body.EdgeAttr id key old new) h = moved_fits I n (element.EdgeAttr id key) new old (λ v k. k) h.3
+added_fits I n (body.Message src dst value) h = tt
 
 pub set_fits : (I : ℕ → Type 0) (n : ℕ) (set : List Element) (e : Event) → BodyFits I n e.body → All (ElementFits I n) set → All (ElementFits I n) (forwards set e)
 set_fits I n set e h f = with_fits I n (without set (removed_by e.body)) (added_by e.body) (added_fits I n e.body h) (without_fits I n set (removed_by e.body) f)
@@ -116,6 +120,7 @@ value_fits I n (Some (element.Node id)) h = tt
 value_fits I n (Some (element.Edge id src dst directed)) h = tt
 value_fits I n (Some (element.NodeAttr id key value)) h = h (element.NodeAttr id key value) refl
 value_fits I n (Some (element.EdgeAttr id key value)) h = h (element.EdgeAttr id key value) refl
+value_fits I n (Some (element.Message src dst value)) h = tt
 
 pub body_fits : (I : ℕ → Type 0) (n : ℕ) (w : What) (set : List Element) (b : Body) → WhatFits I n w → All (ElementFits I n) set → complete w set ≡ Ok b → BodyFits I n b
 body_fits I n w set b f all h = by w f (completion w set b h)
@@ -143,6 +148,7 @@ body_fits I n w set b f all h = by w f (completion w set b h)
         so (body.EdgeAttr id key (edge_value set id key) (Some value)) c.0 (f.0, f.1, found (is_edge_value id key), f.2)
     by (what.UnsetEdge id key) f c =
         so (body.EdgeAttr id key (Some c.0.value) None) c.0.is (f.0, f.1, taken (is_edge_value id key) c.0.value c.0.found_is, tt)
+    by (what.Message src dst value) f c = so (body.Message src dst value) c.0 f
 
 pub events_fit : (I : ℕ → Type 0) (n earliest : ℕ) (set : List Element) (changes : List (Option Change)) (events : List Event)
     → AllCome earliest set changes events → All (λ c. IfSome c (λ (c : Change). WhatFits I n c.what)) changes → All (ElementFits I n) set → All (λ (e : Event). BodyFits I n e.body) events
@@ -167,6 +173,7 @@ HasKey names (what.SetNode id key value) = is_key (name_text names key) ≡ true
 HasKey names (what.UnsetNode id key) = is_key (name_text names key) ≡ true
 HasKey names (what.SetEdge id key value) = is_key (name_text names key) ≡ true
 HasKey names (what.UnsetEdge id key) = is_key (name_text names key) ≡ true
+HasKey names (what.Message src dst value) = Unit {0}
 
 body_key : (names : List (List ℕ)) (w : What) (set : List Element) (b : Body) → HasKey names w → complete w set ≡ Ok b → IsTrue (has_key names b)
 body_key names w set b f h = by w f (completion w set b h)
@@ -183,6 +190,7 @@ body_key names w set b f h = by w f (completion w set b h)
     by (what.UnsetNode id key) f c = so (body.NodeAttr id key (Some c.0.value) None) c.0.is f
     by (what.SetEdge id key value) f c = so (body.EdgeAttr id key (edge_value set id key) (Some value)) c.0 f
     by (what.UnsetEdge id key) f c = so (body.EdgeAttr id key (Some c.0.value) None) c.0.is f
+    by (what.Message src dst value) f c = so (body.Message src dst value) c.0 refl
 
 pub events_keys : (names : List (List ℕ)) (earliest : ℕ) (set : List Element) (changes : List (Option Change)) (events : List Event)
     → AllCome earliest set changes events → All (λ c. IfSome c (λ (c : Change). HasKey names c.what)) changes → All (λ (e : Event). IsTrue (has_key names e.body)) events
@@ -205,6 +213,7 @@ asked_grows names (Unsets_node id key) f = added_grows names key (key_is_name ke
 asked_grows names (Sets_edge id key value) f =
     grows_both names (added names key) (added (added names key) value) (added_grows names key (key_is_name key f.1)) (added_grows (added names key) value f.2)
 asked_grows names (Unsets_edge id key) f = added_grows names key (key_is_name key f.1)
+asked_grows names (Sends src dst value) f = absurd f
 
 pub lines_grow : (names : List (List ℕ)) (lines : List (Option ChangeByText)) → All (λ s. IfSome s SaidFits) lines → Grows names (names_after names lines)
 lines_grow names [] f = grows_none names
@@ -214,11 +223,12 @@ lines_grow names (Some s ∷ lines) f =
     (asked_grows names s.asked (All-head (λ s. IfSome s SaidFits) (Some s) lines f).1)
     (lines_grow (named names s.asked) lines (All-tail (λ s. IfSome s SaidFits) (Some s) lines f))
 
--- the ids, the numbers of names and the key of a change are in their ranges, in this list of names
+-- the ids, the numbers of names and the key of a change are in their ranges, in this list of names, and it sends no message
 pub record ChangeFits (names : List (List ℕ)) (c : Change) : Type 0 where
   pub time : c.time ≤ TIME_MAX
   pub numbers : WhatFits (λ n. n < 2 ^ 64) (length names) c.what
   pub key : HasKey names c.what
+  pub silent : sends c.what ≡ false
 
 plain_fits : (n : ℕ) (w : What) → PlainFits w → WhatFits (λ n. n < 2 ^ 64) n w
 plain_fits n (what.AddNode id) f = f
@@ -229,6 +239,7 @@ plain_fits n (what.SetNode id key value) f = absurd f
 plain_fits n (what.UnsetNode id key) f = absurd f
 plain_fits n (what.SetEdge id key value) f = absurd f
 plain_fits n (what.UnsetEdge id key) f = absurd f
+plain_fits n (what.Message src dst value) f = absurd f
 
 plain_key : (names : List (List ℕ)) (w : What) → PlainFits w → HasKey names w
 plain_key names (what.AddNode id) f = tt
@@ -239,6 +250,18 @@ plain_key names (what.SetNode id key value) f = absurd f
 plain_key names (what.UnsetNode id key) f = absurd f
 plain_key names (what.SetEdge id key value) f = absurd f
 plain_key names (what.UnsetEdge id key) f = absurd f
+plain_key names (what.Message src dst value) f = absurd f
+
+plain_silent : (w : What) → PlainFits w → sends w ≡ false
+plain_silent (what.AddNode id) f = refl
+plain_silent (what.RemoveNode id) f = refl
+plain_silent (what.AddEdge id src dst directed) f = refl
+plain_silent (what.RemoveEdge id) f = refl
+plain_silent (what.SetNode id key value) f = absurd f
+plain_silent (what.UnsetNode id key) f = absurd f
+plain_silent (what.SetEdge id key value) f = absurd f
+plain_silent (what.UnsetEdge id key) f = absurd f
+plain_silent (what.Message src dst value) f = absurd f
 
 -- the key and the value that were added
 key_there : (names : List (List ℕ)) (key value : List ℕ) → is_name value ≡ true → Has (added (added names key) value) key
@@ -255,6 +278,7 @@ asked_numbers names new (Sets_edge id key value) f g =
     let all = added (added names key) value in
     (f.0, number_within all new key g (key_there names key value f.2), number_within all new value g (added_has (added names key) value))
 asked_numbers names new (Unsets_edge id key) f g = (f.0, number_within (added names key) new key g (added_has names key))
+asked_numbers names new (Sends src dst value) f g = absurd f
 
 asked_key : (names new : List (List ℕ)) (asked : WhatByText) → AskedFits asked → Grows (named names asked) new → HasKey new (what_in (named names asked) asked)
 asked_key names new (Plain w) f g = plain_key new w f
@@ -264,6 +288,15 @@ asked_key names new (Unsets_node id key) f g = ap is_key (text_is (added names k
 asked_key names new (Sets_edge id key value) f g =
     ap is_key (text_is (added (added names key) value) new key g (key_there names key value f.2)) ∙ f.1
 asked_key names new (Unsets_edge id key) f g = ap is_key (text_is (added names key) new key g (added_has names key)) ∙ f.1
+asked_key names new (Sends src dst value) f g = absurd f
+
+asked_silent : (names : List (List ℕ)) (asked : WhatByText) → AskedFits asked → sends (what_in names asked) ≡ false
+asked_silent names (Plain w) f = plain_silent w f
+asked_silent names (Sets_node id key value) f = refl
+asked_silent names (Unsets_node id key) f = refl
+asked_silent names (Sets_edge id key value) f = refl
+asked_silent names (Unsets_edge id key) f = refl
+asked_silent names (Sends src dst value) f = absurd f
 
 pub changes_fit : (names new : List (List ℕ)) (lines : List (Option ChangeByText)) → All (λ s. IfSome s SaidFits) lines → Grows (names_after names lines) new
     → All (λ c. IfSome c (ChangeFits new)) (changes_after names lines)
@@ -276,7 +309,7 @@ changes_fit names new (Some s ∷ lines) f g =
     let grown : Grows (named names s.asked) new =
     grows_both (named names s.asked) (names_after (named names s.asked) lines) new (lines_grow (named names s.asked) lines more) g in
     All-cons (λ c. IfSome c (ChangeFits new)) (Some (change_with names s)) (changes_after (named names s.asked) lines)
-    (record { time = said.0; numbers = asked_numbers names new s.asked said.1 grown; key = asked_key names new s.asked said.1 grown })
+    (record { time = said.0; numbers = asked_numbers names new s.asked said.1 grown; key = asked_key names new s.asked said.1 grown; silent = asked_silent (named names s.asked) s.asked said.1 })
     (changes_fit (named names s.asked) new lines more g)
 
 -- ---- the ranges that are asked for elsewhere
@@ -288,6 +321,7 @@ legal_body n (body.EdgeAdded id src dst directed) h = h
 legal_body n (body.EdgeRemoved id src dst directed) h = h
 legal_body n (body.NodeAttr id key old new) h = h
 legal_body n (body.EdgeAttr id key old new) h = h
+legal_body n (body.Message src dst value) h = h
 
 pub from_legal : (n : ℕ) (b : Body) → FitsBody n b → BodyFits (λ n. n < 2 ^ 64) n b
 from_legal n (body.NodeAdded id) h = h
@@ -296,6 +330,7 @@ from_legal n (body.EdgeAdded id src dst directed) h = h
 from_legal n (body.EdgeRemoved id src dst directed) h = h
 from_legal n (body.NodeAttr id key old new) h = h
 from_legal n (body.EdgeAttr id key old new) h = h
+from_legal n (body.Message src dst value) h = h
 
 pub what_named : (n : ℕ) (w : What) → WhatFits (λ n. n < 2 ^ 64) n w → WhatHasNamesThere n w
 what_named n (what.AddNode id) h = tt
@@ -306,6 +341,7 @@ what_named n (what.SetNode id key value) h = (h.1, h.2)
 what_named n (what.UnsetNode id key) h = h.1
 what_named n (what.SetEdge id key value) h = (h.1, h.2)
 what_named n (what.UnsetEdge id key) h = h.1
+what_named n (what.Message src dst value) h = h.2
 
 -- with more names they fit too
 some_more : (n m : ℕ) (o : Option ℕ) → n ≤ m → IfSome o (λ v. v < n) → IfSome o (λ v. v < m)
@@ -319,6 +355,7 @@ body_more n m (body.EdgeAdded id src dst directed) le h = h
 body_more n m (body.EdgeRemoved id src dst directed) le h = h
 body_more n m (body.NodeAttr id key old new) le h = (h.0, omega (arith, le, h.1), some_more n m old le h.2, some_more n m new le h.3)
 body_more n m (body.EdgeAttr id key old new) le h = (h.0, omega (arith, le, h.1), some_more n m old le h.2, some_more n m new le h.3)
+body_more n m (body.Message src dst value) le h = (h.0, h.1, omega (arith, le, h.2))
 
 -- and the keys of old names stay
 key_more : (names more : List (List ℕ)) (key : ℕ) → key < length names → IsTrue (is_key (name_text names key)) → IsTrue (is_key (name_text (names ++ more) key))
@@ -331,3 +368,4 @@ has_key_more names more (body.EdgeAdded id src dst directed) f h = h
 has_key_more names more (body.EdgeRemoved id src dst directed) f h = h
 has_key_more names more (body.NodeAttr id key old new) f h = key_more names more key f.1 h
 has_key_more names more (body.EdgeAttr id key old new) f h = key_more names more key f.1 h
+has_key_more names more (body.Message src dst value) f h = h

@@ -10,13 +10,13 @@ use Rattle.dg_text.specs.Words.{words}
 use Rattle.dg_changes.specs.ChangeGrammar.{id_of, time_of}
 use Rattle.dg_machine.specs.declared.command.Command.{Command}
 use Rattle.dg_machine.specs.declared.command.Command.TheVariants as command
-use Rattle.dg_machine.specs.CommandGrammar.{BeginsCommand, IsColumn, columns_of, command_verbs, count_from_0, count_of, function_of, handle_of, held_node_verbs, n32_of, sweep_of}
+use Rattle.dg_machine.specs.CommandGrammar.{BeginsCommand, IsColumn, columns_of, command_verbs, count_from_0, count_of, function_of, handle_of, held_node_verbs, n32_of, skewed_of, sweep_of}
 use Rattle.dg_line.specs.Prefixes.{IsLongestPrefix, IsPrefixOfOne}
 use Rattle.dg_line.specs.Symbols.{Terminal, One_of, Number, IsLineOfOne}
 use Rattle.dg_line.proofs.WordNumbers.{number_within}
 use Rattle.dg_line.proofs.CommandGrammarInstants.{several_row, zero_text, zero_words}
 use Rattle.dg_line.proofs.Symbols.{lines_short}
-use Rattle.dg_line.proofs.Verbs.{AreWordsOf, ReadsWord, ReadsEither, Rows, number_word, more_texts, no_text, no_words, one_row, two_row, three_row, text_or, either_rows, row, filled_row, zeros, table, ◌▸◌}
+use Rattle.dg_line.proofs.Verbs.{AreWordsOf, ReadsWord, ReadsEither, Rows, number_word, more_texts, no_text, no_words, one_row, two_row, three_row, four_row, text_or, either_rows, or_rows, row, filled_row, zeros, table, ◌▸◌}
 
 pub n32 : ReadsWord n32_of (Number 0 4294967295)
 n32 = number_word 0 4294967295
@@ -42,6 +42,9 @@ sweep = text_or (codes "all") command.CleanAll (λ n. command.Clean n) (number_w
 pub function : ReadsWord function_of (One_of (codes "intersection" ∷ codes "union" ∷ codes "balanced" ∷ []))
 function = more_texts _ _ _ _ (more_texts _ _ _ _ (more_texts _ _ _ _ no_text))
 
+pub skewed : ReadsWord skewed_of (One_of (codes "skewed" ∷ []))
+skewed = more_texts _ _ _ _ no_text
+
 pub columns : ReadsWord columns_of (One_of (codes "s" ∷ codes "sn" ∷ codes "se" ∷ codes "sne" ∷ []))
 columns = more_texts _ _ _ _ (more_texts _ _ _ _ (more_texts _ _ _ _ (more_texts _ _ _ _ no_text)))
 
@@ -55,7 +58,7 @@ held_nodes = table held_node_verbs each_held refl
 -- what each command takes, in the order of the table
 abbrev pub each_command : AllByRecursion (λ (v : Verb Command). Rows v.read) command_verbs
 each_command =
-    row (three_row n32 n32 function _)
+    or_rows (row (three_row n32 n32 function _)) (row (four_row n32 n32 skewed n32 _))
     ▸ row (one_row count _)
     ▸ row (one_row count _)
     ▸ row (two_row time columns _)
@@ -70,6 +73,7 @@ each_command =
     ▸ row (no_words _)
     ▸ row (two_row time columns _)
     ▸ row (three_row time columns from_0 _)
+    ▸ row (no_words _)
     ▸ row (no_words _)
     ▸ row (no_words _)
     ▸ row (two_row id count _)

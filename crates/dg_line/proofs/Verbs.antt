@@ -1,15 +1,16 @@
 -- Tables of verbs read the lines of some rows of symbols.
 --     number_terminal, more_texts, no_texts      what a reader of a word takes
---     one_row, two_row, three_row, no_words      what a reader of some words takes
+--     one_row, two_row, three_row, four_row, no_words      what a reader of some words takes
 --     text_or, either_rows      what a reader takes that has a row of its own for one text of its word
+--     or_rows      what one reader takes, or another where the first takes nothing
 --     table_rows      what a table of verbs takes
 use Rattle.std.proofs.Common.{◌≡◌, ℕ, ◌⊎◌, inl, inr, IsTrue, Bool, true, false, cond, not, ◌&&◌, is_some, Option, Some, None, List, [], ◌∷◌, ◌++◌, map, codes, replicate, option_and_then, refl, sym, subst}
 use Rattle.std.specs.List.{AllZip, AllByRecursion, Any, Contains, list_any}
-use Rattle.std.specs.Option.{option_map}
+use Rattle.std.specs.Option.{option_map, option_or}
 use Rattle.std.proofs.lemmas.Bool.{false≢true, and_parts, or_left, or_right}
 use Rattle.std.proofs.lemmas.List.{append-nil}
 use Rattle.std.proofs.lemmas.Slice.Eq.{bytes_eq-Decides}
-use Rattle.dg_text.specs.Verbs.{Verb, is_word, look_up, read_by, none_more, one, two_words, three}
+use Rattle.dg_text.specs.Verbs.{Verb, is_word, look_up, read_by, none_more, one, two_words, three, four_words}
 use Rattle.dg_text.specs.Words.{number}
 use Rattle.dg_line.specs.Symbols.{Terminal, One_of, Number, IsWordOf}
 use Rattle.dg_line.proofs.ListElements.{any_first, any_none, any_cases, any_left, any_right, any_either, any_mapped, any_unmapped, any_weaker, contains_first, contains_later, contains_none, contains_cases}
@@ -112,6 +113,12 @@ pub three_row : {A B C D : Type 0} {a : List ℕ → Option A} {b : List ℕ →
     → ReadsWord a t → ReadsWord b u → ReadsWord c v → (make : A → B → C → D) → ReadsRow (three a b c make) (t ∷ u ∷ v ∷ [])
 three_row {a = a} {b = b} {c = c} {t = t} {u = u} {v = v} r s q make =
     after_word a t (λ x ws. two_words b c (make x) ws) (u ∷ v ∷ []) (three a b c make) refl (λ w ws. refl) r (λ x. two_row s q (make x))
+
+pub four_row : {A B C D E : Type 0} {a : List ℕ → Option A} {b : List ℕ → Option B} {c : List ℕ → Option C} {d : List ℕ → Option D}
+    {t u v q : Terminal} → ReadsWord a t → ReadsWord b u → ReadsWord c v → ReadsWord d q → (make : A → B → C → D → E)
+    → ReadsRow (four_words a b c d make) (t ∷ u ∷ v ∷ q ∷ [])
+four_row {a = a} {b = b} {c = c} {d = d} {t = t} {u = u} {v = v} {q = q} r s m n make =
+    after_word a t (λ x ws. three b c d (make x) ws) (u ∷ v ∷ q ∷ []) (four_words a b c d make) refl (λ w ws. refl) r (λ x. three_row s m n (make x))
 
 -- ---- a table of verbs
 
@@ -233,6 +240,36 @@ either_gives {A} {B} {a} {t} {u} r make ws h = elim (any_cases (AreWordsOf ws) (
 -- one word, which has a row for each of its two symbols
 abbrev pub either_rows : {A B : Type 0} {a : List ℕ → Option A} {t u : Terminal} → ReadsEither a t u → (make : A → B) → Rows (one a make)
 either_rows {t = t} {u = u} r make = record { rows = each_alone t u; takes = either_takes r make; gives = either_gives r make }
+
+-- one reader, and another where the first takes nothing
+pub or_takes : {A : Type 0} {a b : List (List ℕ) → Option A} (r : Rows a) (s : Rows b) (ws : List (List ℕ)) → Is (option_or (a ws) (b ws))
+    → (n : ℕ) × Any (AreWordsOf (ws ++ zeros n)) (r.rows ++ s.rows)
+or_takes {A} {a} {b} r s ws h = by_first (a ws) refl h
+  where
+    by_first : (o : Option A) → a ws ≡ o → Is (option_or o (b ws)) → (n : ℕ) × Any (AreWordsOf (ws ++ zeros n)) (r.rows ++ s.rows)
+    by_first None e h = let found = s.takes ws h in (found.0, any_right (AreWordsOf (ws ++ zeros found.0)) r.rows s.rows found.1)
+    by_first (Some x) e h =
+        let found = r.takes ws (subst (λ (o : Option A). Is o) (sym e) refl) in
+        (found.0, any_left (AreWordsOf (ws ++ zeros found.0)) r.rows s.rows found.1)
+
+pub or_gives : {A : Type 0} {a b : List (List ℕ) → Option A} (r : Rows a) (s : Rows b) (ws : List (List ℕ)) → Any (AreWordsOf ws) (r.rows ++ s.rows)
+    → Is (option_or (a ws) (b ws))
+or_gives {A} {a} {b} r s ws h = elim (any_either (AreWordsOf ws) r.rows s.rows h) [
+  | inl first ↦ by_first (a ws) (r.gives ws first)
+  | inr later ↦ by_second (a ws) (s.gives ws later)
+]
+  where
+    by_first : (o : Option A) → Is o → Is (option_or o (b ws))
+    by_first None g = absurd (false≢true g)
+    by_first (Some x) g = refl
+
+    by_second : (o : Option A) → Is (b ws) → Is (option_or o (b ws))
+    by_second None g = g
+    by_second (Some x) g = refl
+
+-- the rows of both readers
+abbrev pub or_rows : {A : Type 0} {a b : List (List ℕ) → Option A} → Rows a → Rows b → Rows (λ ws. option_or (a ws) (b ws))
+or_rows r s = record { rows = r.rows ++ s.rows; takes = or_takes r s; gives = or_gives r s }
 
 infixr 60 ◌▸◌
 -- the rows of a verb, and those of the verbs after it in the table

@@ -1,7 +1,7 @@
 -- The changes that the lines of a batch ask for, by their texts.
 use Rattle.std.specs.Prelude.{ℕ, List}
 use Rattle.dg_text.specs.Names.{added}
-use Rattle.dg_changes.specs.ChangeGrammar.{WhatByText, Plain, Sets_node, Unsets_node, Sets_edge, Unsets_edge, ChangeByText}
+use Rattle.dg_changes.specs.ChangeGrammar.{WhatByText, Plain, Sets_node, Unsets_node, Sets_edge, Unsets_edge, Sends, ChangeByText}
 use Rattle.dg_line.specs.declared.text_change.TextWhat.{TextWhat}
 use Rattle.dg_line.specs.declared.text_change.TextWhat.TheVariants as what
 use Rattle.dg_line.specs.declared.text_change.TextChange.{TextChange}
@@ -25,3 +25,4 @@ with_key names (Sets_node id key value) = added names key
 with_key names (Unsets_node id key) = added names key
 with_key names (Sets_edge id key value) = added names key
 with_key names (Unsets_edge id key) = added names key
+with_key names (Sends src dst value) = names

@@ -70,7 +70,20 @@ fn hold_element(buffer: &mut ReplyBuffer, names: &Names, element: &Element)
             buffer.hold(b" ");
             hold_names(buffer, names, key, value);
         }
+        Element::Message { src, dst, value } => hold_message(buffer, names, src, dst, value),
     }
+}
+
+// The line of a message.
+fn hold_message(buffer: &mut ReplyBuffer, names: &Names, src: u64, dst: u64, value: u32)
+    requires { HasBufferRoom buffer.old BODY_LINE_BYTES }
+    ensures { buffer.new ≡ buffer.old ++ text_line (codes "msg" ∷ decimal src ∷ decimal dst ∷ name_text names.now value ∷ []) }
+{
+    buffer.hold_with(b"msg ", src);
+    buffer.hold_with(b" ", dst);
+    buffer.hold(b" ");
+    buffer.hold(text_of(names, value));
+    buffer.hold(b"\n");
 }
 
 // The line of an edge.

@@ -2,10 +2,10 @@
 ghost use Rattle.std.specs.Prelude.{drop, ◌≡◌, ◌+◌, ◌<◌, ◌≤◌, ◌∷◌, IfErr, IfOk, IfSome, List, option_and_then, ℕ};
 ghost use Rattle.std.specs.Result.{result_ok};
 ghost use Rattle.dg_text.specs.Words.{number};
-ghost use Rattle.std.specs.Option.{option_map};
+ghost use Rattle.std.specs.Option.{option_map, option_or};
 ghost use Rattle.dg_text.specs.Verbs.{look_up, none_more, one, read_by, two_words, three};
 ghost use Rattle.dg_changes.specs.ChangeGrammar.{id_of, time_of};
-ghost use Rattle.dg_machine.specs.CommandGrammar.{command_verbs, IsColumn, CountIsInRange, columns_of, command_of, count_from_0, count_of, function_of, handle_of, held_node_verbs, n32_of, several_of, several_with, sweep_of, times_of};
+ghost use Rattle.dg_machine.specs.CommandGrammar.{command_verbs, IsColumn, CountIsInRange, columns_of, command_of, count_from_0, count_of, create_of, function_of, handle_of, held_node_verbs, n32_of, several_of, several_with, skewed_of, sweep_of, times_of};
 
 use crate::grammar::{
     CELLS, COLUMNS, COUNT, COUNT_FROM_0, FUNCTION, HANDLE, ID, N32, Symbol, TIME, longest_prefix,
@@ -19,10 +19,17 @@ use thiserror::Error;
 /// The word `several`, whose row has many symbols.
 const SEVERAL: Symbol = Symbol::OneOf(&[b"several"]);
 
-/// The commands as rows of symbols: one for each, and two for `materialise` and for `clean`. One space parts two
-/// words. A command of fewer instants than `TIMES_MAX` is a prefix of one of so many.
+/// The commands as rows of symbols: one for each, and two for `create`, for `materialise` and for `clean`. One space
+/// parts two words. A command of fewer instants than `TIMES_MAX` is a prefix of one of so many.
 const COMMANDS: &[&[Symbol]] = &[
     &[Symbol::OneOf(&[b"create"]), N32, N32, FUNCTION],
+    &[
+        Symbol::OneOf(&[b"create"]),
+        N32,
+        N32,
+        Symbol::OneOf(&[b"skewed"]),
+        N32,
+    ],
     &[Symbol::OneOf(&[b"load"]), COUNT],
     &[Symbol::OneOf(&[b"append"]), COUNT],
     &[Symbol::OneOf(&[b"at"]), TIME, COLUMNS],
@@ -55,6 +62,7 @@ const COMMANDS: &[&[Symbol]] = &[
     &[Symbol::OneOf(&[b"plan"]), TIME, COLUMNS],
     &[Symbol::OneOf(&[b"certify"]), TIME, COLUMNS, COUNT_FROM_0],
     &[Symbol::OneOf(&[b"verify"])],
+    &[Symbol::OneOf(&[b"upgrade"])],
     &[Symbol::OneOf(&[b"tree"])],
     &[Symbol::OneOf(&[b"workload"]), ID, COUNT],
 ];
@@ -69,6 +77,7 @@ const N32_MAX: u64 = u32::MAX as u64;
 const STRUCTURE: Columns = Columns {
     nodes_attr: false,
     edges_attr: false,
+    transient: false,
 };
 
 /// The line is in no command; the column, from 1, at which it leaves the grammar.
@@ -166,6 +175,8 @@ fn index_command(verb: &[u8], words: Words) -> Option<Command>
         certify(words)
     } else if is(verb, b"verify") {
         verify(words)
+    } else if is(verb, b"upgrade") {
+        upgrade(words)
     } else if is(verb, b"tree") {
         tree(words)
     } else if is(verb, b"workload") {
@@ -175,16 +186,37 @@ fn index_command(verb: &[u8], words: Words) -> Option<Command>
     }
 }
 
-// `create N32 N32 FUNCTION`, from the words after `create`.
+// `create N32 N32 FUNCTION` or `create N32 N32 skewed N32`, from the words after `create`.
 fn create(mut words: Words) -> Option<Command>
-    ensures command { result ≡ three n32_of n32_of function_of (λ l k function. Command.Create l k function) words.entry }
+    ensures command { result ≡ create_of words.entry }
     ensures range { IfSome result (λ c. CountIsInRange c) }
 {
     let l = found!(n32(found!(words.next())));
     let k = found!(n32(found!(words.next())));
-    let function = found!(function(found!(words.next())));
+    create_with(l, k, words)
+}
+
+// `create` with this leaf list size and this arity, from the words of the differential function.
+fn create_with(l: u32, k: u32, mut words: Words) -> Option<Command>
+    ensures command { result ≡ option_or (one function_of (λ function. Command.Create l k function) words.entry) (two_words skewed_of n32_of (λ skewed r. Command.CreateSkewed l k r) words.entry) }
+    ensures range { IfSome result (λ c. CountIsInRange c) }
+{
+    let name = found!(words.next());
+    if is(name, b"skewed") {
+        return create_skewed(l, k, words);
+    }
+    let function = found!(function(name));
     found!(words.end());
     Some(Command::Create { l, k, function })
+}
+
+// `create` with a skewed function, from the words after `skewed`: its share.
+fn create_skewed(l: u32, k: u32, words: Words) -> Option<Command>
+    ensures command { result ≡ one n32_of (λ r. Command.CreateSkewed l k r) words.entry }
+    ensures range { IfSome result (λ c. CountIsInRange c) }
+{
+    let r = found!(one_number(words, 0, u32::MAX));
+    Some(Command::CreateSkewed { l, k, r })
 }
 
 // `load COUNT`, from the words after `load`.
@@ -393,6 +425,15 @@ fn verify(words: Words) -> Option<Command>
     Some(Command::Verify)
 }
 
+// `upgrade`, from the words after it, of which there may be none.
+fn upgrade(words: Words) -> Option<Command>
+    ensures command { result ≡ none_more Command.Upgrade words.entry }
+    ensures range { IfSome result (λ c. CountIsInRange c) }
+{
+    found!(words.end());
+    Some(Command::Upgrade)
+}
+
 // `tree`, from the words after it, of which there may be none.
 fn tree(words: Words) -> Option<Command>
     ensures command { result ≡ none_more Command.Tree words.entry }
@@ -510,6 +551,7 @@ fn columns(word: &[u8]) -> Option<Columns>
         Some(Columns {
             nodes_attr: true,
             edges_attr: true,
+            ..STRUCTURE
         })
     } else {
         None

@@ -1,6 +1,6 @@
 //! The text of a reply, line by line, into a sink.
 ghost use Rattle.std.specs.Prelude.{◌≡◌, ◌≤◌, ◌++◌, [], ◌∷◌, map, take, codes, decimal, OnOk, OnErr};
-ghost use Rattle.dg_machine.specs.ReplyText.{text, body_text, column_word, head_words, function_word, key_words, refusal_words, soundness_words, verdict_words};
+ghost use Rattle.dg_machine.specs.ReplyText.{text, body_text, column_word, head_words, function_words, key_words, refusal_words, soundness_words, verdict_words};
 ghost use Rattle.dg_io.specs.Calls.{FailsToPut, PutsOn, PutsPart};
 ghost use Rattle.dg_io.specs.Told.{grown};
 ghost use Rattle.dg_line.specs.Buffered.{IsBuffered, word_bytes};
@@ -64,6 +64,7 @@ fn head_line(head: &Head) -> ReplyLine<'static>
 {
     match *head {
         Head::Created => ReplyLine::of(&[OK, Word::Text(b"create")]),
+        Head::Upgraded => ReplyLine::of(&[OK, Word::Text(b"upgrade")]),
         Head::Loaded {
             events,
             total,
@@ -273,7 +274,37 @@ fn tree_line(
     leaves: u32,
     records: u64,
 ) -> ReplyLine<'static>
-    ensures words { map word_bytes (take result.len result.words) ≡ codes "ok" ∷ codes "tree" ∷ decimal l ∷ decimal k ∷ function_word function ∷ decimal events ∷ decimal leaves ∷ decimal records ∷ [] }
+    ensures words { map word_bytes (take result.len result.words) ≡ codes "ok" ∷ codes "tree" ∷ decimal l ∷ decimal k ∷ (function_words function ++ decimal events ∷ decimal leaves ∷ decimal records ∷ []) }
+    ensures len { result.len ≤ WORDS_MAX }
+{
+    match function {
+        Function::Intersection => plain_tree_line(l, k, b"intersection", events, leaves, records),
+        Function::Union => plain_tree_line(l, k, b"union", events, leaves, records),
+        Function::Balanced => plain_tree_line(l, k, b"balanced", events, leaves, records),
+        Function::Skewed(share) => ReplyLine::of(&[
+            OK,
+            Word::Text(b"tree"),
+            Word::Number(u64::from(l)),
+            Word::Number(u64::from(k)),
+            Word::Text(b"skewed"),
+            Word::Number(u64::from(share)),
+            Word::Number(events),
+            Word::Number(u64::from(leaves)),
+            Word::Number(records),
+        ]),
+    }
+}
+
+// The head line of the parameters of an index whose differential function has one word.
+fn plain_tree_line(
+    l: u32,
+    k: u32,
+    function: &'static [u8],
+    events: u64,
+    leaves: u32,
+    records: u64,
+) -> ReplyLine<'static>
+    ensures words { map word_bytes (take result.len result.words) ≡ codes "ok" ∷ codes "tree" ∷ decimal l ∷ decimal k ∷ function.now ∷ decimal events ∷ decimal leaves ∷ decimal records ∷ [] }
     ensures len { result.len ≤ WORDS_MAX }
 {
     ReplyLine::of(&[
@@ -281,22 +312,11 @@ fn tree_line(
         Word::Text(b"tree"),
         Word::Number(u64::from(l)),
         Word::Number(u64::from(k)),
-        Word::Text(function_name(function)),
+        Word::Text(function),
         Word::Number(events),
         Word::Number(u64::from(leaves)),
         Word::Number(records),
     ])
-}
-
-// The name of a differential function.
-fn function_name(function: Function) -> &'static [u8]
-    ensures { result.now ≡ function_word function }
-{
-    match function {
-        Function::Intersection => b"intersection".as_slice(),
-        Function::Union => b"union".as_slice(),
-        Function::Balanced => b"balanced".as_slice(),
-    }
 }
 
 fn refusal_line(refusal: Refusal) -> ReplyLine<'static>
@@ -341,6 +361,7 @@ fn refusal_line(refusal: Refusal) -> ReplyLine<'static>
         Refusal::LineLong => refused(b"18", b"line-long"),
         Refusal::HandlesSpent => refused(b"19", b"handles-spent"),
         Refusal::AlreadyLoaded => refused(b"20", b"already-loaded"),
+        Refusal::NewFormat => refused(b"21", b"new-format"),
     }
 }
 
@@ -421,5 +442,6 @@ fn column_letter(column: Column) -> &'static [u8]
         Column::Structure => b"s".as_slice(),
         Column::NodeAttr => b"n".as_slice(),
         Column::EdgeAttr => b"e".as_slice(),
+        Column::Transient => b"t".as_slice(),
     }
 }

@@ -9,7 +9,7 @@ use crate::reply_buffer::Word;
 use dg_history::{Key, NodeId};
 
 /// The most words that a line of a reply has.
-pub(crate) const WORDS_MAX: usize = 8;
+pub(crate) const WORDS_MAX: usize = 9;
 
 /// What stands behind the last word of a line.
 const NO_WORD: Word<'static> = Word::Text(b"");

@@ -1,12 +1,14 @@
 -- Worked examples, computed by the definitions: each script with the text that is due.
-use Rattle.std.specs.Prelude.{◌≡◌, ℕ, List, [], ◌∷◌, ◌++◌, Option, Some, None, codes, map, refl}
+use Rattle.std.specs.Prelude.{◌≡◌, ℕ, true, List, [], ◌∷◌, ◌++◌, Option, Some, None, codes, map, refl}
 use Rattle.std.specs.Fmt.{digits}
 use Rattle.dg_graph.specs.declared.function.Function.TheVariants.{Intersection}
 use Rattle.dg_text.specs.Lines.{lines_of}
 use Rattle.dg_machine.specs.declared.reply.Refusal.TheVariants as refusal
 use Rattle.dg_machine.specs.Answer.{Answered, answer, refuse}
 use Rattle.dg_changes.specs.ChangeGrammar.{ChangeByText, change_by_text_in}
+use Rattle.dg_history.specs.declared.form.Form.TheVariants as form
 use Rattle.dg_history.specs.History.{History, empty_history}
+use Rattle.dg_graph.specs.declared.event.Body.TheVariants as body
 use Rattle.dg_changes.specs.GeneratedChanges.{generated, next_number}
 use Rattle.dg_machine.specs.MachineState.{MachineState, machine_at, names_in}
 use Rattle.dg_history.specs.declared.node.NodeId.{NodeId}
@@ -49,7 +51,7 @@ due_in room index plans bytes = due_from 1 room index plans bytes
 
 -- what the script is due from an empty history
 due : List Planned → List ℕ → List ℕ
-due plans bytes = due_in 281474976710656 (Some (empty_history (record { l = 2; k = 2; function = Intersection }))) plans bytes
+due plans bytes = due_in 281474976710656 (Some (empty_history form.Two (record { l = 2; k = 2; function = Intersection }))) plans bytes
 
 -- what the script is due where there is no index
 due_of_none : List Planned → List ℕ → List ℕ
@@ -105,8 +107,8 @@ without_index : due_of_none [] (codes "at 5 s\nseveral s 5\nload 2\n10 +node 1\n
 unfolding digits due_from due_of_none due_in output answered
 without_index = refl
 
-file_full : due_in 216 None [] (codes "create 2 2 intersection\nload 3\n10 +node 1\n20 +node 2\n30 +edge 5 1 2 dir\nat 30 s\n")
-    ≡ codes "ok create\nend\nrefused 13 file-full 217 216\nend\nrefused 7 out-of-range empty\nend\n"
+file_full : due_in 232 None [] (codes "create 2 2 intersection\nload 3\n10 +node 1\n20 +node 2\n30 +edge 5 1 2 dir\nat 30 s\n")
+    ≡ codes "ok create\nend\nrefused 13 file-full 233 232\nend\nrefused 7 out-of-range empty\nend\n"
 unfolding digits due_from due_in output answered
 file_full = refl
 
@@ -318,3 +320,43 @@ refused_workloads = refl
 verified : over_five [] (codes "verify\n") ≡ made_five ++ codes "ok verify sound 5\nend\n"
 unfolding digits due_from over_five due_of_none five made_five due_in output answered
 verified = refl
+
+-- ---- forms and skewed functions
+
+skewed_parameters : due_of_none [] (codes "create 2 2 skewed 300\ncreate 2 2 skewed\n") ≡ codes "refused 4 parameters\nend\nrefused 1 syntax 1\nend\n"
+unfolding digits due_from due_of_none due_in output answered
+skewed_parameters = refl
+
+skewed_records : due_of_none [] (codes "create 2 2 skewed 256\nload 5\n10 +node 1\n20 +node 2\n30 +edge 5 1 2 dir\n40 nset 1 name A\n50 -edge 5\ntree\n")
+    ≡ codes "ok create\nend\nok load 5 5 50\nend\nok tree 2 2 skewed 256 5 2 5\nrecord list 0 42 0 0\nrecord list 1 40 34 0\nrecord top 1 52 24 0\nrecord down 1 1 34 24 0\nrecord down 1 2 0 0 0\nend\n"
+unfolding digits due_from due_of_none due_in output answered
+skewed_records = refl
+
+form_two_full : due_in 550 None [] (five ++ codes "append 1\n60 +node 9\n") ≡ made_five ++ codes "refused 13 file-full 736 550\nend\n"
+unfolding digits due_from five made_five due_in output answered
+form_two_full = refl
+
+-- the five changes in a file of the first form
+first_form : Option History
+first_form = Some (record {
+  params = record { l = 2; k = 2; function = Intersection };
+  form = form.One;
+  batches = record {
+    names = codes "name" ∷ codes "A" ∷ [];
+    events =
+        record { time = 10; body = body.NodeAdded 1 }
+        ∷ record { time = 20; body = body.NodeAdded 2 }
+        ∷ record { time = 30; body = body.EdgeAdded 5 1 2 true }
+        ∷ record { time = 40; body = body.NodeAttr 1 0 None (Some 1) }
+        ∷ record { time = 50; body = body.EdgeRemoved 5 1 2 true } ∷ [];
+  } ∷ [];
+})
+
+upgraded : due_in 713 first_form [] (codes "upgrade\nupgrade\nappend 1\n60 +node 9\n")
+    ≡ codes "ok upgrade\nend\nrefused 21 new-format\nend\nok append 1 6 60\nend\n"
+unfolding digits due_from due_in output answered first_form
+upgraded = refl
+
+no_room_for_marker : due_in 520 first_form [] (codes "upgrade\n") ≡ codes "refused 13 file-full 521 520\nend\n"
+unfolding digits due_from due_in output answered first_form
+no_room_for_marker = refl

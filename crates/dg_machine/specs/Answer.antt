@@ -11,7 +11,9 @@ use Rattle.dg_text.specs.Lines.{ScriptLine}
 use Rattle.dg_graph.specs.Replay.{replay}
 use Rattle.dg_changes.specs.Batch.{batch_of}
 use Rattle.dg_index.specs.FileOfHistory.{size}
-use Rattle.dg_history.specs.History.{History, Batch, empty_history, with_batch, events_of, last_time_from}
+use Rattle.dg_history.specs.declared.form.Form.TheVariants as form
+use Rattle.dg_graph.specs.declared.function.Function.TheVariants.{Skewed}
+use Rattle.dg_history.specs.History.{History, Batch, empty_history, with_batch, with_upgrade, events_of, last_time_from}
 use Rattle.dg_machine.specs.declared.command.Command.{Command}
 use Rattle.dg_machine.specs.declared.command.Command.TheVariants as command
 use Rattle.dg_machine.specs.declared.command.Query.{Query}
@@ -202,14 +204,25 @@ tree_reply z = record {
 abbrev pub verify_reply : History → Reply
 verify_reply z = headed (head.Verified (Sound (record_total z.params (length (events_of z)))))
 
+-- the file goes on in its second form, where it has room for the marker
+abbrev pub upgrading : MachineState → History → Answered
+upgrading m z =
+    if nat_lt m.limits.file_bytes (size (with_upgrade z)) then refuse m (refusal.FileFull (size (with_upgrade z)) m.limits.file_bytes)
+    else record { reply = headed head.Upgraded; state = record m { index = Some (with_upgrade z) } }
+
 -- ---- the answer
 
 -- the answer to a command that is not refused by what it needs, with what is planned for it
 abbrev pub accepted : MachineState → Command → List ScriptLine → Planned → Answered
 accepted m (command.Create l k function) lines p = record {
   reply = headed head.Created;
-  state = record m { index = Some (empty_history (record { l = l; k = k; function = function })) };
+  state = record m { index = Some (empty_history form.Two (record { l = l; k = k; function = function })) };
 }
+accepted m (command.CreateSkewed l k r) lines p = record {
+  reply = headed head.Created;
+  state = record m { index = Some (empty_history form.Two (record { l = l; k = k; function = Skewed r })) };
+}
+accepted m command.Upgrade lines p = upgrading m (history_in m.index)
 accepted m (command.Load count) lines p = with_lines m (λ events total last. head.Loaded events total last) lines
 accepted m (command.Append count) lines p = with_lines m (λ events total last. head.Appended events total last) lines
 accepted m (command.At t cols) lines p = record {

@@ -1,6 +1,6 @@
 -- The grammar of commands and of plan lines: which line of a script is which.
-use Rattle.std.specs.Prelude.{ℕ, ◌+◌, ◌-◌, ◌≤◌, true, false, List, [], ◌∷◌, ◌++◌, Option, Some, None, if◌then◌else◌, codes, length, take, is_some, nat_le, option_and_then, replicate, IsTrue}
-use Rattle.std.specs.Option.{option_map}
+use Rattle.std.specs.Prelude.{ℕ, ◌+◌, ◌-◌, ◌≤◌, Bool, true, false, List, [], ◌∷◌, ◌++◌, Option, Some, None, if◌then◌else◌, codes, length, take, is_some, nat_le, option_and_then, replicate, IsTrue}
+use Rattle.std.specs.Option.{option_map, option_or}
 use Rattle.dg_graph.specs.declared.element.Columns.{Columns}
 use Rattle.dg_machine.specs.declared.command.Command.{Command}
 use Rattle.dg_machine.specs.declared.command.Command.TheVariants as command
@@ -11,7 +11,7 @@ use Rattle.dg_graph.specs.declared.function.Function.{Function}
 use Rattle.dg_graph.specs.declared.function.Function.TheVariants.{Intersection, Union, Balanced}
 use Rattle.dg_text.specs.Words.{words, number}
 use Rattle.dg_text.specs.Lines.{ScriptLine, Text, Long}
-use Rattle.dg_text.specs.Verbs.{Verb, verb, is_word, read_by, none_more, one, two_words, three}
+use Rattle.dg_text.specs.Verbs.{Verb, verb, is_word, read_by, none_more, one, two_words, three, four_words}
 use Rattle.dg_history.specs.declared.node.NodeId.{NodeId}
 use Rattle.dg_history.specs.declared.node.NodeId.TheVariants as node
 use Rattle.dg_plan.specs.declared.certificate.PlanLine.{PlanLine}
@@ -34,10 +34,19 @@ function_of word =
 -- `s`, `sn`, `se` or `sne`: structure, and the attributes of nodes and of edges
 abbrev pub columns_of : List ℕ → Option Columns
 columns_of word =
-    if is_word word (codes "s") then Some (record { nodes_attr = false; edges_attr = false })
-    else (if is_word word (codes "sn") then Some (record { nodes_attr = true; edges_attr = false })
-    else (if is_word word (codes "se") then Some (record { nodes_attr = false; edges_attr = true })
-    else (if is_word word (codes "sne") then Some (record { nodes_attr = true; edges_attr = true }) else None)))
+    if is_word word (codes "s") then Some (record { nodes_attr = false; edges_attr = false; transient = false })
+    else (if is_word word (codes "sn") then Some (record { nodes_attr = true; edges_attr = false; transient = false })
+    else (if is_word word (codes "se") then Some (record { nodes_attr = false; edges_attr = true; transient = false })
+    else (if is_word word (codes "sne") then Some (record { nodes_attr = true; edges_attr = true; transient = false }) else None)))
+
+abbrev pub skewed_of : List ℕ → Option Bool
+skewed_of word = if is_word word (codes "skewed") then Some true else None
+
+-- a leaf list size, an arity and a differential function; the share of a skewed one follows it
+abbrev pub create_of : List (List ℕ) → Option Command
+create_of words =
+    option_or (three n32_of n32_of function_of (λ l k f. command.Create l k f) words)
+    (four_words n32_of n32_of skewed_of n32_of (λ l k s r. command.CreateSkewed l k r) words)
 
 abbrev pub count_of : List ℕ → Option ℕ
 count_of word = number 1 BATCH_LINES_MAX word
@@ -75,7 +84,7 @@ held_node_verbs =
 -- the commands, by their first word
 abbrev pub command_verbs : List (Verb Command)
 command_verbs =
-    verb (codes "create") (three n32_of n32_of function_of (λ l k f. command.Create l k f))
+    verb (codes "create") create_of
     ∷ verb (codes "load") (one count_of (λ n. command.Load n))
     ∷ verb (codes "append") (one count_of (λ n. command.Append n))
     ∷ verb (codes "at") (two_words time_of columns_of (λ t cols. command.At t cols))
@@ -91,6 +100,7 @@ command_verbs =
     ∷ verb (codes "plan") (two_words time_of columns_of (λ t cols. command.Plan t cols))
     ∷ verb (codes "certify") (three time_of columns_of count_from_0 (λ t cols n. command.Certify t cols n))
     ∷ verb (codes "verify") (none_more command.Verify)
+    ∷ verb (codes "upgrade") (none_more command.Upgrade)
     ∷ verb (codes "tree") (none_more command.Tree)
     ∷ verb (codes "workload") (two_words id_of count_of (λ seed n. command.Workload seed n))
     ∷ []

@@ -9,6 +9,7 @@ use Rattle.dg_machine.specs.declared.limits.TheConstants.{FIRST_HANDLE, SCRIPT_B
 use Rattle.dg_machine.specs.declared.stands.Stands.{Stands}
 use Rattle.dg_machine.specs.declared.stands.Stands.TheVariants.{Overlay, Base}
 use Rattle.dg_graph.specs.Elements.{shown}
+use Rattle.dg_history.specs.declared.form.Form.TheVariants as form
 use Rattle.dg_history.specs.History.{History, empty_history, events_of, names_of}
 use Rattle.dg_graph.specs.Replay.{replay, replay_at}
 use Rattle.dg_graph.specs.Sets.{unioned}
@@ -35,7 +36,7 @@ pub record IsWithin (limits : Limits) : Type 0 where
 
 -- The history of the index. Without an index it has no event, and its parameters mean nothing.
 abbrev pub history_in : Option History → History
-history_in None = empty_history (record { l = 0; k = 0; function = Intersection })
+history_in None = empty_history form.Two (record { l = 0; k = 0; function = Intersection })
 history_in (Some z) = z
 
 -- the events of the machine's history

@@ -1,12 +1,13 @@
 -- What each command needs, and the refusals that follow from it.
-use Rattle.std.specs.Prelude.{ℕ, ◌+◌, ◌*◌, Bool, true, false, ◌&&◌, ◌||◌, not, List, [], ◌∷◌, ◌++◌, Option, Some, None, length, nat_lt, is_some, take}
+use Rattle.std.specs.Prelude.{ℕ, ◌+◌, ◌*◌, Bool, true, false, ◌&&◌, ◌||◌, not, List, [], ◌∷◌, ◌++◌, Option, Some, None, length, nat_le, nat_lt, is_some, take}
 use Rattle.std.specs.List.{list_any}
+use Rattle.dg_graph.specs.declared.limits.TheConstants.{SKEW_MAX}
 use Rattle.dg_text.specs.declared.limits.TheConstants.{NAMES_MAX}
 use Rattle.dg_text.specs.Lines.{ScriptLine}
 use Rattle.dg_history.specs.declared.node.NodeId.{NodeId}
 use Rattle.dg_history.specs.declared.node.NodeId.TheVariants as node
 use Rattle.dg_history.specs.declared.params.Params.{Params}
-use Rattle.dg_history.specs.History.{are_parameters, span_of, in_range}
+use Rattle.dg_history.specs.History.{are_parameters, is_wide, span_of, in_range}
 use Rattle.dg_index.specs.Hierarchy.{exists}
 use Rattle.dg_machine.specs.declared.command.Command.{Command}
 use Rattle.dg_machine.specs.declared.command.Command.TheVariants as command
@@ -22,7 +23,8 @@ use Rattle.dg_machine.specs.MachineState.{MachineState, dependent_on, events_in_
 pub record Needs : Type 0 where
   pub lines : Option ℕ  -- so many lines that follow it, where any may
   pub index : Bool  -- an index
-  pub parameters : Option (ℕ × ℕ)  -- no index yet, and a leaf list size and an arity in their ranges
+  pub parameters : Option (ℕ × ℕ × ℕ)  -- no index yet, and a leaf list size, an arity and a share in their ranges
+  pub first_form : Bool  -- the file in its first form
   pub unloaded : Bool  -- no event yet
   pub changes : ℕ  -- room for so many changes
   pub instants : List ℕ  -- that these are in the history
@@ -40,6 +42,7 @@ nothing_more = record {
   lines = None;
   index = false;
   parameters = None;
+  first_form = false;
   unloaded = false;
   changes = 0;
   instants = [];
@@ -69,7 +72,9 @@ takes_memory query.Counts = false
 takes_memory q = true
 
 abbrev pub needs : Command → Needs
-needs (command.Create l k function) = record nothing_more { parameters = Some (l, k); writes = true }
+needs (command.Create l k function) = record nothing_more { parameters = Some (l, k, 0); writes = true }
+needs (command.CreateSkewed l k r) = record nothing_more { parameters = Some (l, k, r); writes = true }
+needs command.Upgrade = record nothing_more { index = true; first_form = true; memory = false; writes = true }
 needs (command.Load count) = record (batch_needs count) { unloaded = true }
 needs (command.Append count) = batch_needs count
 needs (command.At t cols) = record nothing_more { index = true; instants = t ∷ []; handles = 1; reads = true }
@@ -148,7 +153,8 @@ refusals m lines n =
     of n.lines (λ count. when (nat_lt (length lines) count) (refusal.ShortBatch (length lines) count))
     ++ (when (n.index && not (is_some m.index)) refusal.NoIndex
     ++ (of n.parameters (λ p. when (is_some m.index) refusal.IndexExists)
-    ++ (of n.parameters (λ p. when (not (are_parameters p.0 p.1)) refusal.Parameters)
+    ++ (when (n.first_form && is_wide (history_in m.index).form) refusal.NewFormat
+    ++ (of n.parameters (λ p. when (not (are_parameters p.0 p.1 && nat_le p.2 SKEW_MAX)) refusal.Parameters)
     ++ (when (n.unloaded && is_some (span_of (events_in_index m.index))) refusal.AlreadyLoaded
     ++ (when (nat_lt 0 n.changes && is_full m n.changes) (refusal.HistoryFull (length (events_in_index m.index)) n.changes)
     ++ (when (list_any (λ t. not (in_range (span_of (events_in_index m.index)) t)) n.instants) (refusal.OutOfRange (span_of (events_in_index m.index)))
@@ -157,7 +163,7 @@ refusals m lines n =
     ++ (of n.unused (λ h. of (dependent_on h m.table) (λ d. refusal.InUse d ∷ []))
     ++ (of n.node (λ v. when (not (has_index_node m v)) refusal.UnknownNode)
     ++ (when (nat_lt 0 n.handles && nat_lt LIVE_HANDLES_MAX (length m.table + n.handles)) (refusal.PoolFull (length m.table) n.handles)
-    ++ when (nat_lt 0 n.handles && nat_lt (HANDLE_MAX + 1) (m.next + n.handles)) refusal.HandlesSpent)))))))))))
+    ++ when (nat_lt 0 n.handles && nat_lt (HANDLE_MAX + 1) (m.next + n.handles)) refusal.HandlesSpent))))))))))))
 
 -- the first refusal that holds
 abbrev pub refused : MachineState → Command → List ScriptLine → Option Refusal

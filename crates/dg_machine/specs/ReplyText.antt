@@ -4,7 +4,7 @@ use Rattle.std.specs.List.{flat_map, join_with_byte}
 use Rattle.dg_graph.specs.declared.element.Column.{Column}
 use Rattle.dg_graph.specs.declared.element.Column.TheVariants as column
 use Rattle.dg_graph.specs.declared.element.Element.{Element}
-use Rattle.dg_graph.specs.declared.element.Element.TheVariants.{Node, Edge, NodeAttr, EdgeAttr}
+use Rattle.dg_graph.specs.declared.element.Element.TheVariants.{Node, Edge, NodeAttr, EdgeAttr, Message}
 use Rattle.dg_machine.specs.declared.reply.Head.{Head}
 use Rattle.dg_machine.specs.declared.reply.Head.TheVariants as head
 use Rattle.dg_machine.specs.declared.reply.Refusal.{Refusal}
@@ -14,7 +14,7 @@ use Rattle.dg_machine.specs.declared.reply.BodyLine.TheVariants as line
 use Rattle.dg_machine.specs.declared.reply.Reply.{Reply}
 use Rattle.dg_text.specs.Names.{name_text}
 use Rattle.dg_graph.specs.declared.function.Function.{Function}
-use Rattle.dg_graph.specs.declared.function.Function.TheVariants.{Intersection, Union, Balanced}
+use Rattle.dg_graph.specs.declared.function.Function.TheVariants.{Intersection, Union, Balanced, Skewed}
 use Rattle.dg_history.specs.declared.node.Key.{Key}
 use Rattle.dg_history.specs.declared.node.Key.TheVariants as key
 use Rattle.dg_history.specs.declared.node.NodeId.{NodeId}
@@ -33,6 +33,7 @@ element_words names (Edge id src dst directed) =
     codes "edge" ∷ decimal id ∷ decimal src ∷ decimal dst ∷ (if directed then codes "dir" else codes "undir") ∷ []
 element_words names (NodeAttr id key value) = codes "nattr" ∷ decimal id ∷ name_text names key ∷ name_text names value ∷ []
 element_words names (EdgeAttr id key value) = codes "eattr" ∷ decimal id ∷ name_text names key ∷ name_text names value ∷ []
+element_words names (Message src dst value) = codes "msg" ∷ decimal src ∷ decimal dst ∷ name_text names value ∷ []
 
 -- the words of a node
 abbrev pub node_words : NodeId → List (List ℕ)
@@ -55,11 +56,14 @@ abbrev pub column_word : Column → List ℕ
 column_word column.Structure = codes "s"
 column_word column.NodeAttr = codes "n"
 column_word column.EdgeAttr = codes "e"
+column_word column.Transient = codes "t"
 
-abbrev pub function_word : Function → List ℕ
-function_word Intersection = codes "intersection"
-function_word Union = codes "union"
-function_word Balanced = codes "balanced"
+-- the words of a differential function
+abbrev pub function_words : Function → List (List ℕ)
+function_words Intersection = codes "intersection" ∷ []
+function_words Union = codes "union" ∷ []
+function_words Balanced = codes "balanced" ∷ []
+function_words (Skewed r) = codes "skewed" ∷ decimal r ∷ []
 
 -- the words of what is said of a certificate
 abbrev pub verdict_words : Verdict → List (List ℕ)
@@ -113,10 +117,12 @@ refusal_words (refusal.NotAnOverlay handle) = codes "17" ∷ codes "not-an-overl
 refusal_words refusal.LineLong = codes "18" ∷ codes "line-long" ∷ []
 refusal_words refusal.HandlesSpent = codes "19" ∷ codes "handles-spent" ∷ []
 refusal_words refusal.AlreadyLoaded = codes "20" ∷ codes "already-loaded" ∷ []
+refusal_words refusal.NewFormat = codes "21" ∷ codes "new-format" ∷ []
 
 -- the words of a head line
 abbrev pub head_words : Head → List (List ℕ)
 head_words head.Created = codes "ok" ∷ codes "create" ∷ []
+head_words head.Upgraded = codes "ok" ∷ codes "upgrade" ∷ []
 head_words (head.Loaded events total last) = codes "ok" ∷ codes "load" ∷ decimal events ∷ decimal total ∷ decimal last ∷ []
 head_words (head.Appended events total last) = codes "ok" ∷ codes "append" ∷ decimal events ∷ decimal total ∷ decimal last ∷ []
 head_words (head.At handle weight) = codes "ok" ∷ codes "at" ∷ decimal handle ∷ decimal weight ∷ []
@@ -138,7 +144,7 @@ head_words (head.Verified s) = codes "ok" ∷ codes "verify" ∷ soundness_words
 head_words (head.Generated events last nodes edges) =
     codes "ok" ∷ codes "workload" ∷ decimal events ∷ decimal last ∷ decimal nodes ∷ decimal edges ∷ []
 head_words (head.Tree l k function events leaves records) =
-    codes "ok" ∷ codes "tree" ∷ decimal l ∷ decimal k ∷ function_word function ∷ decimal events ∷ decimal leaves ∷ decimal records ∷ []
+    codes "ok" ∷ codes "tree" ∷ decimal l ∷ decimal k ∷ (function_words function ++ decimal events ∷ decimal leaves ∷ decimal records ∷ [])
 head_words (head.Refused r) = codes "refused" ∷ refusal_words r
 
 -- words with a space between each two, and a line feed

@@ -31,6 +31,14 @@ pub enum Command {
         k: u32,
         function: Function,
     },
+    /// Make an empty index whose differential function is skewed, with `r` of 256 parts from the last child.
+    CreateSkewed {
+        l: u32,
+        k: u32,
+        r: u32,
+    },
+    /// Go on with the file in its second form.
+    Upgrade,
     /// Read `count` change lines, and add them to the empty history as one batch.
     Load {
         count: u32,

@@ -26,6 +26,8 @@ pub struct Reply {
 pub enum Head {
     /// An index was made.
     Created,
+    /// The file goes on in its second form.
+    Upgraded,
     /// A batch was loaded: its events, the events of the history, and the last instant.
     Loaded {
         events: u64,
@@ -170,6 +172,8 @@ pub enum Refusal {
     HandlesSpent,
     /// 20: the history has an event already.
     AlreadyLoaded,
+    /// 21: the file has its second form already.
+    NewFormat,
 }
 
 /// A line of a reply's body.

@@ -10,7 +10,7 @@ use Rattle.dg_machine.specs.Script.{Asked, No_command}
 use Rattle.dg_run.specs.RunWeights.{RunWeighs}
 
 abbrev structure : Columns
-structure = record { nodes_attr = false; edges_attr = false }
+structure = record { nodes_attr = false; edges_attr = false; transient = false }
 
 module _ (m : MachineState) where
   -- two retrievals, which tell 26 and 40, and between them a command that reads nothing

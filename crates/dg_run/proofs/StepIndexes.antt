@@ -6,7 +6,7 @@ use Rattle.std.proofs.lemmas.Bool.{false≢true}
 use Rattle.dg_text.specs.Lines.{ScriptLine}
 use Rattle.dg_changes.specs.Batch.{batch_of}
 use Rattle.dg_changes.specs.GeneratedChanges.{batch_of_changes, generated}
-use Rattle.dg_history.specs.History.{Batch, History, with_batch}
+use Rattle.dg_history.specs.History.{Batch, History, with_batch, with_upgrade}
 use Rattle.dg_index.specs.FileOfHistory.{size}
 use Rattle.dg_machine.specs.declared.command.Command.{Command}
 use Rattle.dg_machine.specs.declared.command.Command.TheVariants as command
@@ -15,7 +15,7 @@ use Rattle.dg_machine.specs.declared.reply.Head.TheVariants as head
 use Rattle.dg_machine.specs.declared.reply.Refusal.{Refusal}
 use Rattle.dg_machine.specs.declared.reply.Reply.{Reply}
 use Rattle.dg_machine.specs.declared.stands.Stands.{Stands}
-use Rattle.dg_machine.specs.Answer.{Answered, accepted, answer_by, is_refusal, base_for, overlays, refuse, with_handle, with_handles, with_new, with_workload}
+use Rattle.dg_machine.specs.Answer.{Answered, accepted, answer_by, is_refusal, base_for, overlays, refuse, upgrading, with_handle, with_handles, with_new, with_workload}
 use Rattle.dg_machine.specs.MachineState.{MachineState, history_in}
 use Rattle.dg_machine.specs.Needs.{refused}
 use Rattle.dg_machine.specs.Planning.{Planned}
@@ -59,9 +59,15 @@ refused_workload m (Err fault) e = refl
 refused_workload m (Ok b) e =
     either_index m (nat_lt m.limits.file_bytes (size (with_batch (history_in m.index) b))) (refuse m _) (record { reply = _; state = _ }) refl refl e
 
+-- nor is the file upgraded by a refusal
+refused_upgrade : (m : MachineState) (z : History) → is_refusal (upgrading m z).reply.head ≡ true → (upgrading m z).state.index ≡ m.index
+refused_upgrade m z e = either_index m (nat_lt m.limits.file_bytes (size (with_upgrade z))) (refuse m _) (record { reply = _; state = _ }) refl refl e
+
 -- a refusal leaves the index
 refused_command : (m : MachineState) (c : Command) (lines : List ScriptLine) (p : Planned) → is_refusal (accepted m c lines p).reply.head ≡ true → (accepted m c lines p).state.index ≡ m.index
 refused_command m (command.Create l k function) lines p e = absurd (cc)
+refused_command m (command.CreateSkewed l k r) lines p e = absurd (cc)
+refused_command m command.Upgrade lines p e = refused_upgrade m (history_in m.index) e
 refused_command m (command.Load count) lines p e = refused_batch m (history_in m.index) (λ events total last. head.Loaded events total last) (batch_of (history_in m.index) lines) (λ a b c. refl) e
 refused_command m (command.Append count) lines p e = refused_batch m (history_in m.index) (λ events total last. head.Appended events total last) (batch_of (history_in m.index) lines) (λ a b c. refl) e
 refused_command m (command.At t cols) lines p e = refl

@@ -65,6 +65,12 @@ adds (Lines_of Load) count = refl
 adds (Lines_of Append) count = refl
 adds (Seed seed) count = refl
 
+-- the file grows by it
+pub grows : (from : Origin) (count : ℕ) → ((needs (adding from count)).index && (needs (adding from count)).writes) ≡ true
+grows (Lines_of Load) count = refl
+grows (Lines_of Append) count = refl
+grows (Seed seed) count = refl
+
 pub writes : (from : Origin) (count : ℕ) → is_writing (adding from count) ≡ true
 writes (Lines_of Load) count = refl
 writes (Lines_of Append) count = refl

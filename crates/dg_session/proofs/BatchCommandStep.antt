@@ -57,7 +57,7 @@ use Rattle.dg_machine.specs.Needs.{needs, refused}
 use Rattle.dg_machine.specs.Planning.{no_plan}
 use Rattle.dg_machine.specs.Run.{Step}
 use Rattle.dg_machine.specs.Script.{Asked}
-use Rattle.dg_session.proofs.BatchCommandForms.{Lines_of, Origin, Seed, accepted_made, adding, adds, asked_fit, asked_from, behind_head, fits_head, head_over, lacks, ok_head, reads_records, unplanned, with_made, writes}
+use Rattle.dg_session.proofs.BatchCommandForms.{Lines_of, Origin, Seed, accepted_made, adding, adds, asked_fit, asked_from, behind_head, fits_head, grows, head_over, lacks, ok_head, reads_records, unplanned, with_made, writes}
 use Rattle.dg_batch.proofs.LegalHistoryRanges.{ChangeFits, what_named}
 use Rattle.dg_batch.proofs.GeneratedChangeRanges.{generated_length}
 use Rattle.dg_ask.proofs.HeldIndexHistory.{count_is}
@@ -385,6 +385,7 @@ module _ (from : Origin) (got : List ScriptLine) (p : Parts) (count limit : ℕ)
     named = named;
     fit = λ whole k d lt. what_named (length c.names) (get_or b.changes.items k d).what (change_fits whole k d lt).numbers;
     timed = λ whole k d lt. (change_fits whole k d lt).time;
+    silent = λ narrow whole k d lt. (change_fits whole k d lt).silent;
   })
 
   pub may_add : IsSoundHistory p.index p.names c.now c.recent.items → graph_now l.pool.value ≡ c.now.graph → MayAdd b l
@@ -474,7 +475,7 @@ module _ (from : Origin) (got : List ScriptLine) (p : Parts) (count limit : ℕ)
         one_told told (λ x. (z : History) → IsOverHistory z x free.index known c → segment ≡ segment_of z.params (events_of z) New) image comes.built at z (over image m z h)
 
     needed_is : (image : List ℕ) → told ≡ Some image → (m : MachineState) (z : History) → IsOf p free.index image m z → needed_for free.index segment ≡ size (with_batch z New)
-    needed_is image at m z h = (λ i. needed_for (h.opened i) (segment_is image at m z h i)) ∙ measured z New
+    needed_is image at m z h = (λ i. needed_for (h.opened i) (segment_is image at m z h i)) ∙ measured z New h.stands.legal.form
 
     -- the file has too little room
     full_steps : (n : ℕ) → n ≡ needed_for free.index segment → limit < n → (m : MachineState) (image : List ℕ) → told ≡ Some image → StandsFor p image m
@@ -545,7 +546,7 @@ module _ (from : Origin) (got : List ScriptLine) (p : Parts) (count limit : ℕ)
         let large = large_parameters z.params.l z.params.k h.stands.legal.parameters in
         let pos : 0 < z.params.l = omega (arith, large.0) in
         let index : Some (index_with free.index segment) ≡ Some (opening_of (with_batch z New)) =
-        (λ i. Some (index_with (h.opened i) (segment_is before at m z h i))) ∙ ap (λ (x : Opened). Some x.index) (sym (opened_more z New)) in
+        (λ i. Some (index_with (h.opened i) (segment_is before at m z h i))) ∙ ap (λ (x : Opened). Some x.index) (sym (opened_more z New h.stands.legal.form)) in
         let reached : All (λ (e : ℕ × Stands). is_reached z e.1 ≡ true) m.table =
         subst (λ (i : Option History). All (λ (e : ℕ × Stands). is_reached (history_in i) e.1 ≡ true) m.table) h.index s.reached in
         let graphs : p.graphs ≡ map (λ (e : ℕ × Stands). elements (with_batch z New) e.1) m.table =
@@ -640,7 +641,7 @@ module _ (from : Origin) (got : List ScriptLine) (p : Parts) (count limit : ℕ)
         let d : FillsFile free.index limit b c before n = f.2 in
         subst (λ (k : ℕ). Denies (adding from count) got p before q after (refusal.FileFull n k)) (sym f.1)
         (denied_at (adding from count) got p q before after (refusal.FileFull n limit) q_is f.0
-        (full_steps before d.events d.segment d.comes n d.needed_is d.over) (λ h. absurd (false≢true h)) (inr (inl (adds from count, a.not_refused))))
+        (full_steps before d.events d.segment d.comes n d.needed_is d.over) (λ h. absurd (false≢true h)) (inr (inl (grows from count, a.not_refused))))
     batch_failed (fault.Damaged key col) fails q q_is =
         let f = of_here (index_opening c.index) free.index (λ o. FailsBatch o limit b c before after (fault.Damaged key col)) opening_there fails in
         denied_at (adding from count) got p q before after (refusal.Damaged key col) q_is f.0

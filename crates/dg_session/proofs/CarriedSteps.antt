@@ -6,7 +6,7 @@ use Rattle.dg_batch.specs.declared.halt.Halt.{Halt}
 use Rattle.dg_batch.specs.declared.halt.Halt.TheVariants as halt
 use Rattle.dg_batch.specs.declared.stop.Stop.{Stop}
 use Rattle.dg_batch.specs.declared.stop.Stop.TheVariants as stop
-use Rattle.dg_disk.specs.Calls.{Fails, LeftByCrash, ReadsDisk, StaysOnDevice}
+use Rattle.dg_disk.specs.Calls.{Fails, FailsToWrite, LeftByCrash, ReadsDisk, StaysOnDevice}
 use Rattle.dg_disk.proofs.FrameLemmas as frames
 use Rattle.dg_disk.specs.declared.disk.Disk as disk
 use Rattle.dg_text.specs.Lines.{ScriptLine}
@@ -26,12 +26,12 @@ use Rattle.dg_session.proofs.DamageStep.{met_nothing, never_for_damage, reads_un
 use Rattle.dg_session.proofs.ReadsStep.{fails_no_read, followed_by_none, reads_none, reads_nothing, store_read_is}
 use Rattle.dg_session.proofs.ReplyNames.{head_names}
 use Rattle.dg_session.proofs.SessionPoolStep.{nothing_swept}
-use Rattle.dg_session.proofs.SessionSteps.{Carried, alone, answered, refused_so}
+use Rattle.dg_session.proofs.SessionSteps.{Carried, HasItsLines, alone, answered, refused_so}
 use Rattle.dg_session.proofs.VerifiedStep.{refused_verifies, unverified}
 use Rattle.dg_session.specs.Calls.{AnswersCommand, CarriesOut, CutsFollowing, HaltsByCause, ReadsFile, StopsCommand, TakesFollowing, TreatsDisk}
 use Rattle.dg_session.specs.Parts.{Parts}
-use Rattle.dg_session.specs.Reads.{ReadsToStop}
-use Rattle.dg_session.specs.Session.{Accepts, ComesTo, CutsOff, Denies, HoldsImage, IsAsBefore, Stops, WhereBothTold, is_at_hand, refused_by}
+use Rattle.dg_session.specs.Reads.{ReadsIn, ReadsToStop}
+use Rattle.dg_session.specs.Session.{Accepts, ComesTo, CutsOff, Denies, HoldsImage, IsAsBefore, LeavesCommand, Stops, WhereBothTold, is_at_hand, refused_by}
 use Rattle.dg_session.specs.SessionState.{SessionState}
 use Rattle.dg_session.specs.Sweeps.{SweepsNothing, SweepsPool, sweep_of}
 use Rattle.dg_session.specs.Verified.{VerifiesFile, is_verify, soundness_told}
@@ -185,6 +185,27 @@ module _ {S D : Type 0} {s : source.Ghosts S} {d : disk.Ghosts D} {lines : Lines
       })
 
 module _ {S D : Type 0} {s : source.Ghosts S} {d : disk.Ghosts D} {lines : LinesState} {from : S} {old : SessionState} {before : D} {new : SessionState} {after : D} (r : Result Reply Halt) where
+  -- of one that writes, takes no line and reads no record
+  pub writing_carries : (c x : Command) → c ≡ x → following x ≡ 0 → is_verify x ≡ false → SweepsNothing x → (needs x).reads ≡ false → is_writing x ≡ true
+      → ComesTo x [] old.parts (d.image before) new.parts (d.image after) r → (r ≡ Err (halt.Stop stop.Store) → FailsToWrite d before after) → HasItsLines r
+      → ReadsIn x old.parts (d.image before) r (d.taken before) (d.taken after) → TreatsDisk d before after r → LeftByCrash d before after (LeavesCommand x [] old.parts r)
+      → CarriesOut s d c lines from lines from old before new after r
+  writing_carries c x is alone_is plain still no_reads writes comes store has reads treats crash =
+      others_carry r c x is plain still
+      (alone x lines (s.left from) old.parts (d.image before) new.parts (d.image after) r (LeftByCrash d before after) alone_is has comes crash)
+      (record {
+        store = store;
+        read = λ e. absurd (has.0 e);
+        limit = λ e. absurd (has.1 e);
+        store_read = λ e. absurd (fails_no_read x [] old.parts (d.image before) new.parts (d.image after) r no_reads comes e);
+      })
+      (record {
+        damaged = never_for_damage x x [] old.parts (d.image before) new.parts (d.image after) r refl no_reads comes;
+        undamaged = met_nothing x old.parts (d.image before) r (reads_undamaged x old.parts (d.image before) no_reads);
+        reads = reads;
+      })
+      treats (λ e. absurd (false≢true (sym e ∙ writes)))
+
   -- of one that reads the disk alone, and takes no line
   pub reading_carries : OnlyNow d → (c x : Command) → c ≡ x → following x ≡ 0 → SweepsNothing x → ComesTo x [] old.parts (d.image before) new.parts (d.image after) r
       → ((why : Stop) → r ≡ Err (halt.Stop why) → ⊥) → IfOk r (λ (reply : Reply). VerifiesFile x old.parts (d.image before) reply.head)

@@ -8,13 +8,18 @@ use Rattle.dg_batch.specs.declared.halt.Halt.{Halt}
 use Rattle.dg_batch.specs.declared.halt.Halt.TheVariants as halt
 use Rattle.dg_batch.specs.declared.stop.Stop.TheVariants as stop
 use Rattle.dg_batch.specs.Halt.{batch_halt, creation_halt}
+use Rattle.dg_batch.specs.declared.held.Held.{Held}
 use Rattle.dg_disk.proofs.FrameLemmas.{reads_none, reads_stay, reads_use}
 use Rattle.dg_disk.specs.Calls.{IsOnDevice, ReadsDisk, StaysOnDevice, UsesDisk, WritesDisk}
 use Rattle.dg_disk.specs.declared.disk.Disk.{Ghosts}
+use Rattle.dg_file.specs.declared.fault.CommitFault.{CommitFault}
+use Rattle.dg_file.specs.declared.fault.CommitFault.TheVariants as commit_fault
 use Rattle.dg_file.specs.declared.fault.CreateFault.{CreateFault}
 use Rattle.dg_file.specs.declared.fault.CreateFault.TheVariants as create_fault
+use Rattle.dg_index.specs.OpenedIndex.{Opening}
 use Rattle.dg_machine.specs.declared.reply.Reply.{Reply}
 use Rattle.dg_session.specs.Calls.{TreatsDisk}
+use Rattle.dg_session.specs.Upgrade.{MarksHeld, upgrade_halt}
 
 -- a fact that hangs on the answer alone
 pub every_answer : {A E : Type 0} (r : Result A E) (P : Type 0) → P → OnOk r P
@@ -82,10 +87,26 @@ module _ {D : Type 0} (g : Ghosts D) where
     settled = tt;
   }
 
-  -- it is made
+  -- it is made, or the file goes on in its second form
   pub made_treats : (old new : D) (reply : Reply) → WritesDisk g old new → IsOnDevice g new → TreatsDisk g old new (Ok reply)
   made_treats old new reply writes settled = record {
     used = writes_use writes;
     unwritten = tt;
     settled = λ before. settled;
+  }
+
+  -- ---- the second form
+
+  -- the file does not go on in it
+  pub unmarked_treats : (A : Type 0) (limit : ℕ) (o : Opening) (before after : Held) (old new : D) (f : CommitFault) → WritesDisk g old new → MarksHeld {A = A} g limit o before after old new (Err f)
+      → TreatsDisk g old new (Err (upgrade_halt limit f))
+  unmarked_treats A limit o before after old new (commit_fault.FileFull n) writes marks = record {
+    used = writes_use writes;
+    unwritten = λ other. subst (λ (x : D). ReadsDisk g old x) (sym marks.3) reads_none;
+    settled = tt;
+  }
+  unmarked_treats A limit o before after old new commit_fault.Disk writes marks = record {
+    used = writes_use writes;
+    unwritten = λ other. absurd (other refl);
+    settled = tt;
   }

@@ -114,6 +114,8 @@ node_damage_in c p image node cols (retrieval_fault.Damaged key col) is damage =
 -- a command that reads no records
 pub reads_undamaged : (c : Command) (p : Parts) (image : Option (List ℕ)) → (needs c).reads ≡ false → MeetsNone (reads_for c) p image
 reads_undamaged (command.Create l k function) p image e = tt
+reads_undamaged (command.CreateSkewed l k r) p image e = tt
+reads_undamaged command.Upgrade p image e = tt
 reads_undamaged (command.Load count) p image e = absurd (false≢true (sym e))
 reads_undamaged (command.Append count) p image e = absurd (false≢true (sym e))
 reads_undamaged (command.At t cols) p image e = absurd (false≢true (sym e))

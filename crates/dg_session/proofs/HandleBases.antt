@@ -2,17 +2,18 @@
 use Rattle.std.proofs.Common.{◌≡◌, ℕ, Bool, true, false, cond, List as ListOf, [], ◌∷◌, Option, Some, map, refl, sym, ◌∙◌, ap, subst, ◌-◌}
 use Rattle.std.specs.Prelude.{◌==◌, ◌&&◌, ◌||◌, filter, if◌then◌else◌, not, unwrap_or, Result, Ok, Err, IfOk}
 use Rattle.std.specs.List.{All, Contains, flat_map}
-use Rattle.std.proofs.lemmas.Bool.{false≢true}
+use Rattle.std.proofs.lemmas.Bool.{false≢true, or_right}
 use Rattle.std.proofs.lemmas.Option.{none-some}
 use Rattle.std.proofs.lemmas.List.Elements.{All-append, All-cons, All-contains, All-filter, All-from_recursion, All-head, All-map, All-nil, All-tail, All-contains_itself}
 use Rattle.dg_fold.proofs.HistoryPaths.{node_set}
 use Rattle.dg_graph.specs.declared.element.Column.{Column}
-use Rattle.dg_graph.specs.declared.element.Column.TheVariants.{Structure, NodeAttr, EdgeAttr}
+use Rattle.dg_graph.specs.declared.element.Column.TheVariants.{Structure, NodeAttr, EdgeAttr, Transient}
 use Rattle.dg_graph.specs.declared.element.Columns.{Columns}
 use Rattle.dg_graph.specs.declared.element.Element.{Element}
 use Rattle.dg_graph.specs.declared.event.Event.{Event}
-use Rattle.dg_graph.specs.Elements.{IsSet, asks, column_of, shown}
-use Rattle.dg_graph.proofs.Sets.{IsSet-filter}
+use Rattle.dg_graph.specs.Columns.{same_column}
+use Rattle.dg_graph.specs.Elements.{IsSet, asks, column_of, has, same, shown}
+use Rattle.dg_graph.proofs.Sets.{IsSet-filter, has_first}
 use Rattle.dg_handles.specs.Handles.{BeginsOn, HoldsNode, graph_among, held_by}
 use Rattle.dg_history.specs.declared.node.NodeId.{NodeId}
 use Rattle.dg_history.specs.declared.node.NodeId.TheVariants as node
@@ -34,6 +35,7 @@ use Rattle.dg_retrieval.specs.declared.retrieval.Retrieved.{Retrieved}
 use Rattle.dg_retrieval.specs.Beginnings.{IsOffered, leads_in}
 use Rattle.dg_retrieval.specs.Calls.{IsRetrieval}
 use Rattle.dg_retrieval.specs.Retrieval.{AreHeld}
+use Rattle.dg_session.proofs.NodeSets.{IsNoMessage, node_quiet}
 
 -- ---- the edges of bases
 
@@ -98,9 +100,9 @@ held_is z table cols h v holds = ap (λ (o : Option (ListOf Element)). unwrap_or
 -- ---- what is shown of it
 
 -- what passes the stronger of two tests passes both
-twice : (p q : Element → Bool) → ((x : Element) → p x ≡ true → q x ≡ true) → (set : ListOf Element) → filter p (filter q set) ≡ filter p set
-twice p q stronger [] = refl
-twice p q stronger (x ∷ set) = by (p x) (q x) refl refl (stronger x) (twice p q stronger set)
+twice : (p q : Element → Bool) (set : ListOf Element) → ((x : Element) → has set x ≡ true → p x ≡ true → q x ≡ true) → filter p (filter q set) ≡ filter p set
+twice p q [] stronger = refl
+twice p q (x ∷ set) stronger = by (p x) (q x) refl refl (stronger x (has_first x set)) (twice p q set (λ y there. stronger y (or_right (same y x) (has set y) there)))
   where
     by : (a b : Bool) → p x ≡ a → q x ≡ b → (p x ≡ true → q x ≡ true) → filter p (filter q set) ≡ filter p set
         → filter p (if q x then x ∷ filter q set else filter q set) ≡ (if p x then x ∷ filter p set else filter p set)
@@ -112,9 +114,9 @@ twice p q stronger (x ∷ set) = by (p x) (q x) refl refl (stronger x) (twice p 
         ap (λ (b : Bool). filter p (if b then x ∷ filter q set else filter q set)) is_b ∙ rest
         ∙ sym (ap (λ (b : Bool). if b then x ∷ filter p set else filter p set) is_a)
 
--- columns that include others show what they show
-asks_more : (all cols : Columns) → includes all cols ≡ true → (x : Element) → asks cols (column_of x) ≡ true → asks all (column_of x) ≡ true
-asks_more all cols inc x h = by (column_of x) h
+-- columns that include others show what they show of an element that is no message
+asks_more : (all cols : Columns) → includes all cols ≡ true → (x : Element) → IsNoMessage x → asks cols (column_of x) ≡ true → asks all (column_of x) ≡ true
+asks_more all cols inc x quiet h = by (column_of x) quiet h
   where
     serves : (a b : Bool) → (a || not b) ≡ true → b ≡ true → a ≡ true
     serves true b e h = refl
@@ -129,10 +131,11 @@ asks_more all cols inc x h = by (column_of x) h
     right true b e = e
     right false b e = absurd (false≢true e)
 
-    by : (col : Column) → asks cols col ≡ true → asks all col ≡ true
-    by Structure h = refl
-    by NodeAttr h = serves all.nodes_attr cols.nodes_attr (left (all.nodes_attr || not cols.nodes_attr) (all.edges_attr || not cols.edges_attr) inc) h
-    by EdgeAttr h = serves all.edges_attr cols.edges_attr (right (all.nodes_attr || not cols.nodes_attr) (all.edges_attr || not cols.edges_attr) inc) h
+    by : (col : Column) → same_column col Transient ≡ false → asks cols col ≡ true → asks all col ≡ true
+    by Structure other h = refl
+    by NodeAttr other h = serves all.nodes_attr cols.nodes_attr (left (all.nodes_attr || not cols.nodes_attr) (all.edges_attr || not cols.edges_attr) inc) h
+    by EdgeAttr other h = serves all.edges_attr cols.edges_attr (right (all.nodes_attr || not cols.nodes_attr) (all.edges_attr || not cols.edges_attr) inc) h
+    by Transient other h = absurd (false≢true (sym other))
 
 -- the handles that can serve hold what is shown of their nodes
 pub bases_are_held : (z : History) (table : ListOf (ℕ × Stands)) (cols : Columns) (g : Ground) → All (HoldsNode table cols) g.bases
@@ -143,7 +146,7 @@ bases_are_held z table cols g hold e h there is =
     let set : ListOf Element = set_of z.params (events_of z) e.to in (
       subst IsSet (sym lists) (IsSet-filter (λ x. asks holds.0 (column_of x)) set (node_set z e.to)),
       ap (λ (s : ListOf Element). shown s cols) lists
-          ∙ twice (λ x. asks cols (column_of x)) (λ x. asks holds.0 (column_of x)) (asks_more holds.0 cols holds.2) set,
+          ∙ twice (λ x. asks cols (column_of x)) (λ x. asks holds.0 (column_of x)) set (λ x there. asks_more holds.0 cols holds.2 x (node_quiet z.params (events_of z) e.to x there)),
     )
 
 -- and a graph that begins with the set of a handle rests on one that can serve

@@ -15,6 +15,8 @@ pub mod RecordListingStep
 pub mod VerifiedStep
 pub mod SessionStartChecks
 pub mod SessionCreationStep
+pub mod NodeSets
+pub mod NodeLeads
 pub mod SessionGraphs
 pub mod KeptPlannerGraphs
 pub mod SessionNodeStep
@@ -29,5 +31,8 @@ pub mod ReplyNames
 pub mod CommandDisks
 pub mod CommandCrashes
 pub mod CreationCrashes
+pub mod HeldIndexes
+pub mod SessionUpgradeStep
+pub mod UpgradeCrashes
 pub mod BatchCommandCrashes
 pub mod CarriedSteps

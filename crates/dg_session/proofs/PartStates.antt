@@ -1,5 +1,5 @@
 -- What a session keeps of the state that it stands for, and the refusals that follow from it.
-use Rattle.std.proofs.Common.{◌≡◌, ℕ, ◌+◌, Bool, true, false, not, List, [], ◌∷◌, ◌++◌, Option, Some, None, if◌then◌else◌, length, map, refl, sym, ◌∙◌, ap, subst, nat_lt}
+use Rattle.std.proofs.Common.{◌≡◌, ℕ, ◌+◌, Bool, true, false, not, List, [], ◌∷◌, ◌++◌, Option, Some, None, if◌then◌else◌, length, map, refl, sym, ◌∙◌, ap, subst, nat_le, nat_lt}
 use Rattle.std.specs.Prelude.{◌*◌, ◌&&◌, ◌||◌, IfSome, is_some}
 use Rattle.std.specs.List.{All, list_any}
 use Rattle.std.specs.Option.{option_map}
@@ -8,11 +8,12 @@ use Rattle.std.proofs.lemmas.List.Elements.{All-append, All-cons, All-nil}
 use Rattle.std.proofs.lemmas.Option.{none-some}
 use Rattle.dg_graph.specs.declared.element.Element.{Element}
 use Rattle.dg_graph.specs.declared.event.Event.{Event}
+use Rattle.dg_graph.specs.declared.limits.TheConstants.{SKEW_MAX}
 use Rattle.dg_text.specs.declared.limits.TheConstants.{NAMES_MAX}
 use Rattle.dg_text.specs.Lines.{ScriptLine}
 use Rattle.dg_graph.specs.Replay.{replay}
 use Rattle.dg_history.specs.declared.params.Params.{Params}
-use Rattle.dg_history.specs.History.{History, are_parameters, events_of, in_range, names_of, span_of}
+use Rattle.dg_history.specs.History.{History, are_parameters, events_of, in_range, is_wide, names_of, span_of}
 use Rattle.dg_index.specs.ImageOfHistory.{IsImageOf, StandsAs}
 use Rattle.dg_index.specs.IndexRecords.{recent_of}
 use Rattle.dg_index.specs.OpenedIndex.{Opening, opened_of}
@@ -29,7 +30,8 @@ use Rattle.dg_ask.proofs.HeldIndexHistory.{count_is, span_is}
 use Rattle.dg_index.proofs.OpenedLegalHistories.{behind}
 use Rattle.dg_ask.specs.HeldIndex.{events_held, params_held, span_held}
 use Rattle.dg_session.specs.Parts.{Parts}
-use Rattle.dg_session.specs.Session.{StandsFor, WhereBothTold, is_reached, refused_by}
+use Rattle.dg_session.specs.Session.{StandsFor, WhereBothTold, is_reached, is_wide_held, refused_by}
+use Rattle.dg_sound_files.proofs.OpenedIndexRecords.{form_is}
 use Rattle.dg_start.specs.StoredHistory.{KeepsHistory}
 
 -- what an image of the history is opened as, without the names
@@ -166,14 +168,15 @@ is_of p o image m there s =
 
 -- ---- refusals
 
--- the refusals, by the parameters, by how many events and names there are, by the first and the last instant, and by
--- the handles
-abbrev refusals_of : Bool → Limits → Params → ℕ → Option (ℕ × ℕ) → ℕ → List (ℕ × Stands) → ℕ → ℕ → Needs → List Refusal
-refusals_of there limits params events span names table next read n =
+-- the refusals, by the form and the parameters, by how many events and names there are, by the first and the last instant, and
+-- by the handles
+abbrev refusals_of : Bool → Bool → Limits → Params → ℕ → Option (ℕ × ℕ) → ℕ → List (ℕ × Stands) → ℕ → ℕ → Needs → List Refusal
+refusals_of there wide limits params events span names table next read n =
     of n.lines (λ count. when (nat_lt read count) (refusal.ShortBatch read count))
     ++ (when (n.index && not there) refusal.NoIndex
     ++ (of n.parameters (λ p. when there refusal.IndexExists)
-    ++ (of n.parameters (λ p. when (not (are_parameters p.0 p.1)) refusal.Parameters)
+    ++ (when (n.first_form && wide) refusal.NewFormat
+    ++ (of n.parameters (λ p. when (not (are_parameters p.0 p.1 && nat_le p.2 SKEW_MAX)) refusal.Parameters)
     ++ (when (n.unloaded && is_some span) refusal.AlreadyLoaded
     ++ (when (nat_lt 0 n.changes && (nat_lt limits.events (events + n.changes) || nat_lt NAMES_MAX (names + 2 * n.changes))) (refusal.HistoryFull events n.changes)
     ++ (when (list_any (λ t. not (in_range span t)) n.instants) (refusal.OutOfRange span)
@@ -182,7 +185,11 @@ refusals_of there limits params events span names table next read n =
     ++ (of n.unused (λ h. of (dependent_on h table) (λ d. refusal.InUse d ∷ []))
     ++ (of n.node (λ v. when (not (can_be_held params events v)) refusal.UnknownNode)
     ++ (when (nat_lt 0 n.handles && nat_lt LIVE_HANDLES_MAX (length table + n.handles)) (refusal.PoolFull (length table) n.handles)
-    ++ when (nat_lt 0 n.handles && nat_lt (HANDLE_MAX + 1) (next + n.handles)) refusal.HandlesSpent)))))))))))
+    ++ when (nat_lt 0 n.handles && nat_lt (HANDLE_MAX + 1) (next + n.handles)) refusal.HandlesSpent))))))))))))
+
+held_wide : (index : Option History) (image : List ℕ) → StandsAs index image → is_wide_held (option_map opening_of index) ≡ is_wide (history_in index).form
+held_wide None image h = refl
+held_wide (Some z) image h = ap is_wide (form_is z h.legal)
 
 held_params : (index : Option History) (image : List ℕ) → StandsAs index image → params_held (option_map opening_of index) ≡ (history_in index).params
 held_params None image h = refl
@@ -202,6 +209,9 @@ there_is p image m s = ap is_some (are_of m.index p s.kept).index_is ∙ is_ther
 pub events_are : (p : Parts) (image : List ℕ) (m : MachineState) → StandsFor p image m → events_held p.index ≡ length (events_in_index m.index)
 events_are p image m s = ap events_held (are_of m.index p s.kept).index_is ∙ held_events m.index image s.image_stands
 
+pub form_are : (p : Parts) (image : List ℕ) (m : MachineState) → StandsFor p image m → is_wide_held p.index ≡ is_wide (history_in m.index).form
+form_are p image m s = ap is_wide_held (are_of m.index p s.kept).index_is ∙ held_wide m.index image s.image_stands
+
 pub params_are : (p : Parts) (image : List ℕ) (m : MachineState) → StandsFor p image m → params_held p.index ≡ (history_in m.index).params
 params_are p image m s = ap params_held (are_of m.index p s.kept).index_is ∙ held_params m.index image s.image_stands
 
@@ -212,11 +222,12 @@ pub refused_is : (p : Parts) (image : List ℕ) (m : MachineState) (c : Command)
     → refused_by p (length lines) (needs c) ≡ refused m c lines
 refused_is p image m c lines s =
     let there : is_some p.index ≡ is_some m.index = there_is p image m s in
+    let wide : is_wide_held p.index ≡ is_wide (history_in m.index).form = form_are p image m s in
     let params : params_held p.index ≡ (history_in m.index).params = params_are p image m s in
     let events : events_held p.index ≡ length (events_in_index m.index) = events_are p image m s in
     let span : span_held p.index ≡ span_of (events_in_index m.index) = instants_are p image m s in
     let names : length p.names ≡ length (names_in m.index) = ap length (are_of m.index p s.kept).names_are in
-    λ i. earliest (refusals_of (there i) (s.limits i) (params i) (events i) (span i) (names i) (s.table i) (s.next i) (length lines) (needs c))
+    λ i. earliest (refusals_of (there i) (wide i) (s.limits i) (params i) (events i) (span i) (names i) (s.table i) (s.next i) (length lines) (needs c))
 
 -- the first of these does not hold
 pub passes : (b : Bool) (r : Refusal) (rest : List Refusal) → earliest (when b r ++ rest) ≡ None → (b ≡ false) × (earliest rest ≡ None)

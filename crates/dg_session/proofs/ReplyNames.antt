@@ -84,6 +84,7 @@ module _ (n : ℕ) where
   value_names id (element.Node i) h = tt
   value_names id (element.Edge i src dst directed) h = tt
   value_names id (element.EdgeAttr i key value) h = tt
+  value_names id (element.Message src dst value) h = tt
   value_names id (element.NodeAttr i key value) h = by (i == id)
     where
       by : (b : Bool) → IfSome (if b then Some (let v : KeyValue = record { key = key; value = value } in v) else None) (λ v. LineNamesAreThere n (line.Attribute v))

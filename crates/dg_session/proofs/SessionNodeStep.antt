@@ -33,11 +33,13 @@ use Rattle.dg_plan.specs.declared.edge.Edge.{Edge}
 use Rattle.dg_retrieval.specs.declared.fault.RetrievalFault.{RetrievalFault}
 use Rattle.dg_retrieval.specs.declared.node_lead.NodeLead.{NodeLead}
 use Rattle.dg_retrieval.specs.KeptGraph.{index_edges}
-use Rattle.dg_retrieval.specs.NodeSets.{IsIndexOver}
+use Rattle.dg_retrieval.specs.NodeSets.{IsIndexOver, IsLedAlong}
 use Rattle.dg_retrieval.specs.Retrieval.{IsNoDamage}
+use Rattle.dg_handles.specs.Handles.{with_messages}
+use Rattle.dg_session.proofs.NodeLeads.{led_with_messages}
 use Rattle.dg_session.proofs.ReplyNames.{head_names}
 use Rattle.dg_session.proofs.PlanStep.{records_edges_in}
-use Rattle.dg_session.proofs.SessionRetrievals.{handles_taken, if_some, moved_with, reads_failed, retrieval_accepted, z_of}
+use Rattle.dg_session.proofs.SessionRetrievals.{every_some, handles_taken, if_some, moved_with, reads_failed, retrieval_accepted, z_of}
 use Rattle.dg_session.proofs.PartStates.{events_are, events_there, hit, is_of, last_passes, miss, one_image, one_told, params_are, passes}
 use Rattle.dg_ask.specs.HeldIndex.{has_node_held}
 use Rattle.dg_session.specs.Decided.{IsHeadOf}
@@ -145,6 +147,11 @@ node_fails p node cols image h before after refuses late none most =
     → TakesAtMost (weight_told (accepted m (command.Materialise node cols) got plan).reply.head) before after)
     (λ x f m s got plan planned. f m s plan.steps planned) most)
 
+-- what two facts of the image come to, where it is told
+both_some : (o : Option (List ℕ)) (P Q R : List ℕ → Type 0) → ((x : List ℕ) → P x → Q x → R x) → IfSome o P → IfSome o Q → IfSome o R
+both_some None P Q R f p q = tt
+both_some (Some x) P Q R f p q = f x p q
+
 -- ---- what leads to the node
 
 -- what is led to over the index is led to for the machine, where the names are so many
@@ -164,28 +171,35 @@ module _ (p : Parts) (o : Opening) (node : NodeId) (cols : Columns) (told : Opti
   abbrev MostOf : ℕ → ℕ → List Edge → Type 0
   MostOf before after edges = (steps : List ℕ) → IsPlan (arcs_of edges) (Root ∷ []) node steps → TakesAtMost (weight_of (arcs_of edges) steps) before after
 
+  -- the records along the plan, where the image is told
+  led_of : (r : Result NodeLead RetrievalFault) → IfOk r (LeadsToNode names (index_edges o cols false []) o cols node told)
+      → IfSome told (λ image. IfOk r (λ x. IsLedAlong names image o cols (index_edges o cols false []) node x.delta))
+  led_of (Err f) done = every_some told (λ image. Unit {0}) (λ image. tt)
+  led_of (Ok x) done = done.led
+
   pub holds_node_for : (r : Result NodeLead RetrievalFault) (before after : ℕ) → IfOk r (LeadsToNode names (index_edges o cols false []) o cols node told)
       → IfSome told (λ image. (z : History) → IsIndexOver z image o names → LeadsToNodeOver z (index_edges o cols false []) cols node before after r)
       → IfSome told (λ image. (m : MachineState) → StandsFor p image m → HoldsNodeFor m node cols before after r)
   holds_node_for r before after done over =
-      if_some told (λ image. (z : History) → IsIndexOver z image o names → LeadsToNodeOver z (index_edges o cols false []) cols node before after r)
+      both_some told (λ image. IfOk r (λ x. IsLedAlong names image o cols (index_edges o cols false []) node x.delta)) (λ image. (z : History) → IsIndexOver z image o names → LeadsToNodeOver z (index_edges o cols false []) cols node before after r)
       (λ image. (m : MachineState) → StandsFor p image m → HoldsNodeFor m node cols before after r)
-      (λ image f m s.
+      (λ image led f m s.
       let x : LeadsToNodeOver (z_of p o image m there s) (index_edges o cols false []) cols node before after r = f (z_of p o image m there s) (over_index image m s) in
       record {
-        held = held_over r image m s done x.set;
+        held = held_over r image m s done led;
         takes = x.takes;
         most = subst (λ (es : List Edge). MostOf before after es) (records_edges_in p o image m there s cols) x.most;
         never = x.never;
-      }) over
+      }) (led_of r done) over
     where
       held_over : (r : Result NodeLead RetrievalFault) (image : List ℕ) (m : MachineState) (s : StandsFor p image m) → IfOk r (LeadsToNode names (index_edges o cols false []) o cols node told)
-          → IfOk r (λ x. shown (applied x.delta []) cols ≡ shown (set_of (z_of p o image m there s).params (events_of (z_of p o image m there s)) node) cols)
-          → IfOk r (λ x. IsNodeHeld m node cols x.weight (shown (applied x.delta []) cols))
-      held_over (Err f) image m s done set = tt
-      held_over (Ok x) image m s done set = record {
+          → IfOk r (λ x. IsLedAlong names image o cols (index_edges o cols false []) node x.delta)
+          → IfOk r (λ x. IsNodeHeld m node cols x.weight (shown (applied x.delta []) (with_messages cols)))
+      held_over (Err f) image m s done led = tt
+      held_over (Ok x) image m s done led = record {
         plan = subst (λ (es : List Edge). LedBy x.weight es) (records_edges_in p o image m there s cols) done.plan;
-        listed = set ∙ sym (ap (λ (i : Option History). elements (history_in i) (Base node cols)) (is_of p o image m there s).1.index);
+        listed = led_with_messages (z_of p o image m there s) image o names cols node x.delta (over_index image m s) led
+            ∙ sym (ap (λ (i : Option History). elements (history_in i) (Base node cols)) (is_of p o image m there s).1.index);
       }
 
   -- the names that the delta puts in are among those of the session
@@ -199,7 +213,7 @@ module _ (p : Parts) (node : NodeId) (cols : Columns) (told : Option (List ℕ))
   abbrev pub ForNode : Result NodeLead RetrievalFault → Type 0
   ForNode r = IfSome told (λ image. (m : MachineState) → StandsFor p image m → HoldsNodeFor m node cols before after r)
 
-  pub node_held_of : (x : NodeLead) → ForNode (Ok x) → IfSome told (λ image. (m : MachineState) → StandsFor p image m → IsNodeHeld m node cols x.weight (shown (applied x.delta []) cols))
+  pub node_held_of : (x : NodeLead) → ForNode (Ok x) → IfSome told (λ image. (m : MachineState) → StandsFor p image m → IsNodeHeld m node cols x.weight (shown (applied x.delta []) (with_messages cols)))
   node_held_of x over = if_some told (λ image. (m : MachineState) → StandsFor p image m → HoldsNodeFor m node cols before after (Ok x)) _ (λ image f m s. (f m s).held) over
 
   pub node_taken_of : (x : NodeLead) → ForNode (Ok x) → IfSome told (λ image. (m : MachineState) → StandsFor p image m → Takes x.weight before after)

@@ -7,7 +7,7 @@ use Rattle.dg_history.specs.declared.node.Key.{Key}
 use Rattle.dg_history.specs.History.{History}
 use Rattle.dg_index.specs.FileLaws.{ImagesAreOpened}
 use Rattle.dg_index.specs.ImageOfHistory.{StandsAs, is_blank}
-use Rattle.dg_index.specs.ImageText.{params_in}
+use Rattle.dg_index.specs.ImageText.{header_in}
 use Rattle.dg_index.specs.OpenedIndex.{No_index, Opened, Opening, Unopened, opened_by, opened_of, opening}
 use Rattle.dg_machine.specs.declared.limits.Limits.{Limits}
 use Rattle.dg_machine.specs.MachineState.{machine_at}
@@ -67,7 +67,7 @@ begins_determined law checked image (Err (fault.Unsound k c)) (Err (fault.Unsoun
 -- where there is no index, nothing is opened
 not_opened : (image : List ℕ) (x : Opened) → is_blank image ≡ true → opening image ≡ Ok x → ⊥
 not_opened image x blank e =
-    let none : opening image ≡ Err No_index = ap (λ b. cond b (Err No_index) (opened_by image (params_in image))) blank in
+    let none : opening image ≡ Err No_index = ap (λ b. cond b (Err No_index) (opened_by image (header_in image))) blank in
     let same : ◌≡◌ {A = Result Opened Unopened} (Err No_index) (Ok x) = sym none ∙ e in cc
 
 -- ---- the beginning

@@ -1,9 +1,10 @@
 -- How a step comes from what is refused, for every command alike.
-use Rattle.std.proofs.Common.{◌≡◌, inl, inr, ℕ, ◌+◌, ◌++◌, nat_lt, Bool, true, false, List, [], Option, Some, None, Result, Ok, Err, length, refl, sym, ◌∙◌, ap, subst, ◌∷◌}
+use Rattle.std.proofs.Common.{◌≡◌, inl, inr, ℕ, ◌+◌, ◌++◌, nat_le, nat_lt, Bool, true, false, List, [], Option, Some, None, Result, Ok, Err, length, refl, sym, ◌∙◌, ap, subst, ◌∷◌}
 use Rattle.std.specs.Prelude.{IfSome, ◌⊎◌, not, is_some, ◌||◌, ◌&&◌, IsErr, IsErrAnd}
 use Rattle.std.specs.List.{list_any}
 use Rattle.std.proofs.lemmas.Bool.{false≢true}
 use Rattle.std.proofs.lemmas.Option.{none-some}
+use Rattle.dg_graph.specs.declared.limits.TheConstants.{SKEW_MAX}
 use Rattle.dg_text.specs.Lines.{ScriptLine}
 use Rattle.dg_machine.specs.declared.command.Command.{Command}
 use Rattle.dg_machine.specs.declared.reply.Head.{Head}
@@ -30,7 +31,7 @@ use Rattle.dg_batch.specs.declared.halt.Halt.{Halt}
 use Rattle.dg_batch.specs.declared.halt.Halt.TheVariants as halt
 use Rattle.dg_batch.specs.declared.stop.Stop.TheVariants as stop
 use Rattle.dg_session.specs.Decided.{IsHeadOf}
-use Rattle.dg_session.specs.Session.{Accepts, ComesTo, Decides, Denies, IsDecided, LeavesAnswered, LeavesCommand, MayRead, Moves, StandsFor, Steps, TakesLines, WhereBothTold, is_of_read, is_too_full, refused_by}
+use Rattle.dg_session.specs.Session.{Accepts, ComesTo, Decides, Denies, IsDecided, LeavesAnswered, LeavesCommand, MayRead, Moves, StandsFor, Steps, TakesLines, WhereBothTold, is_of_read, is_too_full, is_wide_held, refused_by}
 
 -- ---- of the machine
 
@@ -131,7 +132,8 @@ never_read p read n =
     of_not_read n.lines (λ count. nat_lt read count) (λ count. refusal.ShortBatch read count) _ (λ count. refl)
     (when_not_read (n.index && not (is_some p.index)) refusal.NoIndex _ refl
     (of_not_read n.parameters (λ x. is_some p.index) (λ x. refusal.IndexExists) _ (λ x. refl)
-    (of_not_read n.parameters (λ x. not (are_parameters x.0 x.1)) (λ x. refusal.Parameters) _ (λ x. refl)
+    (when_not_read (n.first_form && is_wide_held p.index) refusal.NewFormat _ refl
+    (of_not_read n.parameters (λ x. not (are_parameters x.0 x.1 && nat_le x.2 SKEW_MAX)) (λ x. refusal.Parameters) _ (λ x. refl)
     (when_not_read (n.unloaded && is_some (span_held p.index)) refusal.AlreadyLoaded _ refl
     (when_not_read (nat_lt 0 n.changes && is_too_full p n.changes) (refusal.HistoryFull (events_held p.index) n.changes) _ refl
     (when_not_read (list_any (λ t. not (in_range (span_held p.index) t)) n.instants) (refusal.OutOfRange (span_held p.index)) _ refl
@@ -140,7 +142,7 @@ never_read p read n =
     (used_not_read n.unused (λ h. dependent_on h p.table) _
     (of_not_read n.node (λ v. not (has_node_held p.index v)) (λ v. refusal.UnknownNode) _ (λ v. refl)
     (when_not_read (nat_lt 0 n.handles && nat_lt LIVE_HANDLES_MAX (length p.table + n.handles)) (refusal.PoolFull (length p.table) n.handles) _ refl
-    (last_not_read (nat_lt 0 n.handles && nat_lt (HANDLE_MAX + 1) (p.next + n.handles)) refusal.HandlesSpent refl))))))))))))
+    (last_not_read (nat_lt 0 n.handles && nat_lt (HANDLE_MAX + 1) (p.next + n.handles)) refusal.HandlesSpent refl)))))))))))))
 
 pub refused_not_read : (p : Parts) (read : ℕ) (n : Needs) (r : Refusal) → refused_by p read n ≡ Some r → is_of_read r ≡ false
 refused_not_read p read n r is = subst IsNotOfRead is (never_read p read n)
@@ -288,6 +290,7 @@ first_decided c got old h (Some x) r is (inr (inr (lacks, followed))) = inr (fol
 refuses_so : (h : Head) (r : Refusal) → refusal_of h ≡ Some r → h ≡ head.Refused r
 refuses_so (head.Refused x) r is = cc
 refuses_so head.Created r is = absurd (none-some r is)
+refuses_so head.Upgraded r is = absurd (none-some r is)
 refuses_so (head.Loaded events total last) r is = absurd (none-some r is)
 refuses_so (head.Appended events total last) r is = absurd (none-some r is)
 refuses_so (head.At handle weight) r is = absurd (none-some r is)

@@ -11,11 +11,11 @@ use Rattle.dg_machine.specs.declared.reply.Refusal.{Refusal}
 use Rattle.dg_machine.specs.declared.reply.Refusal.TheVariants as refusal
 use Rattle.dg_machine.specs.Needs.{Needs}
 
--- The refusal may come of something else than what the session keeps, where a command needs this: of changes or of the file
--- where a batch is added, of records where they are read, and of memory where it is taken.
+-- The refusal may come of something else than what the session keeps, where a command needs this: of changes where a batch is
+-- added, of the file where it grows, of records where they are read, and of memory where it is taken.
 abbrev pub is_late : Needs → Refusal → Bool
 is_late n (refusal.BadChange line reason) = n.reads && n.writes
-is_late n (refusal.FileFull needed limit) = n.reads && n.writes
+is_late n (refusal.FileFull needed limit) = n.index && n.writes
 is_late n refusal.StoreRead = n.reads
 is_late n (refusal.Damaged key column) = n.reads
 is_late n refusal.OutOfMemory = n.memory
@@ -33,6 +33,8 @@ IsHeadOfQuery q handle h = ⊥
 -- the first line of a reply to this command, where it is not refused
 abbrev pub IsHeadOf : Command → Head → Type 0
 IsHeadOf (command.Create l k function) head.Created = Unit {0}
+IsHeadOf (command.CreateSkewed l k r) head.Created = Unit {0}
+IsHeadOf command.Upgrade head.Upgraded = Unit {0}
 IsHeadOf (command.Load count) (head.Loaded events total last) = Unit {0}
 IsHeadOf (command.Append count) (head.Appended events total last) = Unit {0}
 IsHeadOf (command.At t cols) (head.At handle weight) = Unit {0}

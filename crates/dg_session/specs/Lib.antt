@@ -8,6 +8,8 @@ pub mod ReplyNames
 pub mod Crashes
 pub mod Session
 pub mod BatchCommand
+pub mod CreationCommand
+pub mod Upgrade
 pub mod BatchReads
 pub mod Reads
 pub mod Damage

@@ -7,7 +7,7 @@ use Rattle.dg_graph.specs.declared.element.Element.{Element}
 use Rattle.dg_graph.specs.Composition.{applied}
 use Rattle.dg_graph.specs.Elements.{shown}
 use Rattle.dg_text.specs.Lines.{ScriptLine}
-use Rattle.dg_handles.specs.Handles.{BeginsOn, held_by, numbered, overlays_on}
+use Rattle.dg_handles.specs.Handles.{BeginsOn, held_by, numbered, overlays_on, with_messages}
 use Rattle.dg_history.specs.declared.node.NodeId.{NodeId}
 use Rattle.dg_history.specs.declared.node.NodeId.TheVariants.{Root}
 use Rattle.dg_machine.specs.declared.command.Command.{Command}
@@ -82,9 +82,9 @@ pub record HasRetrieved (p : Parts) (times : List ℕ) (cols : Columns) (r : Ret
   pub sum : r.sum ≡ sum r.singles.items
   pub named : All (λ (l : GraphLead). NamesAreThere (length p.names) l.delta.plus) (leads_in r.leads)
 
--- The same of the set of a node, by its least plan over the records.
+-- The same of the set of a node, by its least plan over the records. What is led to has no message beside it.
 pub record HoldsNodeFor (m : MachineState) (node : NodeId) (cols : Columns) (before after : ℕ) (r : Result NodeLead RetrievalFault) : Type 0 where
-  pub held : IfOk r (λ x. IsNodeHeld m node cols x.weight (shown (applied x.delta []) cols))
+  pub held : IfOk r (λ x. IsNodeHeld m node cols x.weight (shown (applied x.delta []) (with_messages cols)))
   pub takes : IfOk r (λ x. Takes x.weight before after)
   pub most : (steps : List ℕ) → IsPlan (arcs_of (record_edges_in m cols)) (Root ∷ []) node steps → TakesAtMost (weight_of (arcs_of (record_edges_in m cols)) steps) before after
   pub never : IfErr r IsNoDamage

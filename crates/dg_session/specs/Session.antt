@@ -1,13 +1,15 @@
 -- How the steps of a session are steps of the machine.
-use Rattle.std.specs.Prelude.{◌≡◌, ◌⊎◌, ℕ, ◌+◌, ◌*◌, Bool, true, false, ◌&&◌, ◌||◌, not, List, [], ◌∷◌, ◌++◌, Option, Some, None, Result, Ok, Err, IfSome, is_some, length, nat_lt}
+use Rattle.std.specs.Prelude.{◌≡◌, ◌⊎◌, ℕ, ◌+◌, ◌*◌, Bool, true, false, ◌&&◌, ◌||◌, not, List, [], ◌∷◌, ◌++◌, Option, Some, None, Result, Ok, Err, IfSome, is_some, length, nat_le, nat_lt}
 use Rattle.std.specs.List.{All, list_any}
 use Rattle.dg_graph.specs.declared.element.Column.{Column}
+use Rattle.dg_graph.specs.declared.limits.TheConstants.{SKEW_MAX}
 use Rattle.dg_text.specs.declared.limits.TheConstants.{NAMES_MAX}
 use Rattle.dg_text.specs.Lines.{ScriptLine}
 use Rattle.dg_history.specs.declared.node.Key.{Key}
 use Rattle.dg_history.specs.declared.node.NodeId.{NodeId}
-use Rattle.dg_history.specs.History.{History, are_parameters, events_of, span_of, in_range}
+use Rattle.dg_history.specs.History.{History, are_parameters, events_of, span_of, in_range, is_wide}
 use Rattle.dg_index.specs.ImageOfHistory.{StandsAs}
+use Rattle.dg_index.specs.OpenedIndex.{Opening}
 use Rattle.dg_machine.specs.declared.command.Command.{Command}
 use Rattle.dg_machine.specs.declared.limits.TheConstants.{HANDLE_MAX, LIVE_HANDLES_MAX}
 use Rattle.dg_machine.specs.declared.reply.Head.{Head}
@@ -80,6 +82,11 @@ LeavesAnswered command got old reply before left =
     ⊎ ((k : MachineState) × Step m (Asked command got) reply k × StandsAs k.index left)
     ⊎ ((is_created reply.head ≡ true) × (m.index ≡ None) × IsFirstByte before left)
 
+-- the file goes on in the second form; without an index it would be made in that
+abbrev pub is_wide_held : Option Opening → Bool
+is_wide_held None = true
+is_wide_held (Some o) = is_wide o.form
+
 -- so many more events, or the names that so many lines may bring, are too many
 abbrev pub is_too_full : Parts → ℕ → Bool
 is_too_full p count = nat_lt p.limits.events (events_held p.index + count) || nat_lt NAMES_MAX (length p.names + 2 * count)
@@ -90,7 +97,8 @@ refusals_by there p read n =
     of n.lines (λ count. when (nat_lt read count) (refusal.ShortBatch read count))
     ++ (when (n.index && not there) refusal.NoIndex
     ++ (of n.parameters (λ p. when there refusal.IndexExists)
-    ++ (of n.parameters (λ p. when (not (are_parameters p.0 p.1)) refusal.Parameters)
+    ++ (when (n.first_form && is_wide_held p.index) refusal.NewFormat
+    ++ (of n.parameters (λ p. when (not (are_parameters p.0 p.1 && nat_le p.2 SKEW_MAX)) refusal.Parameters)
     ++ (when (n.unloaded && is_some (span_held p.index)) refusal.AlreadyLoaded
     ++ (when (nat_lt 0 n.changes && is_too_full p n.changes) (refusal.HistoryFull (events_held p.index) n.changes)
     ++ (when (list_any (λ t. not (in_range (span_held p.index) t)) n.instants) (refusal.OutOfRange (span_held p.index))
@@ -99,7 +107,7 @@ refusals_by there p read n =
     ++ (of n.unused (λ h. of (dependent_on h p.table) (λ d. refusal.InUse d ∷ []))
     ++ (of n.node (λ v. when (not (has_node_held p.index v)) refusal.UnknownNode)
     ++ (when (nat_lt 0 n.handles && nat_lt LIVE_HANDLES_MAX (length p.table + n.handles)) (refusal.PoolFull (length p.table) n.handles)
-    ++ when (nat_lt 0 n.handles && nat_lt (HANDLE_MAX + 1) (p.next + n.handles)) refusal.HandlesSpent)))))))))))
+    ++ when (nat_lt 0 n.handles && nat_lt (HANDLE_MAX + 1) (p.next + n.handles)) refusal.HandlesSpent))))))))))))
 
 -- the first of them that holds
 abbrev pub refused_by : Parts → ℕ → Needs → Option Refusal

@@ -4,6 +4,7 @@
 #![tactic(auto)]
 
 mod batch_command;
+mod creation_command;
 mod laws;
 mod retrieval;
 mod session;

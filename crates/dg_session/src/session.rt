@@ -31,15 +31,16 @@ mod opening;
 mod plans;
 mod queries;
 mod retrievals;
+mod upgrades;
 mod verification;
 
 use crate::batch_command::BatchCommand;
+use crate::creation_command::AskedFunction;
 use crate::session_fault::SessionFault;
 use dg_ask::{KeptPlanner, span};
 use dg_batch::{Halt, Held, Stop};
 use dg_disk::Disk;
 use dg_file::Index;
-use dg_history::Params;
 use dg_index::law_images_are_opened;
 use dg_io::{Lines, Source};
 use dg_machine::{BodyLines, Command, Head, Limits, Refusal, Reply};
@@ -172,9 +173,9 @@ impl Session {
     ///
     /// `Stop::Read` where a read of the source failed, `Stop::Limit` where another byte is needed and
     /// as many as the limit allows were taken: the session is then as it was. `Stop::Store` where the
-    /// disk failed while an index was made or a batch was added, which a command that is refused does
-    /// not come to: the image is then as before the command or as after it, and the session may have no
-    /// index.
+    /// disk failed while an index was made, a batch was added or the file was upgraded, which a command that
+    /// is refused does not come to: the image is then as before the command or as after it, and the session
+    /// may have no index.
     ///
     /// Where what the disk held was on the device, what it holds after a reply is too, and a crash at any moment of the
     /// step leaves the history before the command or the one after it. There is one exception: while an index is made
@@ -231,7 +232,11 @@ impl Session {
         ensures disk { UsesDisk D.Disk disk.old disk.new }
     {
         match *command {
-            Command::Create { l, k, function } => self.create(disk, Params { l, k, function }),
+            Command::Create { l, k, function } => {
+                self.create(disk, l, k, AskedFunction::Named(function))
+            }
+            Command::CreateSkewed { l, k, r } => self.create(disk, l, k, AskedFunction::Share(r)),
+            Command::Upgrade => self.upgrade(disk),
             Command::Load { count } => self.add(rt, BatchCommand::Load, count, lines, source, disk),
             Command::Append { count } => self.add(
                 rt,

@@ -173,7 +173,7 @@ const SCRIPT: &[u8] =
     b"create 2 2 intersection\nload 5\n10 +node 1\n20 +node 2\n30 +edge 5 1 2 dir\n40 nset 1 name A\n50 -edge 5\nat 10 s\nlist 1\n";
 
 // The last byte of the id of the node that the first event adds, in the first list of the file.
-const BYTE_OF_FIRST_NODE: u64 = 277;
+const BYTE_OF_FIRST_NODE: u64 = 325;
 
 // The replies where that byte is 9 when the instant is asked for.
 const REPLIES: &[u8] =

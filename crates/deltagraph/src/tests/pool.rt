@@ -27,6 +27,7 @@ const EVENTS: [Event; 2] = [
 const ALL_COLUMNS: Columns = Columns {
     nodes_attr: true,
     edges_attr: true,
+    transient: true,
 };
 
 // The most slots that are live at once.

@@ -233,7 +233,7 @@ fn the_limit_ends_a_run_where_another_byte_is_needed(rt: HostRuntime) -> Result<
     Ok(())
 }
 
-// A script that makes an index file of 217 bytes, and its replies.
+// A script that makes an index file of 233 bytes, and its replies.
 const FIRST: &[u8] =
     b"create 2 2 intersection\nload 3\n10 +node 1\n20 +node 2\n30 +edge 5 1 2 dir\n";
 
@@ -242,8 +242,8 @@ const FIRST_REPLIES: &[u8] = b"ok create\nend\nok load 3 3 30\nend\n";
 #[test]
 fn an_index_file_has_as_many_bytes_as_the_limit(rt: HostRuntime) -> Result<(), Fail> {
     let cases: [(u32, &[u8]); 2] = [
-        (217, FIRST_REPLIES),
-        (216, b"ok create\nend\nrefused 13 file-full 217 216\nend\n"),
+        (233, FIRST_REPLIES),
+        (232, b"ok create\nend\nrefused 13 file-full 233 232\nend\n"),
     ];
     for (limit, replies) in cases {
         let limits = within(NO_LIMIT, limit);
@@ -256,7 +256,7 @@ fn an_index_file_has_as_many_bytes_as_the_limit(rt: HostRuntime) -> Result<(), F
             &NO_FAULTS,
             Status::Done,
             replies,
-            "a file of 217 bytes",
+            "a file of 233 bytes",
         )?;
     }
     Ok(())
@@ -435,7 +435,7 @@ fn each_status_has_its_code_and_its_line(rt: HostRuntime) {
     is_refusal(&rt, SessionFault::Unsound(Key::List(1), Column::Structure));
 }
 
-// A script that makes an index file of 496 bytes.
+// A script that makes an index file of 544 bytes.
 const FIVE: &[u8] =
     b"create 2 2 intersection\nload 5\n10 +node 1\n20 +node 2\n30 +edge 5 1 2 dir\n40 nset 1 name A\n50 -edge 5\n";
 
@@ -447,7 +447,7 @@ const QUESTIONS_REPLIES: &[u8] =
 
 // The last byte of its first list, by which node 2 is added. With node 3 in its place the first event of the second list
 // adds an edge that lacks an end. A start reads neither list.
-const BYTE_OF_FIRST_LIST: usize = 296;
+const BYTE_OF_FIRST_LIST: usize = 344;
 
 // A run by these words of the script over this file, within the standard limits.
 fn asks<R: Threads + Sync>(
@@ -505,7 +505,7 @@ fn is_checked<R: Threads + Sync + Abort>(
     checked: &[String],
 ) -> Result<(), AllocError> {
     let mut made = asks(rt, alloc, plain, NO_FILE, FIVE)?;
-    assert_eq!(rt; made.image.len(), 496);
+    assert_eq!(rt; made.image.len(), 544);
     takes(rt, alloc, checked, &made.image)?;
     made.image[BYTE_OF_FIRST_LIST] = 3;
     let ran = asks(rt, alloc, plain, &made.image, b"")?;
@@ -535,5 +535,137 @@ fn a_file_is_checked_where_a_word_says_so(rt: HostRuntime) -> Result<(), Fail> {
         &plain,
         &two_words(alloc, "history", "--checked")?,
     )?;
+    Ok(())
+}
+
+#[test]
+fn a_file_of_the_second_form_has_room_for_a_batch_or_not(rt: HostRuntime) -> Result<(), Fail> {
+    let cases: [(u32, &[u8]); 2] = [
+        (
+            736,
+            b"ok create\nend\nok load 5 5 50\nend\nok append 1 6 60\nend\n",
+        ),
+        (
+            550,
+            b"ok create\nend\nok load 5 5 50\nend\nrefused 13 file-full 736 550\nend\n",
+        ),
+    ];
+    for (limit, replies) in cases {
+        let mut script = Vec::from_slice(rt.alloc(), FIVE)?;
+        script.extend_from_slice(SIXTH)?;
+        ends(
+            &rt,
+            rt.alloc(),
+            &script,
+            WHOLE,
+            within(NO_LIMIT, limit),
+            &NO_FAULTS,
+            Status::Done,
+            replies,
+            "a file of 736 bytes",
+        )?;
+    }
+    Ok(())
+}
+
+#[test]
+fn a_share_above_the_whole_is_refused(rt: HostRuntime) -> Result<(), Fail> {
+    ends(
+        &rt,
+        rt.alloc(),
+        b"create 2 2 skewed 300\ncreate 2 2 skewed 256\nupgrade\n",
+        WHOLE,
+        Limits::standard(),
+        &NO_FAULTS,
+        Status::Done,
+        b"refused 4 parameters\nend\nok create\nend\nrefused 21 new-format\nend\n",
+        "shares of 300 and of 256",
+    )?;
+    Ok(())
+}
+
+// The next change of the history of five events.
+const SIXTH: &[u8] = b"append 1\n60 +node 9\n";
+
+// The file of the five events in the first form, a field or a row of docs/FORMATS.md on each line.
+const FIRST_FORM: &[u8] = b"\x01DGRAPH1\0\0\0\x02\0\0\0\x02\x01\x01\
+      \0\0\0\0\0\0\0\xdd\0\0\0\0\0\0\0\xf0\
+      \0\0\0\0\0\0\0\x05\0\0\0\0\0\0\0\x0a\0\0\0\0\0\0\02\
+      \0\0\0\x02\0\x04name\0\x01A\
+      \0\0\0\x02\
+      \0\0\0\0\0\0\0\x0a\0\0\0\0\0\0\0\x14\0\0\0\0\0\0\0*\0\0\0\0\0\0\0\0\0\0\0\0\0\0\0\0\
+      \0\0\0\0\0\0\0\x1e\0\0\0\0\0\0\0(\0\0\0\0\0\0\0(\0\0\0\0\0\0\0\x22\0\0\0\0\0\0\0\0\
+      \0\0\0\x03\
+      \0\0\0\0\0\0\0\x1a\0\0\0\0\0\0\0\0\0\0\0\0\0\0\0\0\
+      \0\0\0\0\0\0\0\0\0\0\0\0\0\0\0\0\0\0\0\0\0\0\0\0\
+      \0\0\0\0\0\0\0\x22\0\0\0\0\0\0\0\x18\0\0\0\0\0\0\0\0\
+      \0\0\0\0\0\0\0(\0\0\0\0\0\0\0\0\0\0\0\0\0\0\0\0\
+      \0\0\0\x02\0\0\0\0\0\0\0\0\0\x0a\x01\0\0\0\0\0\0\0\x01\0\x01\0\0\0\0\0\0\0\x14\x01\0\0\0\0\0\0\0\x02\
+      \0\0\0\x01\0\0\0\0\0\0\0\0\0\x1e\x03\0\0\0\0\0\0\0\x05\0\0\0\0\0\0\0\x01\0\0\0\0\0\0\0\x02\x01\
+      \0\0\0\x01\0\x01\0\0\0\0\0\0\0(\0\0\0\0\0\0\0\x01\0\0\0\0\0\0\0\0\0\0\0\x02\
+      \0\0\0\0\0\0\0\x02\x01\0\0\0\0\0\0\0\x01\x01\0\0\0\0\0\0\0\x02\
+      \0\0\0\0\0\0\0\x01\x02\0\0\0\0\0\0\0\x05\0\0\0\0\0\0\0\x01\0\0\0\0\0\0\0\x02\x01\
+      \0\0\0\0\0\0\0\x01\0\0\0\0\0\0\0\x01\0\0\0\0\0\0\0\x01\
+      \0\0\0\x01\0\0\0\0\0\0\0\0\02\x04\0\0\0\0\0\0\0\x05\0\0\0\0\0\0\0\x01\0\0\0\0\0\0\0\x02\x01\
+      \0";
+
+// A script over the file of the first form, the bytes that the file may have, the replies, and how many bytes it then has.
+struct Upgrade {
+    shows: &'static str,
+    script: &'static [u8],
+    limit: u32,
+    replies: &'static [u8],
+    bytes: usize,
+}
+
+const UPGRADES: [Upgrade; 4] = [
+    Upgrade {
+        shows: "a batch in the first form",
+        script: SIXTH,
+        limit: 672,
+        replies: b"ok append 1 6 60\nend\n",
+        bytes: 672,
+    },
+    Upgrade {
+        shows: "a marker",
+        script: b"upgrade\n",
+        limit: 521,
+        replies: b"ok upgrade\nend\n",
+        bytes: 521,
+    },
+    Upgrade {
+        shows: "no room for the marker",
+        script: b"upgrade\n",
+        limit: 520,
+        replies: b"refused 13 file-full 521 520\nend\n",
+        bytes: 496,
+    },
+    Upgrade {
+        shows: "a batch behind the marker",
+        script: b"upgrade\nupgrade\nappend 1\n60 +node 9\nverify\n",
+        limit: 713,
+        replies: b"ok upgrade\nend\nrefused 21 new-format\nend\nok append 1 6 60\nend\nok verify sound 6\nend\n",
+        bytes: 713,
+    },
+];
+
+#[test]
+fn a_file_of_the_first_form_goes_on_in_it_or_is_upgraded(rt: HostRuntime) -> Result<(), Fail> {
+    let words = ["history".to_string(rt.alloc())?];
+    for case in UPGRADES.iter() {
+        let limits = within(NO_LIMIT, case.limit);
+        let ran = run_by(
+            &rt,
+            rt.alloc(),
+            &words,
+            FIRST_FORM,
+            case.script,
+            WHOLE,
+            limits,
+            &NO_FAULTS,
+        )?;
+        has_ended(&rt, &ran, Status::Done, case.replies, case.shows);
+        assert_eq!(rt; ran.image.len(), case.bytes, "{}", case.shows);
+    }
     Ok(())
 }

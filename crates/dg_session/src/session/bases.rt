@@ -4,6 +4,7 @@ ghost use Rattle.std.specs.Prelude.{◌≡◌, ◌+◌, ◌<◌, IfSome, IsErrOf
 ghost use Rattle.dg_disk.specs.Calls.{Fails, ReadsDisk};
 ghost use Rattle.dg_graph.specs.Composition.{applied};
 ghost use Rattle.dg_graph.specs.Elements.{shown};
+ghost use Rattle.dg_handles.specs.Handles.{with_messages};
 ghost use Rattle.dg_machine.specs.declared.limits.TheConstants.{HANDLE_MAX, LIVE_HANDLES_MAX};
 ghost use Rattle.dg_machine.specs.Answer.{headed};
 ghost use Rattle.dg_machine.specs.declared.stands.Stands.TheVariants as Stands;
@@ -87,7 +88,8 @@ impl Session {
         )
     }
 
-    // A new handle that holds what the delta leads to from nothing: the set of the node in these columns.
+    // A new handle that holds what the delta leads to from nothing: the set of the node in these columns, and its messages,
+    // of which a set of a node has none.
     pub(super) fn add_base(
         &mut self,
         node: NodeId,
@@ -96,7 +98,7 @@ impl Session {
     ) -> Result<(), AllocError>
         requires free { refused_by self.old.parts 0 (node_needs node) ≡ None }
         requires named { NamesAreThere (length self.old.parts.names) delta.now.plus }
-        ensures added { OnOk result (self.new.parts ≡ with_new_handles self.old.parts (Stands.Base node cols ∷ []) (shown (applied delta.now []) cols ∷ [])) }
+        ensures added { OnOk result (self.new.parts ≡ with_new_handles self.old.parts (Stands.Base node cols ∷ []) (shown (applied delta.now []) (with_messages cols) ∷ [])) }
         ensures err { OnErr result (self.new.parts ≡ self.old.parts) }
     {
         self.planner.forget();

@@ -1,6 +1,6 @@
 //! Commands that write: an index is made, a batch is added.
 
-ghost use Rattle.std.specs.Prelude.{◌≡◌, ◌+◌, ◌<◌, ◌≤◌, IsErrOf, List, [], Ok, Err, Option, None, Some};
+ghost use Rattle.std.specs.Prelude.{◌≡◌, ◌+◌, ◌<◌, ◌≤◌, IsErrOf, List, [], Ok, Err, Option, None, Some, false, is_some};
 ghost use Rattle.dg_append.specs.Faults.{OnlyReadFailed};
 ghost use Rattle.dg_disk.specs.Calls.{FailsToWrite, LeftByCrash};
 ghost use Rattle.dg_io.specs.Calls.{TakesFrom};
@@ -12,16 +12,18 @@ ghost use Rattle.dg_machine.specs.Answer.{headed};
 ghost use Rattle.dg_machine.specs.Needs.{needs};
 ghost use Rattle.dg_session.specs.Calls.{HaltsByCause, ReadsFile, TreatsDisk};
 ghost use Rattle.dg_session.specs.BatchCommand.{barred, command_with};
+ghost use Rattle.dg_session.specs.CreationCommand.{making};
 ghost use Rattle.dg_session.specs.Reads.{ReadsIn};
 ghost use Rattle.dg_session.specs.Session.{ComesTo, HoldsImage, LeavesCommand, TakesLines, is_too_full, refused_by};
 
 use super::{Session, headed};
 use crate::batch_command::BatchCommand;
+use crate::creation_command::AskedFunction;
 use dg_ask::span;
 use dg_batch::{Halt, Stop, add_changes, generated_batch, read_batch};
 use dg_disk::Disk;
 use dg_file::Index;
-use dg_history::{Params, are_parameters};
+use dg_history::{Form, Params, are_parameters, is_function};
 use dg_io::{Lines, Source};
 use dg_machine::{Command, Head, Refusal, Reply};
 use dg_text::NAMES_MAX;
@@ -32,24 +34,35 @@ const NAMES_OF_A_LINE: u32 = 2;
 
 impl Session {
     // Why no index with these parameters is made.
-    pub(super) fn refused_creation(&self, params: Params) -> Option<Refusal>
-        ensures { result ≡ refused_by self.now.parts 0 (needs (Command.Create params.l params.k params.function)) }
+    pub(super) fn refused_creation(&self, l: u32, k: u32, asked: AskedFunction) -> Option<Refusal>
+        ensures first { result ≡ refused_by self.now.parts 0 (needs (making l k asked)) }
+        ensures free { result ≡ None → is_some self.now.parts.index ≡ false }
     {
         if self.has_index() {
             return Some(Refusal::IndexExists);
         }
-        if !are_parameters(params) {
+        if !asked.is_in_range() {
+            return Some(Refusal::Parameters);
+        }
+        let function = asked.function();
+        if !are_parameters(Params { l, k, function }) {
             return Some(Refusal::Parameters);
         }
         None
     }
 
     // An empty index with these parameters.
-    pub(super) fn create<D: Disk>(&mut self, disk: &mut D, params: Params) -> Result<Reply, Halt>
+    pub(super) fn create<D: Disk>(
+        &mut self,
+        disk: &mut D,
+        l: u32,
+        k: u32,
+        asked: AskedFunction,
+    ) -> Result<Reply, Halt>
         requires image { HoldsImage self.old.parts (D.image disk.old) }
 
         // what it comes to
-        ensures comes { ComesTo (Command.Create params.l params.k params.function) [] self.old.parts (D.image disk.old) self.new.parts (D.image disk.new) result }
+        ensures comes { ComesTo (making l k asked) [] self.old.parts (D.image disk.old) self.new.parts (D.image disk.new) result }
 
         // why it stops
         ensures store { IsErrOf result (Halt.Stop Stop.Store) → FailsToWrite D.Disk disk.old disk.new }
@@ -57,14 +70,20 @@ impl Session {
         ensures no_limit { IsErrOf result (Halt.Stop Stop.Limit) → ⊥ }
 
         // what it reads and leaves, and what a crash leaves
-        ensures reads { ReadsIn (Command.Create params.l params.k params.function) self.old.parts (D.image disk.old) result (D.taken disk.old) (D.taken disk.new) }
+        ensures reads { ReadsIn (making l k asked) self.old.parts (D.image disk.old) result (D.taken disk.old) (D.taken disk.new) }
         ensures disk { TreatsDisk D.Disk disk.old disk.new result }
-        ensures crash { LeftByCrash D.Disk disk.old disk.new (LeavesCommand (Command.Create params.l params.k params.function) [] self.old.parts result) }
+        ensures crash { LeftByCrash D.Disk disk.old disk.new (LeavesCommand (making l k asked) [] self.old.parts result) }
     {
-        if let Some(refusal) = self.refused_creation(params) {
+        if let Some(refusal) = self.refused_creation(l, k, asked) {
             return Err(Halt::Refusal(refusal));
         }
-        let index = Index::create(self.alloc, disk, params)?;
+        let function = asked.function();
+        // No line names such a function.
+        if !is_function(function) {
+            return Err(Halt::Refusal(Refusal::OutOfMemory));
+        }
+        let params = Params { l, k, function };
+        let index = Index::create(self.alloc, disk, Form::Two, params)?;
         self.planner.forget();
         self.held.live.history.index = Some(index);
         Ok(headed(self.alloc, Head::Created))

@@ -5,7 +5,7 @@ use Rattle.dg_graph.specs.Composition.{applied}
 use Rattle.dg_retrieval.specs.NamesThere.{NamesAreThere}
 use Rattle.dg_session.proofs.GraphNames.{there_after, there_base}
 use Rattle.dg_graph.specs.Elements.{shown}
-use Rattle.dg_handles.specs.Handles.{slot_graphs}
+use Rattle.dg_handles.specs.Handles.{slot_graphs, with_messages}
 use Rattle.dg_machine.specs.declared.stands.Stands.TheVariants.{Base}
 use Rattle.dg_pool.specs.Graphs.{graph_now}
 use Rattle.dg_ask.specs.KeptAdjacency.{KeepsAdjacency}
@@ -36,11 +36,11 @@ invariant_of-self c =
         handles = record {
           tied = r.ensures.tied;
           nodes = node_after r.result view.index s.held.handles r.new.self node cols r.ensures.table r.ensures.err free.0 free.1 c.self.invariant.1.handles.nodes;
-          adjacency = adjacency_after r.result s.held.handles r.new.self pool r.new.pool ((s.held.handles.next, Base node cols) ∷ []) (shown (applied c.args.delta.now []) cols ∷ []) s.held.adjacency
+          adjacency = adjacency_after r.result s.held.handles r.new.self pool r.new.pool ((s.held.handles.next, Base node cols) ∷ []) (shown (applied c.args.delta.now []) (with_messages cols) ∷ []) s.held.adjacency
               r.ensures.table r.ensures.graphs r.ensures.err r.ensures.graphs_err (subst (λ p. KeepsAdjacency s.held.handles.table (slot_graphs p s.held.handles.slots) s.held.adjacency) (sym here) c.self.invariant.1.handles.adjacency);
-          named = there_after n r.result s.held.handles r.new.self pool r.new.pool (shown (applied c.args.delta.now []) cols ∷ []) r.ensures.graphs r.ensures.err r.ensures.graphs_err
+          named = there_after n r.result s.held.handles r.new.self pool r.new.pool (shown (applied c.args.delta.now []) (with_messages cols) ∷ []) r.ensures.graphs r.ensures.err r.ensures.graphs_err
               (subst (λ p. All (NamesAreThere n) (slot_graphs p s.held.handles.slots)) (sym here) c.self.invariant.1.handles.named)
-              (All-cons (NamesAreThere n) (shown (applied c.args.delta.now []) cols) [] (there_base n c.args.delta.now cols (subst (λ (x : SessionState). NamesAreThere (length x.parts.names) c.args.delta.now.plus) (sym c.self.view_is) c.requires.named))
+              (All-cons (NamesAreThere n) (shown (applied c.args.delta.now []) (with_messages cols)) [] (there_base n c.args.delta.now (with_messages cols) (subst (λ (x : SessionState). NamesAreThere (length x.parts.names) c.args.delta.now.plus) (sym c.self.view_is) c.requires.named))
               (All-nil (NamesAreThere n)));
         };
       },

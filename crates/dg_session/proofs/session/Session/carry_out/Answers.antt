@@ -8,8 +8,7 @@ use Rattle.dg_machine.specs.declared.command.Command.TheVariants as command
 use Rattle.dg_machine.specs.CommandGrammar.{CountIsInRange}
 use Rattle.dg_session.specs.Session.{is_at_hand}
 use Rattle.dg_session.specs.Verified.{is_verify}
-use Rattle.dg_session.proofs.CarriedSteps.{hand_carries, no_file, others_carry, reading_carries, unverified_all}
-use Rattle.dg_session.proofs.DamageStep.{met_nothing, never_for_damage}
+use Rattle.dg_session.proofs.CarriedSteps.{hand_carries, no_file, others_carry, reading_carries, unverified_all, writing_carries}
 use Rattle.dg_session.proofs.ReadsStep.{fails_no_read}
 use Rattle.dg_session.proofs.SessionSteps.{alone, with_crash}
 use Rattle.dg_session.proofs.CommandDisks.{reading_treats}
@@ -82,19 +81,21 @@ returns-in-Workload-clause-carries g c =
 
 pub returns-in-Create-clause-carries : goal.returns-in-Create-clause-carries
 returns-in-Create-clause-carries g c =
-    let x = command.Create c.in-Create.l c.in-Create.k c.in-Create.function in
-    let p = c.args.self.now.parts in
-    let image = g.D.Disk.image c.args.disk.now in
     let r = c.create in
-    others_carry r.result c.args.command.now x c.in-Create.is refl tt
-    (alone x c.args.lines.now (g.S.Source.left c.args.source.now) p image r.new.self.parts (g.D.Disk.image r.new.disk) r.result (LeftByCrash g.D.Disk c.args.disk.now r.new.disk) refl (λ e. r.ensures.no_read e, λ e. r.ensures.no_limit e) r.ensures.comes r.ensures.crash)
-    (record {
-      store = r.ensures.store;
-      read = λ e. absurd (r.ensures.no_read e);
-      limit = λ e. absurd (r.ensures.no_limit e);
-      store_read = λ e. absurd (fails_no_read x [] p image r.new.self.parts (g.D.Disk.image r.new.disk) r.result refl r.ensures.comes e);
-    })
-    (record { damaged = never_for_damage x x [] p image r.new.self.parts (g.D.Disk.image r.new.disk) r.result refl refl r.ensures.comes; undamaged = met_nothing x p image r.result tt; reads = r.ensures.reads }) r.ensures.disk (λ e. absurd (false≢true (sym e)))
+    writing_carries r.result c.args.command.now (command.Create c.in-Create.l c.in-Create.k c.in-Create.function) c.in-Create.is refl refl tt refl refl r.ensures.comes r.ensures.store
+    (λ e. r.ensures.no_read e, λ e. r.ensures.no_limit e) r.ensures.reads r.ensures.disk r.ensures.crash
+
+pub returns-in-CreateSkewed-clause-carries : goal.returns-in-CreateSkewed-clause-carries
+returns-in-CreateSkewed-clause-carries g c =
+    let r = c.create-in-CreateSkewed in
+    writing_carries r.result c.args.command.now (command.CreateSkewed c.in-CreateSkewed.l c.in-CreateSkewed.k c.in-CreateSkewed.r) c.in-CreateSkewed.is refl refl tt refl refl r.ensures.comes r.ensures.store
+    (λ e. r.ensures.no_read e, λ e. r.ensures.no_limit e) r.ensures.reads r.ensures.disk r.ensures.crash
+
+pub returns-in-Upgrade-clause-carries : goal.returns-in-Upgrade-clause-carries
+returns-in-Upgrade-clause-carries g c =
+    let r = c.upgrade in
+    writing_carries r.result c.args.command.now command.Upgrade c.in-Upgrade.is refl refl tt refl refl r.ensures.comes r.ensures.store
+    (λ e. r.ensures.no_read e, λ e. r.ensures.no_limit e) r.ensures.reads r.ensures.disk r.ensures.crash
 
 pub returns-in-Certify-clause-carries : goal.returns-in-Certify-clause-carries
 returns-in-Certify-clause-carries g c =

@@ -1,6 +1,7 @@
 use Rattle.std.proofs.Common.{◌≡◌, [], ◌∷◌, refl, sym, ◌∙◌, ap, subst, arith}
 use Rattle.dg_graph.specs.Composition.{applied}
 use Rattle.dg_graph.specs.Elements.{shown}
+use Rattle.dg_handles.specs.Handles.{with_messages}
 use Rattle.dg_machine.specs.declared.command.Command.TheVariants as command
 use Rattle.dg_machine.specs.declared.reply.Head.TheVariants as head
 use Rattle.dg_machine.specs.declared.reply.Refusal.TheVariants as refusal
@@ -46,9 +47,9 @@ returns-clause-comes g c =
     let cols = c.args.cols in
     let same : c.lead_to_node.new.self.parts ≡ p = (ap (λ (x : SessionState). x.parts) c.lead_to_node.ensures.same) in
     let number : c.next-handle.result ≡ p.next = c.next-handle.ensures.next ∙ ap (λ (x : SessionState). x.parts.next) (c.self.view_is ∙ c.lead_to_node.ensures.same) in
-    node_answers p c.add_base.new.self.parts c.args.node cols (g.D.Disk.image c.args.disk.now) (g.D.Disk.image c.lead_to_node.new.disk) r.weight (shown (applied r.delta []) cols) c.headed.result
+    node_answers p c.add_base.new.self.parts c.args.node cols (g.D.Disk.image c.args.disk.now) (g.D.Disk.image c.lead_to_node.new.disk) r.weight (shown (applied r.delta []) (with_messages cols)) c.headed.result
     (sym c.refused_node.ensures ∙ c.in_default.is) c.lead_to_node.ensures.disk.same_image (node_held_of c.args.self.now.parts c.args.node c.args.cols (g.D.Disk.image c.args.disk.now) (g.D.Disk.taken c.args.disk.now) (g.D.Disk.taken c.lead_to_node.new.disk) c.in_ok-delta.field-0 c.in_ok-delta.ensures.over)
-    (c.in_ok-add_base.ensures.added ∙ (λ i. with_new_handles (same i) (Base c.args.node cols ∷ []) (shown (applied r.delta []) cols ∷ [])))
+    (c.in_ok-add_base.ensures.added ∙ (λ i. with_new_handles (same i) (Base c.args.node cols ∷ []) (shown (applied r.delta []) (with_messages cols) ∷ [])))
     (c.headed.ensures ∙ ap (λ n. headed (head.Materialised n r.weight)) number)
 
 pub returns-in-Some-clause-file : goal.returns-in-Some-clause-file
