@@ -23,7 +23,7 @@ import sys
 import time
 
 import model
-from runs import CREATE, FIVE, HEADER, Program, Tests, content, in_use, is_blank, lines, put
+from runs import CREATE, FIRST_FORM, FIVE, HEADER, Program, Tests, content, in_use, is_blank, lines, put
 
 CALL = re.compile(rb"^(?:\d+ +)?(\w+)\((.*)\) += (-?\d+)")
 HEX = re.compile(rb'"((?:\\x[0-9a-f]{2})*)"')
@@ -309,14 +309,14 @@ class Kills:
         self.tests.check(f"{name}: the next run leaves it", after == killed)
         self.count += 1
 
-    def at_calls(self, name, commands, states, start):
-        """Killed at each of its calls: `start` of the commands were carried out before."""
+    def at_calls(self, name, commands, states, start, image=None):
+        """Killed at each of its calls: `start` of the commands were carried out before, over a file of these bytes."""
         base = lines(commands[:start])
-        _, before = self.program.over(None, base)
+        _, before = self.program.over(image, base)
         index = self.program.place("killed")
         for call in ("pwrite64", "fdatasync", "write", "statx"):
             for when in itertools.count(1):
-                put(index, before if start else None)
+                put(index, before if start or image else None)
                 command = ["strace", "-f", "-o", "/dev/null", "-e", f"trace={call}"]
                 command += ["-e", f"inject={call}:signal=KILL:when={when}"]
                 run = subprocess.run([*command, self.program.path, index], input=lines(commands[start:]), capture_output=True)
@@ -376,6 +376,7 @@ COMMANDS = [
     ("append 4\n75 +node 12\n76 +node 13\n77 +node 14\n78 +node 15", 2),
     ("load 1\n80 +node 16", 0),
     ("workload 7 8", 0),
+    ("upgrade", 0),
     ("at 10 s", 0),
     ("at 45 sne", 0),
     ("several sne 20 30 45 60", 0),
@@ -399,7 +400,8 @@ COMMANDS = [
 
 
 def syncs_of_commands(tests, crashes_of):
-    """The syncs of each command: three for a new index, two for a batch, and none for all else, which writes nothing."""
+    """The syncs of each command: three for a new index, two for a batch and for an upgrade, and none for all else, which
+    writes nothing."""
     generated = [("clean 1", 0), ("create 64 4 union", 3), ("workload 7 5000", 2)]
     for name, commands in [("commands", COMMANDS), ("generated changes", generated)]:
         deeds, _ = crashes_of.traced(b"", lines(command for command, _ in commands))
@@ -440,6 +442,13 @@ def main():
     kills.at_calls("a whole run", few, their_states, 0)
     kills.at_calls("appends", few, their_states, 2)
 
+    first_form = content(FIRST_FORM)
+    upgrade, behind = ["upgrade", "append 1\n60 +node 9"], [in_use(first_form)]
+    for number in range(len(upgrade)):
+        behind.append(in_use(program.over(first_form, lines(upgrade[: number + 1]))[1]))
+    tests.same("sizes of an upgrade and a batch behind it", [len(state) for state in behind], [495, 520, 712])
+    kills.at_calls("an upgrade", upgrade, behind, 0, first_form)
+
     both = Crashes(tests, program)
     syncs_of_commands(tests, both)
     create, load, append = lines([CREATE]), lines([FIVE]), b"append 1\n60 +node 9\n"
@@ -455,12 +464,17 @@ def main():
     commands, their_states = histories(2, [40, 9, 1, 30])
     made_by_all = both.run("a load and appends with attributes", b"", lines(commands), batch=later)
     tests.check("a load and appends with attributes: the file is the model's", in_use(made_by_all) == their_states[-1])
+    upgraded = both.run("an upgrade", first_form, b"upgrade\n", batch=later)
+    both.run("an upgrade and an append", first_form, b"upgrade\n" + append, batch=later)
+    both.run("an upgrade over what a crash left", first_form + b"\1" * 300, b"upgrade\n", batch=later)
+    both.run("an append behind a marker", upgraded, append, batch=later)
     both.run("a workload", b"", b"create 64 4 balanced\nworkload 7 400\nappend 1\n9000 +node 1000\n")
     tests.check("a first byte of 18 is the one exception", both.excepted > 0)
     both.unsynced("an append with no sync before its gate", loaded, append, [0])
     both.unsynced("a load with no sync before its gate", made, load, [0])
     both.unsynced("a header with no sync before its gate", b"", create, [1])
     both.unsynced("an append with no sync", loaded, append, None)
+    both.unsynced("an upgrade with no sync before its gate", first_form, b"upgrade\n", [0])
     return tests.end(f", {kills.count} kills, {both.images} images")
 
 

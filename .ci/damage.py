@@ -48,8 +48,8 @@ REPLIES = {
     "pool": (r"ok pool \d+ \d+", None),
     "plan": (r"ok plan \d+ \d+", rf"step \d+ {NODE} \d+|potential {NODE} \d+"),
     "certify": (rf"ok certify (?:line \d+|step \d+|potential {NODE}|not-tight|valid)", None),
-    "verify": (rf"ok verify (?:sound \d+|unsound {KEY} [sne])", None),
-    "tree": (r"ok tree \d+ \d+ (?:intersection|union|balanced) \d+ \d+ (\d+)", rf"record {KEY} \d+ \d+ \d+"),
+    "verify": (rf"ok verify (?:sound \d+|unsound {KEY} [snet])", None),
+    "tree": (r"ok tree \d+ \d+ (?:intersection|union|balanced|skewed \d+) \d+ \d+ (\d+)", rf"record {KEY} \d+ \d+ \d+"),
 }
 # The refusals that a file can meet: never that a read fails, and never want of memory.
 REFUSALS = {
@@ -59,7 +59,7 @@ REFUSALS = {
     "unknown-handle": r"refused 8 unknown-handle \d+",
     "unknown-node": r"refused 11 unknown-node",
     "not-an-overlay": r"refused 17 not-an-overlay \d+",
-    "damaged": rf"refused 15 damaged {KEY} [sne]",
+    "damaged": rf"refused 15 damaged {KEY} [snet]",
 }
 
 
@@ -142,7 +142,7 @@ class Model:
 
     def tree(self):
         history, sizes = self.history, self.history.sizes
-        records = [f"record {key} {s} {n} {e}" for key, (s, n, e) in sorted(sizes.items(), key=model.key_order)]
+        records = [f"record {key} {s} {n} {e}" for key, (s, n, e, _) in sorted(sizes.items(), key=model.key_order)]
         events = len(history.events)
         head = f"{history.size} {history.arity} {history.function} {events} {events // history.size} {len(sizes)}"
         return [f"ok tree {head}", *records]
@@ -353,32 +353,37 @@ class Damage:
 class File:
     """A file in use: its bytes, a script of questions over it, and where its directories say sizes."""
 
-    def __init__(self, seed, parameters, batches, behind=b""):
+    def __init__(self, seed, parameters, batches, behind=b"", upgrade=None):
+        """With `upgrade` a marker stands before the batch of that number."""
         rng = random.Random(seed)
         history, changes, at = model.History(*parameters), model.Changes(rng), []
         for batch, size in enumerate(batches):
             changes.time += 1 if batch else 0
             names = []
+            if batch == upgrade:
+                history.upgrade()
             history.add([changes.next(names)[1] for _ in range(size)], names)
             at.append(history.file())
         self.image, self.earlier = history.file() + behind, at[:-1]
         times = [event[0] for event in history.events] or [1]
         self.script = questions(times, len(history.events) // history.size)
         opened = judge.Opened(self.image)
-        self.sizes = [row.place + 8 * i for row in opened.rows.values() for i in range(3)]
+        self.sizes = [row.place + 8 * i for row in opened.rows.values() for i in range(row.lengths)]
 
 
 FILES = [
     (1, (2, 2, "intersection"), [5], b""),
-    (2, (2, 2, "union"), [9, 1, 4, 2], b""),
+    (2, (2, 2, "union", False), [9, 1, 4, 2], b""),
     (3, (3, 2, "balanced"), [20, 7, 1, 1, 12], b""),
-    (4, (4, 3, "intersection"), [30, 30, 30], b""),
+    (4, (4, 3, "intersection", False), [30, 30, 30], b"", 2),
     (5, (64, 4, "union"), [12, 5, 9], b""),
-    (6, (50, 2, "balanced"), [1], b""),
-    (7, (16, 4, "balanced"), [200, 40, 3], b""),
+    (6, (50, 2, "balanced", False), [1], b""),
+    (7, (16, 4, "skewed 200"), [200, 40, 3], b""),
     (8, (8, 2, "union"), [90, 1, 1, 60], b"\1" * 300),
     (9, (1000, 2, "intersection"), [150], b""),
     (10, (5, 4, "intersection"), [], b""),
+    (11, (5, 2, "balanced", False), [40, 3, 25, 9], b"", 1),
+    (12, (3, 3, "union", False), [31, 1], b""),
 ]
 
 
@@ -428,7 +433,7 @@ def five_changes(tests, damage):
     """The file of five changes, cut at each length, and with each byte changed. Of its header and of the first fields of
     its segment it is said here what is due; of all else by the judgement."""
     run, image = damage.program.over(None, lines([CREATE, FIVE]))
-    tests.same("five changes", (run.status, run.replies, len(image)), (0, b"ok create\nend\nok load 5 5 50\nend\n", 496))
+    tests.same("five changes", (run.status, run.replies, len(image)), (0, b"ok create\nend\nok load 5 5 50\nend\n", 544))
     script = questions([10, 20, 30, 40, 50], 2)
     damaged_at = "damaged at offset 18: the segment there breaks the format"
     foreign = "foreign: it is no index of this program"
@@ -442,8 +447,8 @@ def five_changes(tests, damage):
         tests.same(name, (ran.status, ran.replies, ran.errors), wanted)
         tests.check(f"{name}: the file is as it was", after == bytes_of_file)
 
-    for length in range(497):
-        due = "refused 2 no-index" if length < HEADER else damaged_at if length < 496 else "ok at 1 26"
+    for length in range(545):
+        due = "refused 2 no-index" if length < HEADER else damaged_at if length < 544 else "ok at 1 26"
         begins(f"cut at {length}", image[:length], due)
         damage.look(f"cut at {length}", image[:length], script, in_use(image))
     header = {**{at: foreign for at in [*range(10), 12, 13, 14]}, **{at: damaged_at for at in [10, 11, 15]}}
@@ -455,7 +460,7 @@ def five_changes(tests, damage):
         changed = bytearray(image)
         changed[at] = (changed[at] + 1) % 256
         begins(f"one more at byte {at}", bytes(changed), due)
-    for at in range(496):
+    for at in range(544):
         for value in {(image[at] + 1) % 256, image[at] ^ 128, 0, 255} - {image[at]}:
             changed = bytearray(image)
             changed[at] = value

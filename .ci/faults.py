@@ -17,7 +17,7 @@ interrupted.
 import errno
 import sys
 
-from runs import CREATE, FIVE, Program, Tests, content, in_use, lines, put
+from runs import CREATE, FIRST_FORM, FIVE, Program, Tests, content, in_use, lines, put
 
 KINDS = ["alloc", "read", "write", "sync"]
 # Each kind of failure, the calls that it is of, and what the library is told besides.
@@ -30,7 +30,7 @@ TABLE = [
     ("torn", "write", {"fail_torn": 1}),
     ("sync", "sync", {}),
 ]
-NEVER_REFUSED = ["counts", "release", "clean", "pool"]
+NEVER_REFUSED = ["counts", "release", "clean", "pool", "upgrade"]
 CHECKED = ("--checked",)
 UNCACHED, CACHED = ("--cache", "0"), ("--cache", "64")
 MAKE = [CREATE, FIVE]
@@ -57,6 +57,8 @@ LONGER = [
     "list 6",
     "verify",
 ]
+# Over a file of the first form.
+UPGRADE = ["append 1\n60 +node 9", "upgrade", "upgrade", "append 2\n70 +node 3\n70 +node 4", "at 60 s", "verify"]
 PROBE = lines(["tree", "verify", "at 40 sn", "list 1"])
 
 
@@ -235,6 +237,10 @@ def main():
     for name, script in SCRIPTS.items():
         faults.in_turn(f"{name}, a new file", MAKE + script, None)
         faults.in_turn(f"{name}, an opened file", script, loaded)
+    first_form = content(FIRST_FORM)
+    faults.in_turn("an upgrade", UPGRADE, first_form)
+    faults.pieces("an upgrade", UPGRADE, first_form)
+    faults.interrupted("an upgrade", UPGRADE, first_form)
     faults.in_turn("several, a checked file", SCRIPTS["several"], loaded, CHECKED)
     faults.in_turn("a longer history", LONGER, None)
     _, longer = faults.without(LONGER[:2], None)

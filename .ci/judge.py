@@ -8,7 +8,7 @@ NAME_MOST, KEY_MOST = 1024, 64  # bytes
 BATCH_MOST, EVENTS_MOST = 2**20, 2**28
 TIME_MOST = 2**63 - 1
 FILE_MOST = 2**48
-LETTERS = "sne"
+LETTERS = "snet"
 
 
 class Refused(Exception):
@@ -25,10 +25,10 @@ class Wrong(Exception):
 
 class Row:
     """A record of the file: where its columns begin, and their sizes; of a list its times too. And where the directory
-    says the sizes."""
+    says the sizes, and of how many columns."""
 
-    def __init__(self, offset, sizes, ends, place):
-        self.offset, self.sizes, self.ends, self.place = offset, sizes, ends, place
+    def __init__(self, offset, sizes, ends, place, lengths):
+        self.offset, self.sizes, self.ends, self.place, self.lengths = offset, sizes, ends, place, lengths
 
 
 class Batch:
@@ -47,11 +47,15 @@ class Opened:
 
     def __init__(self, image):
         self.image = image
-        self.size, self.arity, code = big(image, 8, 4), big(image, 12, 4), image[16]
-        in_range = 2 <= self.size <= 65536 and 2 <= self.arity <= 64 and 1 <= code <= 3
-        if image[0] != OPEN or image[1:8] != b"DGRAPH1" or not in_range:
+        self.is_wide = image[1:8] == b"DGRAPH2"  # whether the next segment has the second form
+        self.began_wide, self.marker = self.is_wide, None  # the number of batches before a marker
+        self.size, code = big(image, 8, 4), image[16]
+        share, self.arity = (big(image, 12, 2), big(image, 14, 2)) if self.is_wide else (0, big(image, 12, 4))
+        has_function = 1 <= code <= 3 and share == 0 or self.is_wide and code == 4 and share <= 256
+        in_range = 2 <= self.size <= 65536 and 2 <= self.arity <= 64 and has_function
+        if image[0] != OPEN or image[1:8] not in (b"DGRAPH1", b"DGRAPH2") or not in_range:
             raise Refused("foreign: it is no index of this program")
-        self.function = model.FUNCTIONS[code - 1]
+        self.function = f"skewed {share}" if code == 4 else model.FUNCTIONS[code - 1]
         self.batches, self.rows, self.names, self.used = [], {}, [], HEADER
         self.known, self.total = set(), 0
         while image[self.used - 1] == OPEN:
@@ -67,6 +71,10 @@ class Opened:
         if gate >= len(image) or gate >= FILE_MOST:
             raise Unread
         text, start = image[at + 16 : at + 16 + directory], at + 16
+        if not self.is_wide and (directory, columns, text) == (8, 0, bytes(8)):
+            self.is_wide, self.marker, self.used = True, len(self.batches), gate + 1
+            return
+        lengths = 4 if self.is_wide else 3
         batch = Batch(big(text, 0, 8), big(text, 8, 8), big(text, 16, 8), [])
         place = 28
         for _ in range(big(text, 24, 4)):
@@ -85,16 +93,19 @@ class Opened:
                 raise Unread
             self.known.add(name)
         lists, deltas = self.due(batch.events)
-        if len(text) != place + 32 + 40 * len(lists) + 24 * len(deltas) or big(text, place, 4) != len(lists):
+        rows = (16 + 8 * lengths) * len(lists) + 8 * lengths * (len(deltas) + 1)
+        if len(text) != place + 8 + rows or big(text, place, 4) != len(lists):
             raise Unread
         offset, last = at + 16 + directory, self.last_list(batch)
 
         def row(key, where, ends):
             nonlocal offset
-            sizes = [big(text, where + 8 * i, 8) for i in range(3)]
+            sizes = [big(text, where + 8 * i, 8) for i in range(lengths)] + [0] * (4 - lengths)
+            if key.split(" ")[0] in ("top", "down") and sizes[model.MESSAGES]:
+                raise Unread
             if ends and sum(sizes) > 12 + 36 * self.size:
                 raise Unread
-            self.rows[key] = Row(offset, sizes, ends, start + where)
+            self.rows[key] = Row(offset, sizes, ends, start + where, lengths)
             offset += sum(sizes)
 
         place += 4
@@ -104,13 +115,13 @@ class Opened:
                 raise Unread
             last = ends[1]
             row(key, place + 16, ends)
-            place += 40
+            place += 16 + 8 * lengths
         if big(text, place, 4) != len(deltas):
             raise Unread
         place += 4
         for key in [*deltas, f"piece {len(self.batches)}"]:
             row(key, place, None)
-            place += 24
+            place += 8 * lengths
         if offset != gate:
             raise Unread
         self.batches.append(batch)
@@ -169,6 +180,12 @@ class Opened:
                         raise Unread
                 element = (model.NODE if kind < 3 else model.EDGE, *fields)
                 found[position] = time, "+" if kind % 2 else "-", element
+            elif column == model.MESSAGES:
+                source, target, value = big(text, at + 10, 8), big(text, at + 18, 8), big(text, at + 26, 4)
+                if value >= len(self.names):
+                    raise Unread
+                found[position] = time, "msg", source, target, value
+                size = 30
             else:
                 owner, key_number, old, new = big(text, at + 10, 8), *(big(text, at + 18 + 4 * i, 4) for i in range(3))
                 if key_number >= len(self.names) or max(old, new) > len(self.names) or old == new == 0:
@@ -184,7 +201,7 @@ class Opened:
 
     def events_of(self, key, count):
         found, total = {}, 0
-        for column in range(3):
+        for column in model.COLUMNS:
             try:
                 placed = self.placed(key, column)
             except Unread:
@@ -232,7 +249,7 @@ class Opened:
                     add(key, more, (more[0][0], more[-1][0]))
             else:
                 of_batch = events[before:behind]
-                for column in range(3):
+                for column in model.COLUMNS:
                     ends_differ = column == model.STRUCTURE and (batch.first, batch.last) != (of_batch[0][0], of_batch[-1][0])
                     if ends_differ or self.column(key, column) != model.event_column(events[start:behind], column):
                         raise Wrong(key, column)
@@ -268,6 +285,8 @@ class Graph:
         """Takes the event, where it is one that a change comes to."""
         if event[1] in ("+", "-"):
             return self.take_element(event[1], *event[2])
+        if event[1] == "msg":
+            return event[2] in self.nodes and event[3] in self.nodes
         _, kind, owner, key, old, new = event
         name, place = self.names[key], (kind, owner, key)
         there = owner in (self.nodes if kind == model.NODE_ATTR else self.edges)
@@ -330,14 +349,18 @@ class Judgement:
     def history_of(cls, opened, events):
         """The history of these events in the batches that the directories tell."""
         cut = tuple((batch.events, tuple(batch.names)) for batch in opened.batches)
-        key = opened.size, opened.arity, opened.function, tuple(events), cut
+        key = opened.size, opened.arity, opened.function, opened.began_wide, opened.marker, tuple(events), cut
         if key not in cls.histories:
             if len(cls.histories) > 300:
                 cls.histories.clear()
-            history, at = model.History(opened.size, opened.arity, opened.function), 0
-            for batch in opened.batches:
+            history, at = model.History(opened.size, opened.arity, opened.function, opened.began_wide), 0
+            for number, batch in enumerate(opened.batches):
+                if number == opened.marker:
+                    history.upgrade()
                 history.add(events[at : at + batch.events], batch.names)
                 at += batch.events
+            if opened.marker == len(opened.batches):
+                history.upgrade()
             cls.histories[key] = history
         return cls.histories[key]
 

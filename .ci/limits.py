@@ -107,7 +107,7 @@ class Limits:
         file is sparse. One of 84 bytes is met by the plan that enters it."""
         index = self.program.place("index")
         _, image = self.program.over(None, lines([CREATE, FIVE]))
-        behind = 297  # the end of the first list's 42 bytes
+        behind = 345  # the end of the first list's 42 bytes
         for more in (42, 43, 10**9, 10**12):
             sizes = bytearray(image[:behind])
             for place in (26, 91):  # the columns of the segment, and the structure of the list
@@ -266,7 +266,7 @@ class Limits:
                 others = [reply for i, reply in enumerate(replies) if i not in refused]
                 self.tests.check(f"{case}: all else is answered", others == due, refused)
                 self.tests.check(f"{case}: the file", after == file)
-                never = [script[i] for i in refused if script[i].split()[0] in ("counts", "release", "clean", "pool")]
+                never = [script[i] for i in refused if script[i].split()[0] in ("counts", "release", "clean", "pool", "upgrade")]
                 self.tests.same(f"{case}: what is never refused", never, [])
                 came = f"{len(refused)} refused" if refused else "whole"
             tally.setdefault(came, []).append(size)

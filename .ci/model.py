@@ -1,6 +1,6 @@
 """A model of the program that knows nothing of it: random histories, the replies that are due, and the index file
-as docs/FORMATS.md has it. Every run's replies and file are compared with the model's, byte for byte. And files with
-one damaged column: which start is refused, which command names the damage, and which one does not meet it.
+as docs/FORMATS.md has it, in its two forms, with upgrades between them. Every run's replies and file are compared with the
+model's, byte for byte. And files with one damaged column: which start is refused, which command names the damage, and which one does not meet it.
 
   python3 .ci/model.py PROGRAM FOLDER FIRST LAST     histories with the seeds from FIRST to before LAST
 """
@@ -11,9 +11,11 @@ import subprocess
 import sys
 
 NODE, EDGE, NODE_ATTR, EDGE_ATTR = range(4)
-STRUCTURE, NODES, EDGES = range(3)
+STRUCTURE, NODES, EDGES, MESSAGES = range(4)
+COLUMNS = range(4)
 COLUMN_OF = {NODE: STRUCTURE, EDGE: STRUCTURE, NODE_ATTR: NODES, EDGE_ATTR: EDGES}
 FUNCTIONS = ["intersection", "union", "balanced"]
+SHARES = [0, 1, 64, 128, 200, 255, 256]  # of 256, of a skewed function
 
 
 def number(n, size):
@@ -32,12 +34,17 @@ def fields(element):
     return number(rest[0], 8) + number(rest[1], 4) + number(rest[2], 4)
 
 
-def is_of_last(element):
-    """Whether a balanced node takes the element from its last child."""
+def share_of(function):
+    """So many of 256 come from the last child."""
+    return 128 if function == "balanced" else int(function.split(" ")[1])
+
+
+def is_of_last(element, share):
+    """Whether a skewed node takes the element from its last child."""
     value = 14695981039346656037
     for byte in bytes([element[0] + 1]) + fields(element):
         value = ((value ^ byte) * 1099511628211) % 2**64
-    return value >> 56 < 128
+    return value >> 56 < share
 
 
 def combined(function, sets):
@@ -45,11 +52,12 @@ def combined(function, sets):
         return set.intersection(*sets)
     if function == "union":
         return set.union(*sets)
-    first, last = sets[0], sets[-1]
-    return {x for x in first | last if x in (last if is_of_last(x) else first)}
+    first, last, share = sets[0], sets[-1], share_of(function)
+    return {x for x in first | last if x in (last if is_of_last(x, share) else first)}
 
 
-# Events are (time, sign, element) for nodes and edges, and (time, kind, id, key, old, new) for values.
+# Events are (time, sign, element) for nodes and edges, (time, kind, id, key, old, new) for values, and (time, "msg", source,
+# target, value) for messages.
 
 
 def effect(event):
@@ -58,6 +66,8 @@ def effect(event):
         return None, event[2]
     if event[1] == "-":
         return event[2], None
+    if event[1] == "msg":
+        return None, None
     _, kind, owner, key, old, new = event
     if old == new:
         return None, None
@@ -77,14 +87,22 @@ def replay(events):
     return graph
 
 
+def column_of(event):
+    if event[1] == "msg":
+        return MESSAGES
+    return COLUMN_OF[event[2][0] if event[1] in ("+", "-") else event[1]]
+
+
 def event_column(events, column):
     parts = []
     for at, event in enumerate(events):
-        kind = event[2][0] if event[1] in ("+", "-") else event[1]
-        if COLUMN_OF[kind] != column:
+        if column_of(event) != column:
             continue
         head = number(at, 2) + number(event[0], 8)
-        if event[1] in ("+", "-"):
+        if event[1] == "msg":
+            parts.append(head + number(event[2], 8) + number(event[3], 8) + number(event[4], 4))
+        elif event[1] in ("+", "-"):
+            kind = event[2][0]
             code = 1 + 2 * kind + (event[1] == "-")
             parts.append(head + bytes([code]) + fields(event[2]))
         else:
@@ -106,17 +124,28 @@ def delta_column(before, after, column):
 
 
 class History:
-    def __init__(self, size, arity, function):
+    def __init__(self, size, arity, function, is_wide=True):
         self.size, self.arity, self.function = size, arity, function
+        self.is_wide = is_wide  # whether the next segment has the second form
         self.events, self.segments = [], 0
-        self.sizes = {}  # the bytes of the three columns of each list, top and down, by its key
-        self.places = {}  # where the three columns of each record stand in the file, by its key
+        self.sizes = {}  # the bytes of the columns of each list, top and down, by its key
+        self.places = {}  # where the columns of each record stand in the file, by its key
         self.recent = []  # the keys of the recent pieces
-        code = bytes([FUNCTIONS.index(function) + 1])
-        self.text = b"\1DGRAPH1" + number(size, 4) + number(arity, 4) + code
+        is_skewed = function not in FUNCTIONS
+        code = bytes([4 if is_skewed else FUNCTIONS.index(function) + 1])
+        if is_wide:
+            share = share_of(function) if is_skewed else 0
+            self.text = b"\1DGRAPH2" + number(size, 4) + number(share, 2) + number(arity, 2) + code
+        else:
+            self.text = b"\1DGRAPH1" + number(size, 4) + number(arity, 4) + code
 
     def file(self):
         return self.text + b"\0"
+
+    def upgrade(self):
+        """Adds the marker behind which segments have the second form."""
+        self.text += b"\1" + number(8, 8) + number(0, 8) + number(0, 8)
+        self.is_wide = True
 
     def node(self, height, index, made):
         """The set of a leaf, of height 0, or of an interior node."""
@@ -139,18 +168,19 @@ class History:
         leaves, leaves_after = before // self.size, after // self.size
         columns, made, keys = [], {}, []
 
-        def row(three, key):
-            columns.extend(three)
+        def row(four, key):
+            assert self.is_wide or not four[MESSAGES]
+            columns.extend(four)
             keys.append(key)
             if not key.startswith("piece"):
-                self.sizes[key] = [len(c) for c in three]
-            return b"".join(number(len(c), 8) for c in three)
+                self.sizes[key] = [len(c) for c in four]
+            return b"".join(number(len(c), 8) for c in (four if self.is_wide else four[:MESSAGES]))
 
         lists = []
         for i in range(leaves, leaves_after):
             of_list = self.events[i * self.size : (i + 1) * self.size]
             ends = number(of_list[0][0], 8) + number(of_list[-1][0], 8)
-            lists.append(ends + row([event_column(of_list, c) for c in range(3)], f"list {i}"))
+            lists.append(ends + row([event_column(of_list, c) for c in COLUMNS], f"list {i}"))
         deltas = []
         height = 1
         while self.arity**height <= leaves_after:
@@ -158,11 +188,11 @@ class History:
                 graph = self.node(height, index, made)
                 steps = [(f"top {height}", set(), graph)] if index == 1 else []
                 steps += [(f"down {height} {c}", graph, self.node(height - 1, c, made)) for c in self.children(index)]
-                deltas += [row([delta_column(a, b, c) for c in range(3)], key) for key, a, b in steps]
+                deltas += [row([delta_column(a, b, c) for c in COLUMNS], key) for key, a, b in steps]
             height += 1
         behind = self.events[max(before, leaves_after * self.size) :]
         segment = f"piece {self.segments}"
-        piece = row([event_column(behind, c) for c in range(3)], segment)
+        piece = row([event_column(behind, c) for c in COLUMNS], segment)
         directory = number(len(events), 8) + number(events[0][0], 8) + number(events[-1][0], 8)
         directory += number(len(names), 4) + b"".join(number(len(n), 2) + n for n in names)
         directory += number(len(lists), 4) + b"".join(lists)
@@ -170,7 +200,7 @@ class History:
         blobs = b"".join(columns)
         offset = len(self.text) + 17 + len(directory)
         for i, column in enumerate(columns):
-            self.places.setdefault(keys[i // 3], []).append((offset, len(column)))
+            self.places.setdefault(keys[i // len(COLUMNS)], []).append((offset, len(column)))
             offset += len(column)
         self.recent = ([] if leaves_after > leaves else self.recent) + [segment]
         self.segments += 1
@@ -192,7 +222,7 @@ class Graph:
             return f"leaf {j}" if j else "root"
 
         def weight(key):
-            structure, nodes, edges = history.sizes[key]
+            structure, nodes, edges, _ = history.sizes[key]
             return structure + ("n" in columns) * nodes + ("e" in columns) * edges
 
         heights = [h for h in range(1, 40) if arity**h <= leaves]
@@ -607,10 +637,20 @@ def ask_handles(rng, history, changes, case):
                 case.reply(f"ok node {handle} {node} no")
 
 
+def ask_upgrade(history, case):
+    """Lets the file go on in the second form, where it has the first."""
+    case.script.append("upgrade")
+    if history.is_wide:
+        case.reply("refused 21 new-format")
+    else:
+        history.upgrade()
+        case.reply("ok upgrade")
+
+
 def ask_plans(rng, history, case):
     """Asks for plans, certificates and records."""
     if rng.random() < 0.4:
-        records = [f"record {key} {s} {n} {e}" for key, (s, n, e) in sorted(history.sizes.items(), key=key_order)]
+        records = [f"record {key} {s} {n} {e}" for key, (s, n, e, _) in sorted(history.sizes.items(), key=key_order)]
         leaves = len(history.events) // history.size
         head = f"{history.size} {history.arity} {history.function} {len(history.events)} {leaves} {len(records)}"
         case.script.append("tree")
@@ -630,6 +670,13 @@ def ask_plans(rng, history, case):
         case.reply(f"ok certify {graph.judged(target, lines)}")
 
 
+def any_history(rng, size, arity):
+    """An empty history of either form, with any function that it may have."""
+    if rng.randrange(3) == 0:
+        return History(size, arity, rng.choice(FUNCTIONS), is_wide=False)
+    return History(size, arity, rng.choice([*FUNCTIONS, f"skewed {rng.choice(SHARES)}"]))
+
+
 def key_order(sized):
     kind, *numbers = sized[0].split(" ")
     return ["list", "top", "down"].index(kind), [int(n) for n in numbers]
@@ -639,18 +686,25 @@ def check(program, index, seed):
     if os.path.exists(index):
         os.remove(index)
     rng = random.Random(seed)
-    size, arity, function = rng.choice([2, 2, 3, 4, 5, 8]), rng.choice([2, 2, 3, 4]), rng.choice(FUNCTIONS)
+    size, arity = rng.choice([2, 2, 3, 4, 5, 8]), rng.choice([2, 2, 3, 4])
     # More than 32 older children at once, which are read by more than one tree.
-    is_wide = rng.randrange(12) == 0
-    if is_wide:
+    has_many = rng.randrange(12) == 0
+    if has_many:
         size, arity = 2, 36
-    history, changes, case = History(size, arity, function), Changes(rng), Case(program, index, seed)
-    case.script.append(f"create {size} {arity} {function}")
-    case.reply("ok create")
+    history, changes, case = any_history(rng, size, arity), Changes(rng), Case(program, index, seed)
+    if history.is_wide:
+        case.script.append(f"create {size} {arity} {history.function}")
+        case.reply("ok create")
+    else:
+        # The program makes no file of the first form.
+        with open(index, "wb") as made:
+            made.write(history.file())
     for batch in range(rng.randrange(1, 9)):
         count = rng.choice([1, 1, 2, 3, 5, 8, 13, 40, rng.randrange(1, 90)])
-        if is_wide and batch == 0:
+        if has_many and batch == 0:
             count = rng.randrange(66, 72)
+        if rng.randrange(5) == 0:
+            ask_upgrade(history, case)
         word = "append" if batch else "load"
         changes.time += 1 if batch else 0
         names, lines, events = [], [], []
@@ -674,7 +728,7 @@ def check(program, index, seed):
 
 
 # Seeds of files whose damage no start meets and a batch does: few files are such.
-MET_BY_A_BATCH = [314, 378, 485, 1136]
+MET_BY_A_BATCH = [1910, 3667]
 
 
 def older_children(history, count):
@@ -693,8 +747,8 @@ def older_children(history, count):
 def check_damage(program, index, seed):
     """A file with one damaged column: what meets it names it, and nothing else does."""
     rng = random.Random(seed)
-    size, arity, function = rng.choice([2, 2, 3, 4]), rng.choice([2, 2, 3]), rng.choice(FUNCTIONS)
-    history, changes = History(size, arity, function), Changes(rng)
+    size, arity = rng.choice([2, 2, 3, 4]), rng.choice([2, 2, 3])
+    history, changes = any_history(rng, size, arity), Changes(rng)
 
     def batch(count):
         changes.time += 1 if history.events else 0
@@ -703,6 +757,8 @@ def check_damage(program, index, seed):
         return names, [line for line, _ in made], [event for _, event in made]
 
     for _ in range(rng.randrange(1, 6)):
+        if not history.is_wide and rng.randrange(3) == 0:
+            history.upgrade()
         names, _, events = batch(rng.choice([1, 2, 5, 9, rng.randrange(1, 60)]))
         history.add(events, names)
     records, leaves = Graph(history, "sne", memory=False), len(history.events) // size
@@ -710,7 +766,7 @@ def check_damage(program, index, seed):
     names, lines, events = batch(rng.choice([1, 2, 5, 9, rng.randrange(1, 60)]))
     children = older_children(history, len(events))
     met = {key for i in range(0, len(children), 32) for key in records.entered(children[i : i + 32])}
-    held = [(key, c) for key, three in history.places.items() for c in range(3) if three[c][1] > 0]
+    held = [(key, c) for key, four in history.places.items() for c in COLUMNS if four[c][1] > 0]
     by_batch = [(key, c) for key, c in held if key in met and key not in starts]
     damaged, column = rng.choice(by_batch if by_batch and rng.random() < 0.7 else held)
     place = history.places[damaged][column][0]
@@ -766,7 +822,7 @@ def check_damage(program, index, seed):
 
 def damaged_pairs(history, keys):
     """Each two of these records, of which the earlier one is damaged in a later column than the other."""
-    held = [[column for column in range(3) if history.places[key][column][1] > 0] for key in keys]
+    held = [[column for column in COLUMNS if history.places[key][column][1] > 0] for key in keys]
     places = [(i, j) for i in range(len(keys)) for j in range(i + 1, len(keys)) if held[i] and held[j]]
     return [((keys[i], held[i][-1]), (keys[j], held[j][0])) for i, j in places if held[i][-1] > held[j][0]]
 
@@ -775,7 +831,7 @@ def check_first_damage(program, index, seed):
     """A file with damage in two of the records of one plan of four or more: the earlier record is named, wherever the work
     is cut for threads. Says of how many plans this was tried: that of an instant, and that of a start."""
     rng = random.Random(seed)
-    history, changes, names = History(2, 2, rng.choice(FUNCTIONS)), Changes(rng), []
+    history, changes, names = any_history(rng, 2, 2), Changes(rng), []
     history.add([changes.next(names)[1] for _ in range(rng.randrange(40, 80))], names)
     records, graph = Graph(history, "sne", memory=False), Graph(history, "sne")
     start = records.entered([f"leaf {len(history.events) // 2}"])

@@ -10,9 +10,12 @@ CLOSED = 0
 OPEN = 1
 HEADER = 18  # bytes, with the gate of the first segment
 
-# The five changes of docs/FORMATS.md, whose file has 496 bytes.
+# The five changes of docs/FORMATS.md, whose file has 544 bytes.
 CREATE = "create 2 2 intersection"
 FIVE = "load 5\n10 +node 1\n20 +node 2\n30 +edge 5 1 2 dir\n40 nset 1 name A\n50 -edge 5"
+
+# A file of the first form with the same changes, which an earlier program made: 496 bytes.
+FIRST_FORM = os.path.join(os.path.dirname(__file__), "..", "examples", "first_form", "five.dg")
 
 
 class Tests:

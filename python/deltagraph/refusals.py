@@ -285,6 +285,13 @@ class AlreadyLoaded(Refused):
         return "the history has events already; `append` adds more"
 
 
+class NewFormat(Refused):
+    """21: `upgrade`, and the file has the second form already."""
+
+    def words(self) -> str:
+        return "the file has the second form already"
+
+
 OF_NUMBER: dict[int, type[Refused]] = {
     1: Syntax,
     2: NoIndex,
@@ -306,6 +313,7 @@ OF_NUMBER: dict[int, type[Refused]] = {
     18: LineLong,
     19: HandlesSpent,
     20: AlreadyLoaded,
+    21: NewFormat,
 }
 
 

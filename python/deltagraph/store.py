@@ -167,9 +167,14 @@ class Store:
         """Makes an empty index in the file, which is made where it is not there.
 
         A leaf of it has `leaf_events` events (2 to 65,536), an interior node `arity` children (2 to 64), and `function`
-        is `intersection`, `union` or `balanced`.
+        is `intersection`, `union`, `balanced`, or `skewed R` with the share R, of 256, that an interior node takes from its
+        newest child.
         """
         self.ask(f"create {leaf_events} {arity} {function}")
+
+    def upgrade(self) -> None:
+        """Lets a file of the first form go on in the second. Raises `NewFormat` where it has that already."""
+        self.ask("upgrade")
 
     def load(
         self,
@@ -307,9 +312,9 @@ class Store:
     def tree(self) -> Tree:
         """The parameters of the index and its records."""
         reply = self.ask("tree")
-        leaf_events, arity, function, events, leaves = reply.head()[2:7]
+        leaf_events, arity, *function, events, leaves, _ = reply.head()[2:]
         records = [record_of(line) for line in reply.lines()]
-        return Tree(int(leaf_events), int(arity), function, int(events), int(leaves), records)
+        return Tree(int(leaf_events), int(arity), " ".join(function), int(events), int(leaves), records)
 
     def verify(self) -> Verification:
         """Whether every byte of the file is what its events determine; it costs what a load of them costs."""

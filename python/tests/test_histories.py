@@ -54,7 +54,7 @@ class Histories(Case):
         leaf, arity = pick.choice([2, 3, 5, 8]), pick.choice([2, 3, 4])
         told: list[int] = []
         with self.open(index) as store:
-            store.create(leaf, arity, pick.choice(["intersection", "union", "balanced"]))
+            store.create(leaf, arity, pick.choice(["intersection", "union", "balanced", "skewed 200"]))
             self.assertIsNone(store.span())
             changes = model.grow(pick.randrange(1, 40))
             forms = [in_some_form(pick, change) for change in changes]

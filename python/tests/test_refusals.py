@@ -39,7 +39,8 @@ BY_ROTE = [
     (18, "line-long", "", deltagraph.LineLong, {}),
     (19, "handles-spent", "", deltagraph.HandlesSpent, {}),
     (20, "already-loaded", "", deltagraph.AlreadyLoaded, {}),
-    (21, "of-tomorrow", "5 x", deltagraph.Refused, {"rest": ["5", "x"]}),
+    (21, "new-format", "", deltagraph.NewFormat, {}),
+    (99, "of-tomorrow", "5 x", deltagraph.Refused, {"rest": ["5", "x"]}),
 ]
 
 
@@ -55,7 +56,7 @@ class Refusals(Case):
                 self.assertEqual(store.pool(), (0, 0))
 
     def test_every_number_is_tried(self) -> None:
-        self.assertEqual({row[0] for row in BY_ROTE} - {21}, set(refusals.OF_NUMBER))
+        self.assertEqual({row[0] for row in BY_ROTE} - {99}, set(refusals.OF_NUMBER))
 
     def test_refusals_of_the_program(self) -> None:
         with self.open() as store:
@@ -63,9 +64,12 @@ class Refusals(Case):
             self.refused(deltagraph.NoIndex, store.append, FIVE)
             self.assertFalse(self.index.exists())
             self.refused(deltagraph.Parameters, store.create, 1, 2)
+            self.refused(deltagraph.Parameters, store.create, 2, 2, "skewed 257")
             self.refused(deltagraph.NoIndex, store.tree)
+            self.refused(deltagraph.NoIndex, store.upgrade)
             store.create(2, 2)
             self.refused(deltagraph.IndexExists, store.create)
+            self.refused(deltagraph.NewFormat, store.upgrade)
             self.assertIsNone(self.refused(deltagraph.OutOfRange, store.at, 10).first)
             store.load(FIVE)
             self.refused(deltagraph.AlreadyLoaded, store.load, ["60 +node 9"])
@@ -112,7 +116,7 @@ class Refusals(Case):
             store.create(2, 2, "intersection")
             store.load([*FIVE[:4], "50 -edge 5"])
         with open(self.index, "r+b") as file:
-            file.seek(258)  # the number of the events of the first list
+            file.seek(306)  # the number of the events of the first list
             file.write(b"\3")
         with self.open() as store:
             damaged = self.refused(deltagraph.Damaged, store.at, 10)
