@@ -15,6 +15,7 @@ interrupted.
 """
 
 import errno
+import os
 import sys
 
 from runs import CREATE, FIRST_FORM, FIVE, Program, Tests, content, in_use, lines, put
@@ -169,9 +170,13 @@ class Faults:
         return met
 
     def cache(self, name, script, image):
-        """With a cache a growth is refused by the same commands, and those of the cache itself by none."""
+        """With a cache a growth is refused by the same commands, and those of the cache itself by none. On one processor,
+        so that two halves of a start follow one another, and a growth has the same number in each run."""
+        processors = os.sched_getaffinity(0)
+        os.sched_setaffinity(0, {min(processors)})
         plain = self.in_turn(f"{name}, no cache", script, image, UNCACHED)
         cached = self.in_turn(f"{name}, a cache", script, image, CACHED)
+        os.sched_setaffinity(0, processors)
         for came in ("refused", "status 6"):
             self.tests.same(f"{name}: {came} by alloc with a cache", cached["alloc"].get(came), plain["alloc"].get(came))
         more = cached["alloc"].get("no effect", 0) - plain["alloc"].get("no effect", 0)
