@@ -80,6 +80,7 @@ change_verbs =
     ∷ verb (codes "ndel") (unset_of (λ n k. Unsets_node n k))
     ∷ verb (codes "eset") (setting_of (λ n k v. Sets_edge n k v))
     ∷ verb (codes "edel") (unset_of (λ n k. Unsets_edge n k))
+    ∷ verb (codes "msg") sending_of
     ∷ []
 
 -- what the words after the instant ask for

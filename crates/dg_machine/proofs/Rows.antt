@@ -162,7 +162,7 @@ unfolding digits due_from over_five due_of_none five made_five due_in output ans
 odd_certificates = refl
 
 records : over_five [] (codes "tree\n")
-    ≡ made_five ++ codes "ok tree 2 2 intersection 5 2 5\nrecord list 0 42 0 0\nrecord list 1 40 34 0\nrecord top 1 26 0 0\nrecord down 1 1 0 0 0\nrecord down 1 2 34 24 0\nend\n"
+    ≡ made_five ++ codes "ok tree 2 2 intersection 5 2 5\nrecord list 0 42 0 0 0\nrecord list 1 40 34 0 0\nrecord top 1 26 0 0 0\nrecord down 1 1 0 0 0 0\nrecord down 1 2 34 24 0 0\nend\n"
 unfolding digits due_from over_five due_of_none five made_five due_in output answered
 records = refl
 
@@ -321,14 +321,14 @@ verified : over_five [] (codes "verify\n") ≡ made_five ++ codes "ok verify sou
 unfolding digits due_from over_five due_of_none five made_five due_in output answered
 verified = refl
 
--- ---- forms and skewed functions
+-- ---- forms, skewed functions and messages
 
 skewed_parameters : due_of_none [] (codes "create 2 2 skewed 300\ncreate 2 2 skewed\n") ≡ codes "refused 4 parameters\nend\nrefused 1 syntax 1\nend\n"
 unfolding digits due_from due_of_none due_in output answered
 skewed_parameters = refl
 
 skewed_records : due_of_none [] (codes "create 2 2 skewed 256\nload 5\n10 +node 1\n20 +node 2\n30 +edge 5 1 2 dir\n40 nset 1 name A\n50 -edge 5\ntree\n")
-    ≡ codes "ok create\nend\nok load 5 5 50\nend\nok tree 2 2 skewed 256 5 2 5\nrecord list 0 42 0 0\nrecord list 1 40 34 0\nrecord top 1 52 24 0\nrecord down 1 1 34 24 0\nrecord down 1 2 0 0 0\nend\n"
+    ≡ codes "ok create\nend\nok load 5 5 50\nend\nok tree 2 2 skewed 256 5 2 5\nrecord list 0 42 0 0 0\nrecord list 1 40 34 0 0\nrecord top 1 52 24 0 0\nrecord down 1 1 34 24 0 0\nrecord down 1 2 0 0 0 0\nend\n"
 unfolding digits due_from due_of_none due_in output answered
 skewed_records = refl
 
@@ -352,11 +352,18 @@ first_form = Some (record {
   } ∷ [];
 })
 
-upgraded : due_in 713 first_form [] (codes "upgrade\nupgrade\nappend 1\n60 +node 9\n")
-    ≡ codes "ok upgrade\nend\nrefused 21 new-format\nend\nok append 1 6 60\nend\n"
+upgraded : due_in 713 first_form [] (codes "append 1\n60 msg 1 2 x\nappend 1\n60 msg 1 9 x\nupgrade\nupgrade\nappend 1\n60 +node 9\n")
+    ≡ codes "refused 22 old-format\nend\nrefused 6 bad-change 1 8\nend\nok upgrade\nend\nrefused 21 new-format\nend\nok append 1 6 60\nend\n"
 unfolding digits due_from due_in output answered first_form
 upgraded = refl
 
 no_room_for_marker : due_in 520 first_form [] (codes "upgrade\n") ≡ codes "refused 13 file-full 521 520\nend\n"
 unfolding digits due_from due_in output answered first_form
 no_room_for_marker = refl
+
+-- Leaf 2 is behind the recent events. Leaf 1 is reached from it through list 1, which has no structure.
+messages : due_of_none (no_plan ∷ no_plan ∷ no_plan ∷ steps_are (0 ∷ 13 ∷ 15 ∷ []) ∷ no_plan ∷ no_plan ∷ steps_are (0 ∷ 13 ∷ 15 ∷ 6 ∷ 7 ∷ []) ∷ steps_are (0 ∷ 13 ∷ 15 ∷ []) ∷ no_plan ∷ grafts_are (graft node.Root (0 ∷ 13 ∷ 15 ∷ []) ∷ graft (node.Leaf 2) [] ∷ []) (0 ∷ 0 ∷ []) ∷ [])
+    (codes "create 2 2 intersection\nload 4\n10 +node 1\n10 +node 2\n20 msg 1 2 hi\n20 msg 1 2 yo\nappend 1\n30 +node 3\nat 20 st\nlist 1\ncounts 1\nat 10 st\nat 20 s\ncounts 3\nseveral st 20 20\n")
+    ≡ codes "ok create\nend\nok load 4 4 20\nend\nok append 1 5 30\nend\nok at 1 64\nend\nok list 1 4\nnode 1\nnode 2\nmsg 1 2 hi\nmsg 1 2 yo\nend\nok counts 1 2 0 0 0 2\nend\nok at 2 0\nend\nok at 3 0\nend\nok counts 3 2 0 0 0\nend\nok several 64 128\nhandle 4 20 64\nhandle 5 20 64\nend\n"
+unfolding digits due_from due_of_none due_in output answered
+messages = refl

@@ -13,7 +13,9 @@ use Rattle.dg_changes.specs.Batch.{batch_of}
 use Rattle.dg_index.specs.FileOfHistory.{size}
 use Rattle.dg_history.specs.declared.form.Form.TheVariants as form
 use Rattle.dg_graph.specs.declared.function.Function.TheVariants.{Skewed}
-use Rattle.dg_history.specs.History.{History, Batch, empty_history, with_batch, with_upgrade, events_of, last_time_from}
+use Rattle.dg_history.specs.History.{History, Batch, empty_history, with_batch, with_upgrade, events_of, is_wide, last_time_from}
+use Rattle.dg_history.specs.LegalHistory.{are_silent}
+use Rattle.dg_index.specs.HeardLists.{heard_length}
 use Rattle.dg_machine.specs.declared.command.Command.{Command}
 use Rattle.dg_machine.specs.declared.command.Command.TheVariants as command
 use Rattle.dg_machine.specs.declared.command.Query.{Query}
@@ -61,15 +63,16 @@ refuse m r = record { reply = headed (head.Refused r); state = m }
 abbrev pub say : MachineState → Reply → Answered
 say m r = record { reply = r; state = m }
 
--- the reply to a batch, with this head, and the state with the batch
+-- The reply to a batch, with this head, and the state with the batch. A file in its first form takes no message.
 abbrev pub with_new : MachineState → History → (ℕ → ℕ → ℕ → Head) → Result Batch (ℕ × ℕ) → Answered
 with_new m z make (Err fault) = refuse m (refusal.BadChange fault.0 fault.1)
 with_new m z make (Ok b) =
-    if nat_lt m.limits.file_bytes (size (with_batch z b)) then refuse m (refusal.FileFull (size (with_batch z b)) m.limits.file_bytes)
+    if not (is_wide z.form) && not (are_silent b.events) then refuse m refusal.OldFormat
+    else (if nat_lt m.limits.file_bytes (size (with_batch z b)) then refuse m (refusal.FileFull (size (with_batch z b)) m.limits.file_bytes)
     else record {
       reply = headed (make (length b.events) (length (events_of z) + length b.events) (last_time_from 0 b.events));
       state = record m { index = Some (with_batch z b) };
-    }
+    })
 
 -- the next batch, with this head
 abbrev pub with_lines : MachineState → (ℕ → ℕ → ℕ → Head) → List ScriptLine → Answered
@@ -109,6 +112,15 @@ overlays cols base times = map (λ t. Overlay t cols (base t)) times
 abbrev pub base_for : MachineState → Columns → List ℕ → ℕ → Option ℕ
 base_for m cols steps t = base_under (edges_in m cols) steps (point_for m t)
 
+-- the columns of what a handle stands for; none but structure, where it is not live
+abbrev pub columns_if : Option Stands → Columns
+columns_if None = record { nodes_attr = false; edges_attr = false; transient = false }
+columns_if (Some (Overlay t cols on)) = cols
+columns_if (Some (Base node cols)) = cols
+
+abbrev pub columns_by : MachineState → ℕ → Columns
+columns_by m handle = columns_if (stands_at handle m.table)
+
 -- the elements of a handle
 abbrev pub shown_by : MachineState → ℕ → List Element
 shown_by m handle = elements_if (history_in m.index) (stands_at handle m.table)
@@ -125,9 +137,9 @@ handle_lines next (t ∷ times) (single ∷ singles) = line.Handle next t single
 
 -- ---- what is asked of a handle's graph
 
--- how many elements of each kind the set has
-abbrev pub counting : ℕ → List Element → Reply
-counting handle set = headed (head.Counts handle (counts_of set))
+-- how many elements of each kind the set has, messages among them where these columns have them
+abbrev pub counting : ℕ → Columns → List Element → Reply
+counting handle cols set = headed (head.Counts handle (counts_of set) cols.transient)
 
 -- the node of the set, with a line for each attribute; or that it is not in the set
 abbrev pub node_reply : ℕ → ℕ → List Element → Reply
@@ -143,14 +155,24 @@ neighbours_reply handle id set = record {
   body = map (λ n. line.Neighbour n) (neighbours_of set id);
 }
 
--- the reply to a query of this set
-abbrev pub query_reply : Query → ℕ → List Element → Reply
-query_reply query.List handle set = listing handle set
-query_reply query.Counts handle set = counting handle set
-query_reply (query.Node id) handle set = node_reply handle id set
-query_reply (query.Neighbours id) handle set = neighbours_reply handle id set
+-- the reply to a query of this set, which has these columns
+abbrev pub query_reply : Query → ℕ → Columns → List Element → Reply
+query_reply query.List handle cols set = listing handle set
+query_reply query.Counts handle cols set = counting handle cols set
+query_reply (query.Node id) handle cols set = node_reply handle id set
+query_reply (query.Neighbours id) handle cols set = neighbours_reply handle id set
 
 -- ---- new handles
+
+-- the bytes of the columns of messages that are read for these instants, where messages are asked for
+abbrev pub heard_for : MachineState → Columns → List ℕ → ℕ
+heard_for m cols times = if cols.transient then heard_length (history_in m.index) times else 0
+
+-- the weights of single retrievals: of the plan of each instant, with the messages that are read for it
+abbrev pub with_heard : MachineState → Columns → List ℕ → List ℕ → List ℕ
+with_heard m cols [] singles = []
+with_heard m cols (t ∷ times) [] = []
+with_heard m cols (t ∷ times) (single ∷ singles) = (single + heard_for m cols (t ∷ [])) ∷ with_heard m cols times singles
 
 -- the reply of a tree that weighs so much, with the weights of the single plans, for handles from this number on
 abbrev pub several_reply : ℕ → ℕ → List ℕ → List ℕ → Reply
@@ -189,7 +211,7 @@ plan_reply edges nodes weight steps potentials = record {
 -- the line of a record
 abbrev pub record_line : History → Key → BodyLine
 record_line z k =
-    line.Sizes k (length (column_in z k column.Structure) ∷ length (column_in z k column.NodeAttr) ∷ length (column_in z k column.EdgeAttr) ∷ [])
+    line.Sizes k (length (column_in z k column.Structure) ∷ length (column_in z k column.NodeAttr) ∷ length (column_in z k column.EdgeAttr) ∷ length (column_in z k column.Transient) ∷ [])
 
 -- the parameters, and a line for each list, top and down
 abbrev pub tree_reply : History → Reply
@@ -226,18 +248,19 @@ accepted m command.Upgrade lines p = upgrading m (history_in m.index)
 accepted m (command.Load count) lines p = with_lines m (λ events total last. head.Loaded events total last) lines
 accepted m (command.Append count) lines p = with_lines m (λ events total last. head.Appended events total last) lines
 accepted m (command.At t cols) lines p = record {
-  reply = headed (head.At m.next (weight_of (arcs_of (edges_in m cols)) p.steps));
+  reply = headed (head.At m.next (weight_of (arcs_of (edges_in m cols)) p.steps + heard_for m cols (t ∷ [])));
   state = with_handle m (Overlay t cols (base_for m cols p.steps t));
 }
 accepted m (command.Several cols times count) lines p = record {
-  reply = several_reply m.next (tree_weight (arcs_of (edges_in m cols)) p.grafts) (take count times) p.singles;
+  reply = several_reply m.next (tree_weight (arcs_of (edges_in m cols)) p.grafts + heard_for m cols (take count times)) (take count times)
+      (with_heard m cols (take count times) p.singles);
   state = with_handles m (overlays cols (base_for m cols (steps_of p.grafts)) (take count times));
 }
 accepted m (command.Materialise node cols) lines p = record {
   reply = headed (head.Materialised m.next (weight_of (arcs_of (record_edges_in m cols)) p.steps));
   state = with_handle m (Base node cols);
 }
-accepted m (command.Ask handle q) lines p = say m (query_reply q handle (shown_by m handle))
+accepted m (command.Ask handle q) lines p = say m (query_reply q handle (columns_by m handle) (shown_by m handle))
 accepted m (command.Release handle) lines p = record {
   reply = headed (head.Released handle);
   state = record m { table = without_handle handle m.table };

@@ -39,6 +39,15 @@ columns_of word =
     else (if is_word word (codes "se") then Some (record { nodes_attr = false; edges_attr = true; transient = false })
     else (if is_word word (codes "sne") then Some (record { nodes_attr = true; edges_attr = true; transient = false }) else None)))
 
+-- the same, and behind them a `t` for the messages of the instant
+abbrev pub heard_columns_of : List ℕ → Option Columns
+heard_columns_of word =
+    if is_word word (codes "st") then Some (record { nodes_attr = false; edges_attr = false; transient = true })
+    else (if is_word word (codes "snt") then Some (record { nodes_attr = true; edges_attr = false; transient = true })
+    else (if is_word word (codes "set") then Some (record { nodes_attr = false; edges_attr = true; transient = true })
+    else (if is_word word (codes "snet") then Some (record { nodes_attr = true; edges_attr = true; transient = true })
+    else columns_of word)))
+
 abbrev pub skewed_of : List ℕ → Option Bool
 skewed_of word = if is_word word (codes "skewed") then Some true else None
 
@@ -67,7 +76,7 @@ several_with cols times =
 
 -- columns, an instant, and others
 abbrev pub several_of : List (List ℕ) → Option Command
-several_of (cols ∷ word ∷ rest) = option_and_then (λ c. option_and_then (several_with c) (times_of (word ∷ rest))) (columns_of cols)
+several_of (cols ∷ word ∷ rest) = option_and_then (λ c. option_and_then (several_with c) (times_of (word ∷ rest))) (heard_columns_of cols)
 several_of rest = None
 
 -- a number of cells, or all
@@ -87,7 +96,7 @@ command_verbs =
     verb (codes "create") create_of
     ∷ verb (codes "load") (one count_of (λ n. command.Load n))
     ∷ verb (codes "append") (one count_of (λ n. command.Append n))
-    ∷ verb (codes "at") (two_words time_of columns_of (λ t cols. command.At t cols))
+    ∷ verb (codes "at") (two_words time_of heard_columns_of (λ t cols. command.At t cols))
     ∷ verb (codes "several") several_of
     ∷ verb (codes "materialise") (read_by held_node_verbs)
     ∷ verb (codes "list") (one handle_of (λ h. command.Ask h query.List))

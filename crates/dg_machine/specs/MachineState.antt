@@ -11,7 +11,7 @@ use Rattle.dg_machine.specs.declared.stands.Stands.TheVariants.{Overlay, Base}
 use Rattle.dg_graph.specs.Elements.{shown}
 use Rattle.dg_history.specs.declared.form.Form.TheVariants as form
 use Rattle.dg_history.specs.History.{History, empty_history, events_of, names_of}
-use Rattle.dg_graph.specs.Replay.{replay, replay_at}
+use Rattle.dg_graph.specs.Replay.{replay, shown_at}
 use Rattle.dg_graph.specs.Sets.{unioned}
 use Rattle.dg_index.specs.Hierarchy.{set_of}
 
@@ -70,9 +70,10 @@ abbrev pub dependent_on : ℕ → List (ℕ × Stands) → Option ℕ
 dependent_on handle [] = None
 dependent_on handle (entry ∷ table) = if is_overlay_on handle entry.1 then Some entry.0 else dependent_on handle table
 
--- the elements of what a handle stands for: the graph as of the instant, or the set of the node, in its columns
+-- The elements of what a handle stands for, in its columns: the graph as of the instant with the messages of the
+-- instant, or the set of the node.
 abbrev pub elements : History → Stands → List Element
-elements z (Overlay t cols on) = shown (replay_at (events_of z) t) cols
+elements z (Overlay t cols on) = shown_at (events_of z) t cols
 elements z (Base node cols) = shown (set_of z.params (events_of z) node) cols
 
 -- the elements of any of these sets

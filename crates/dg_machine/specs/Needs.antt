@@ -1,6 +1,8 @@
 -- What each command needs, and the refusals that follow from it.
 use Rattle.std.specs.Prelude.{ℕ, ◌+◌, ◌*◌, Bool, true, false, ◌&&◌, ◌||◌, not, List, [], ◌∷◌, ◌++◌, Option, Some, None, length, nat_le, nat_lt, is_some, take}
 use Rattle.std.specs.List.{list_any}
+use Rattle.dg_graph.specs.declared.function.Function.{Function}
+use Rattle.dg_graph.specs.declared.function.Function.TheVariants.{Skewed}
 use Rattle.dg_graph.specs.declared.limits.TheConstants.{SKEW_MAX}
 use Rattle.dg_text.specs.declared.limits.TheConstants.{NAMES_MAX}
 use Rattle.dg_text.specs.Lines.{ScriptLine}
@@ -71,8 +73,13 @@ abbrev pub takes_memory : Query → Bool
 takes_memory query.Counts = false
 takes_memory q = true
 
+-- the share of a skewed function; no other has one
+abbrev pub share_of : Function → ℕ
+share_of (Skewed r) = r
+share_of function = 0
+
 abbrev pub needs : Command → Needs
-needs (command.Create l k function) = record nothing_more { parameters = Some (l, k, 0); writes = true }
+needs (command.Create l k function) = record nothing_more { parameters = Some (l, k, share_of function); writes = true }
 needs (command.CreateSkewed l k r) = record nothing_more { parameters = Some (l, k, r); writes = true }
 needs command.Upgrade = record nothing_more { index = true; first_form = true; memory = false; writes = true }
 needs (command.Load count) = record (batch_needs count) { unloaded = true }

@@ -118,6 +118,7 @@ refusal_words refusal.LineLong = codes "18" ∷ codes "line-long" ∷ []
 refusal_words refusal.HandlesSpent = codes "19" ∷ codes "handles-spent" ∷ []
 refusal_words refusal.AlreadyLoaded = codes "20" ∷ codes "already-loaded" ∷ []
 refusal_words refusal.NewFormat = codes "21" ∷ codes "new-format" ∷ []
+refusal_words refusal.OldFormat = codes "22" ∷ codes "old-format" ∷ []
 
 -- the words of a head line
 abbrev pub head_words : Head → List (List ℕ)
@@ -129,8 +130,9 @@ head_words (head.At handle weight) = codes "ok" ∷ codes "at" ∷ decimal handl
 head_words (head.Several weight sum) = codes "ok" ∷ codes "several" ∷ decimal weight ∷ decimal sum ∷ []
 head_words (head.Materialised handle weight) = codes "ok" ∷ codes "materialise" ∷ decimal handle ∷ decimal weight ∷ []
 head_words (head.List handle lines) = codes "ok" ∷ codes "list" ∷ decimal handle ∷ decimal lines ∷ []
-head_words (head.Counts handle c) =
-    codes "ok" ∷ codes "counts" ∷ decimal handle ∷ decimal c.nodes ∷ decimal c.edges ∷ decimal c.node_attrs ∷ decimal c.edge_attrs ∷ []
+head_words (head.Counts handle c with_messages) =
+    codes "ok" ∷ codes "counts" ∷ decimal handle ∷ decimal c.nodes ∷ decimal c.edges ∷ decimal c.node_attrs ∷ decimal c.edge_attrs
+    ∷ (if with_messages then decimal c.messages ∷ [] else [])
 head_words (head.NodeThere handle id degree) = codes "ok" ∷ codes "node" ∷ decimal handle ∷ decimal id ∷ codes "yes" ∷ decimal degree ∷ []
 head_words (head.NodeAbsent handle id) = codes "ok" ∷ codes "node" ∷ decimal handle ∷ decimal id ∷ codes "no" ∷ []
 head_words (head.Neighbours handle id lines) = codes "ok" ∷ codes "neighbours" ∷ decimal handle ∷ decimal id ∷ decimal lines ∷ []

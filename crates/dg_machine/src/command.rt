@@ -47,13 +47,14 @@ pub enum Command {
     Append {
         count: u32,
     },
-    /// Retrieve the graph as of the instant `t`, in these columns, as a new handle.
+    /// Retrieve the graph as of the instant `t`, in these columns, as a new handle, with the messages of exactly the instant
+    /// where they are asked for.
     At {
         t: u64,
         cols: Columns,
     },
     /// Retrieve the graphs as of the first `count` of these instants by one tree, in these columns, each as a
-    /// new handle. The other instants are 0.
+    /// new handle, with the messages of exactly its instant where they are asked for. The other instants are 0.
     Several {
         cols: Columns,
         times: [u64; TIMES_MAX],

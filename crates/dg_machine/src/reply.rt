@@ -19,7 +19,7 @@ pub struct Reply {
     pub body: BodyLines,
 }
 
-// A new first line also needs: the command that it answers, in `Answer`; its words in `ReplyText` and dg_line; the command that
+// A new first line also needs: the command that it answers, in `Answer`; its words in `ReplyText` and dg_reply; the command that
 // it fits, in dg_session's `IsHeadOf`.
 /// The first line of a reply.
 #[derive(Clone, Copy)]
@@ -40,13 +40,13 @@ pub enum Head {
         total: u64,
         last: u64,
     },
-    /// A graph was retrieved as this handle, by a plan of this weight.
+    /// A graph was retrieved as this handle: the weight of its plan, with that of the messages that were asked for.
     At {
         handle: u32,
         weight: u64,
     },
-    /// Graphs were retrieved by a tree of this weight; the weights of their single plans have this sum. A line
-    /// for each handle follows.
+    /// Graphs were retrieved: the weight of their tree, and the sum of the weights of their single plans, each with that of
+    /// the messages that were asked for. A line for each handle follows.
     Several {
         weight: u64,
         sum: u64,
@@ -61,10 +61,11 @@ pub enum Head {
         handle: u32,
         lines: u64,
     },
-    /// How many elements of each kind a handle has.
+    /// How many elements of each kind a handle has, messages among them where its columns have these.
     Counts {
         handle: u32,
         counts: Counts,
+        with_messages: bool,
     },
     /// The node is in the handle's graph, and has so many edges. A line for each attribute follows.
     NodeThere {
@@ -128,7 +129,7 @@ pub enum Head {
 }
 
 // A new refusal also needs: its place and its premise in `refusals` (`Needs`) and in dg_session's `refusals_by`; its words in
-// `ReplyText` and dg_line; and where it comes of a change, of the file or of memory, its line in `is_late`.
+// `ReplyText` and dg_reply; and where it comes of a change, of the file or of memory, its line in `is_late`.
 /// Why a command was refused. docs/SCRIPT.md has the order in which these are tested.
 #[derive(Clone, Copy)]
 pub enum Refusal {
@@ -174,6 +175,8 @@ pub enum Refusal {
     AlreadyLoaded,
     /// 21: the file has its second form already.
     NewFormat,
+    /// 22: a line of the batch is a message, and the file has its first form.
+    OldFormat,
 }
 
 /// A line of a reply's body.
@@ -185,7 +188,7 @@ pub enum BodyLine {
     Attribute(KeyValue),
     /// An edge at a node.
     Neighbour(Neighbour),
-    /// A new handle with its instant, and the weight of the instant's single plan.
+    /// A new handle with its instant, and the weight of the instant's single plan with that of the messages asked for.
     Handle {
         handle: u32,
         t: u64,
@@ -202,10 +205,10 @@ pub enum BodyLine {
         node: NodeId,
         value: u64,
     },
-    /// A record, and the bytes of its three columns.
+    /// A record, and the bytes of its four columns.
     Sizes {
         key: Key,
-        lengths: [u64; 3],
+        lengths: [u64; 4],
     },
 }
 
