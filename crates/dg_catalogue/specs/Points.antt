@@ -1,5 +1,5 @@
 -- The point of an instant: the node from which the graph as of the instant is reached, by what a catalogue holds.
-use Rattle.std.specs.Prelude.{◌≡◌, ℕ, zero, suc, ◌+◌, ◌≤◌, ◌==◌, max, Bool, true, false, cond, ◌&&◌, List, [], ◌∷◌, Option, Some, None, is_some, nat_le}
+use Rattle.std.specs.Prelude.{◌≡◌, ℕ, zero, suc, ◌+◌, ◌≤◌, ◌<◌, ◌==◌, max, Bool, true, false, cond, ◌&&◌, List, [], ◌∷◌, Option, Some, None, is_some, nat_le}
 use Rattle.std.specs.Map.{keys_of}
 use Rattle.dg_history.specs.declared.node.Key.{Key}
 use Rattle.dg_history.specs.declared.node.Key.TheVariants as key
@@ -9,10 +9,13 @@ use Rattle.dg_index.specs.declared.entry.Ends.{Ends}
 use Rattle.dg_catalogue.specs.Entries.{Holdings}
 use Rattle.dg_catalogue.specs.Held.{ends_of}
 
--- the lists that are held have the numbers from 0 on, and the first instant of none is before that of an earlier one
+-- The lists that are held have the numbers from 0 on. The first instant of none is before that of an earlier one, nor before
+-- the last of an earlier one; and none ends before it begins.
 pub record ListsRise (c : Holdings) : Type 0 where
   pub held : (i j : ℕ) → i ≤ j → is_some (ends_of c j) ≡ true → is_some (ends_of c i) ≡ true
   pub rise : (i j : ℕ) (earlier later : Ends) → i ≤ j → ends_of c i ≡ Some earlier → ends_of c j ≡ Some later → earlier.first ≤ later.first
+  pub apart : (i j : ℕ) (earlier later : Ends) → i < j → ends_of c i ≡ Some earlier → ends_of c j ≡ Some later → earlier.last ≤ later.first
+  pub within : (i : ℕ) (ends : Ends) → ends_of c i ≡ Some ends → ends.first ≤ ends.last
 
 -- there are instants, and the first of them is not later than t
 abbrev pub begin_by : ℕ → Option Ends → Bool

@@ -1,4 +1,4 @@
--- The lists that an index keeps have the numbers from 0 on, and none begins before an earlier one.
+-- The lists that an index keeps have the numbers from 0 on, and none begins before an earlier one has ended.
 use Rattle.std.proofs.Common.{◌≡◌, ℕ, zero, suc, ◌+◌, ◌-◌, ◌*◌, ◌/◌, ◌^◌, ◌<◌, ◌≤◌, Bool, true, false, cond, ◌==◌, List, [], ◌∷◌, ◌++◌, map, Option, Some, None, is_some, refl, sym, ap, subst, ◌∙◌, arith, append_assoc}
 use Rattle.std.specs.Prelude.{nat_le, option_and_then}
 use Rattle.std.specs.Map.{lookup}
@@ -145,7 +145,8 @@ record Rising (n t : ℕ) (records : List (Key × Entry)) : Type 0 where
   number : (j : ℕ) → is_some (found_at records j) ≡ true → n ≤ j
   held : (i j : ℕ) → n ≤ i → i ≤ j → is_some (found_at records j) ≡ true → is_some (found_at records i) ≡ true
   starts : (j : ℕ) (x : Ends) → times_at records j ≡ Some x → t ≤ x.first
-  rise : (i j : ℕ) (a b : Ends) → i ≤ j → times_at records i ≡ Some a → times_at records j ≡ Some b → a.first ≤ b.first
+  apart : (i j : ℕ) (a b : Ends) → i < j → times_at records i ≡ Some a → times_at records j ≡ Some b → a.last ≤ b.first
+  within : (i : ℕ) (x : Ends) → times_at records i ≡ Some x → x.first ≤ x.last
 
 some_found : (o : Option Entry) (x : Ends) → option_and_then (λ (e : Entry). e.ends) o ≡ Some x → is_some o ≡ true
 some_found None x is = absurd cc
@@ -171,7 +172,8 @@ none_rising n t = record {
   number = λ j e. absurd (false≢true e);
   held = λ i j low le e. e;
   starts = λ j x is. absurd (let no : None ≡ Some x = is in cc);
-  rise = λ i j a b le at_i at_j. absurd (let no : None ≡ Some a = at_i in cc);
+  apart = λ i j a b le at_i at_j. absurd (let no : None ≡ Some a = at_i in cc);
+  within = λ i x is. absurd (let no : None ≡ Some x = is in cc);
 }
 
 -- with a record more in front that is no list's
@@ -183,13 +185,14 @@ behind_other n t k e more other begin rest =
       number = λ j held. rest.number j (sym (ap is_some (there j)) ∙ held);
       held = λ i j low le held. ap is_some (there i) ∙ rest.held i j low le (sym (ap is_some (there j)) ∙ held);
       starts = λ j x is. let h = rest.starts j x (sym (times j) ∙ is) in omega (arith, h, not_before t e.ends begin);
-      rise = λ i j a b le at_i at_j. rest.rise i j a b le (sym (times i) ∙ at_i) (sym (times j) ∙ at_j);
+      apart = λ i j a b le at_i at_j. rest.apart i j a b le (sym (times i) ∙ at_i) (sym (times j) ∙ at_j);
+      within = λ i x is. rest.within i x (sym (times i) ∙ is);
     }
 
 -- with the list of the number n in front
 behind_list : (n t m : ℕ) (e : Entry) (more : List (Key × Entry)) → m ≡ n → BeginsFrom t e.ends → Rising (n + 1) (last_or t e.ends) more → Rising n t ((key.List m, e) ∷ more)
 behind_list n t m e more is_next begin rest =
-    record { number = number; held = held; starts = starts; rise = rise }
+    record { number = number; held = held; starts = starts; apart = apart; within = within }
   where
     here : (j : ℕ) → j ≡ m → found_at ((key.List m, e) ∷ more) j ≡ Some e
     here j is = ap (λ b. cond b (Some e) (found_at more j)) (eq-eqb j m is)
@@ -220,22 +223,24 @@ behind_list n t m e more is_next begin rest =
         split j m (λ is. (subst (BeginsFrom t) (times_here j x is at) begin).0)
         (λ not. let h = rest.starts j x (times_there j x not at) in let g : t ≤ x.first = omega (arith, h, not_before t e.ends begin) in g)
 
-    rise : (i j : ℕ) (a b : Ends) → i ≤ j → times_at ((key.List m, e) ∷ more) i ≡ Some a → times_at ((key.List m, e) ∷ more) j ≡ Some b → a.first ≤ b.first
-    rise i j a b le at_i at_j =
+    apart : (i j : ℕ) (a b : Ends) → i < j → times_at ((key.List m, e) ∷ more) i ≡ Some a → times_at ((key.List m, e) ∷ more) j ≡ Some b → a.last ≤ b.first
+    apart i j a b less at_i at_j =
         split i m
         (λ is.
-        let first : e.ends ≡ Some a = times_here i a is at_i in
-        let up : a.first ≤ a.last = (subst (BeginsFrom t) first begin).1 in
-        split j m (λ same. let one : a.first ≡ b.first = ap (λ (x : Ends). x.first) (same_Some _ _ (sym first ∙ times_here j b same at_j)) in let g : a.first ≤ b.first = omega (arith, one) in g)
-        (λ not.
-        let h = rest.starts j b (times_there j b not at_j) in
-        let end : last_or t e.ends ≡ a.last = ap (last_or t) first in
-        let g : a.first ≤ b.first = omega (arith, h, end, up) in
-        g))
+        let far : j ≡ m → ⊥ = λ same. absurd (omega (arith, is, same, less)) in
+        let h = rest.starts j b (times_there j b far at_j) in
+        let end : last_or t e.ends ≡ a.last = ap (last_or t) (times_here i a is at_i) in
+        let g : a.last ≤ b.first = omega (arith, h, end) in
+        g)
         (λ not.
         let next = rest.number i (some_found (found_at more i) a (times_there i a not at_i)) in
-        let far : j ≡ m → ⊥ = λ is. absurd (omega (arith, is, next, le, is_next)) in
-        rest.rise i j a b le (times_there i a not at_i) (times_there j b far at_j))
+        let far : j ≡ m → ⊥ = λ is. absurd (omega (arith, is, next, less, is_next)) in
+        rest.apart i j a b less (times_there i a not at_i) (times_there j b far at_j))
+
+    within : (i : ℕ) (x : Ends) → times_at ((key.List m, e) ∷ more) i ≡ Some x → x.first ≤ x.last
+    within i x at =
+        split i m (λ is. (subst (BeginsFrom t) (times_here i x is at) begin).1)
+        (λ not. rest.within i x (times_there i x not at))
 
 rising : (n t : ℕ) (records : List (Key × Entry)) → NumberedFrom n (keys_in records) → TimesRise t records → Rising n t records
 rising n t [] numbered times = none_rising n t
@@ -247,6 +252,21 @@ rising n t (r ∷ more) numbered times = by (λ m. rising m (last_or t r.1.ends)
     by rest (key.Top h) numbered = behind_other n t (key.Top h) r.1 more (λ j. refl) times.0 (rest n numbered times.1)
     by rest (key.Down h c) numbered = behind_other n t (key.Down h c) r.1 more (λ j. refl) times.0 (rest n numbered times.1)
 
+-- no list begins before an earlier one
+firsts : {n t : ℕ} {records : List (Key × Entry)} → Rising n t records → (i j : ℕ) (a b : Ends) → i ≤ j → times_at records i ≡ Some a → times_at records j ≡ Some b → a.first ≤ b.first
+firsts {records = records} all i j a b le at_i at_j =
+    split i j
+    (λ is.
+    let one : a ≡ b = same_Some _ _ (sym at_i ∙ ap (times_at records) is ∙ at_j) in
+    let same : a.first ≡ b.first = ap (λ (x : Ends). x.first) one in
+    let g : a.first ≤ b.first = omega (arith, same) in
+    g)
+    (λ not.
+    let less : i < j = omega (arith, le, not) in
+    let ended = all.apart i j a b less at_i at_j in
+    let g : a.first ≤ b.first = omega (arith, ended, all.within i a at_i) in
+    g)
+
 -- the catalogue of an index, in which each list has times
 pub lists_rise : (o : Opening) (events names from : ℕ) (last : Option ℕ) (span : Option Ends) (c : Holdings) → IndexIsSound o events names from last span → c.entries ≡ o.records
     → ((k : Key) (e : Entry) → entry_of c k ≡ Some e → EndsIfList (k, e)) → ListsRise c
@@ -257,7 +277,9 @@ lists_rise o events names from last span c s same told =
     let all : Rising 0 0 c.entries = subst (Rising 0 0) (sym same) (rising 0 0 o.records numbered s.rise) in
     record {
       held = λ i j le later. by i (found_at c.entries i) refl (all.held i j (omega arith) le (some_there (found_at c.entries j) later));
-      rise = λ i j earlier later le at_i at_j. all.rise i j earlier later le at_i at_j;
+      rise = λ i j earlier later le at_i at_j. firsts all i j earlier later le at_i at_j;
+      apart = λ i j earlier later less at_i at_j. all.apart i j earlier later less at_i at_j;
+      within = λ i ends at. all.within i ends at;
     }
   where
     by : (i : ℕ) (f : Option Entry) → found_at c.entries i ≡ f → is_some f ≡ true → is_some (option_and_then (λ (e : Entry). e.ends) f) ≡ true
