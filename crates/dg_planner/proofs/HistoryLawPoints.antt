@@ -176,6 +176,21 @@ module _ (z : History) (legal : IsLegal z) (catalogue : Holdings) (holds : Holds
         let b : later.first ≡ time_at (events_of z) (j * l) = ap (λ (x : Ends). x.first) (same_Some _ _ (sym at_j ∙ ends_are j lt)) in
         let up = times_rise 0 (events_of z) (events_rise z legal) (i * l) (j * l) (mul-le-mul_right l le) (omega (arith, full j lt, pos)) in
         omega (arith, a, b, up);
+    apart = λ i j earlier later less at_i at_j.
+        let l : ℕ = z.params.l in
+        let lt : j < leaves z.params (length (events_of z)) = is_closed j (ap is_some at_j) in
+        let a : earlier.last ≡ time_at (events_of z) (i * l + (l - 1)) = ap (λ (x : Ends). x.last) (same_Some _ _ (sym at_i ∙ ends_are i (omega (arith, less, lt)))) in
+        let b : later.first ≡ time_at (events_of z) (j * l) = ap (λ (x : Ends). x.first) (same_Some _ _ (sym at_j ∙ ends_are j lt)) in
+        let step : (i + 1) * l ≤ j * l = mul-le-mul_right l (let x : i + 1 ≤ j = omega (arith, less) in x) in
+        let up = times_rise 0 (events_of z) (events_rise z legal) (i * l + (l - 1)) (j * l) (omega (arith, step, one_more i l, pos)) (omega (arith, full j lt, pos)) in
+        omega (arith, a, b, up);
+    within = λ i ends at_i.
+        let l : ℕ = z.params.l in
+        let lt : i < leaves z.params (length (events_of z)) = is_closed i (ap is_some at_i) in
+        let a : ends.first ≡ time_at (events_of z) (i * l) = ap (λ (x : Ends). x.first) (same_Some _ _ (sym at_i ∙ ends_are i lt)) in
+        let b : ends.last ≡ time_at (events_of z) (i * l + (l - 1)) = ap (λ (x : Ends). x.last) (same_Some _ _ (sym at_i ∙ ends_are i lt)) in
+        let up = times_rise 0 (events_of z) (events_rise z legal) (i * l) (i * l + (l - 1)) (omega arith) (omega (arith, full i lt, pos)) in
+        omega (arith, a, b, up);
   }
 
   -- ---- the point of an instant

@@ -26,6 +26,10 @@ IsBetween nodes e = Contains nodes e.from × Contains nodes e.to
 abbrev pub FARTHEST : ℕ
 FARTHEST = 29 * 2 ^ 48
 
+-- the most bytes that a tree of 32 targets weighs, and their single plans together
+abbrev pub TREE_WEIGHT_MAX : ℕ
+TREE_WEIGHT_MAX = 32 * FARTHEST
+
 -- The edges are those of a graph of this form, the links are the same edges by the indices of their ends, and
 -- the costs are the least ones of all nodes from the root.
 pub record IsWhole (g : Ground) (edges : List Edge) (starts : List ℕ) (links : List Link) (outs ins : Adjacency) (costs : List Label) : Type 0 where

@@ -11,7 +11,7 @@ ghost use Rattle.dg_catalogue.specs.Shapes.{IsShape};
 ghost use Rattle.dg_planner.specs.AskedLengths.{asked_length_of};
 ghost use Rattle.dg_planner.specs.Bases.{HasBases, ground_of, ground_with};
 ghost use Rattle.dg_planner.specs.Trees.{grafts_in, node_grafts};
-ghost use Rattle.dg_planner.specs.Whole.{FARTHEST};
+ghost use Rattle.dg_planner.specs.Whole.{FARTHEST, TREE_WEIGHT_MAX};
 
 use crate::Base;
 use crate::build::build_edges;
@@ -183,6 +183,8 @@ impl Planner {
         ensures weight { IfOk result (λ t. t.weight ≡ tree_weight (arcs_of self.now.edges) (grafts_in t)) }
         ensures sum { IfOk result (λ t. t.sum ≡ sum t.singles.items) }
         ensures shared { IfOk result (λ t. t.weight ≤ sum t.singles.items) }
+        ensures light { IfOk result (λ t. t.weight ≤ TREE_WEIGHT_MAX) }
+        ensures light_sum { IfOk result (λ t. t.sum ≤ TREE_WEIGHT_MAX) }
         ensures once { IfOk result (λ t. EntersOnce self.now.edges (steps_of (grafts_in t))) }
     {
         let Singles { weights, sum } = self.singles_of(alloc, targets)?;
@@ -201,6 +203,7 @@ impl Planner {
         requires few { length targets.now ≤ 32 }
         ensures are { IfOk result (λ s. AreSingles (arcs_of self.now.edges) (Root ∷ []) targets.now s.weights.items) }
         ensures sum { IfOk result (λ s. s.sum ≡ sum s.weights.items) }
+        ensures light { IfOk result (λ s. s.sum ≤ TREE_WEIGHT_MAX) }
     {
         let mut weights = Vec::with_capacity(alloc, targets.len())?;
         let mut sum = 0;
@@ -219,6 +222,7 @@ impl Planner {
         requires few { length targets.now ≤ 32 }
         ensures tree { IfOk result (λ x. IsTree (arcs_of self.now.edges) (Root ∷ []) targets.now (node_grafts x.grafts.items)) }
         ensures weight { IfOk result (λ x. x.weight ≡ tree_weight (arcs_of self.now.edges) (node_grafts x.grafts.items)) }
+        ensures light { IfOk result (λ x. x.weight ≤ TREE_WEIGHT_MAX) }
         ensures once { IfOk result (λ x. EntersOnce self.now.edges (steps_of (node_grafts x.grafts.items))) }
     {
         // The costs from the tree so far, once it has grown.

@@ -1,5 +1,5 @@
 -- What the calls of a retrieval answer: what is given, over which image and at what cost, and what each call leaves.
-use Rattle.std.specs.Prelude.{◌≡◌, ℕ, List, [], ◌∷◌, Option, Result, Ok, Err, IfErr, IfOk, IfSome, IsErrOf, length, map}
+use Rattle.std.specs.Prelude.{◌≡◌, ◌≤◌, ℕ, List, [], ◌∷◌, Option, Result, Ok, Err, IfErr, IfOk, IfSome, IsErrOf, length, map}
 use Rattle.std.specs.Global.{Vec}
 use Rattle.std.specs.List.{All, sum}
 use Rattle.dg_disk.specs.Calls.{Fails, ReadsDisk}
@@ -22,6 +22,7 @@ use Rattle.dg_plan.specs.HistoryGraph.{all_columns}
 use Rattle.dg_plan.specs.IndexGraph.{arcs_of}
 use Rattle.dg_plan.specs.Walks.{AreSingles, Graft, IsPlan, IsTree, tree_weight, weight_of}
 use Rattle.dg_planner.specs.Trees.{grafts_in}
+use Rattle.dg_planner.specs.Whole.{TREE_WEIGHT_MAX}
 use Rattle.dg_retrieval.specs.Beginnings.{GraphLead, IsOffered, base_handle, leads_in, led_to}
 use Rattle.dg_retrieval.specs.declared.fault.RetrievalFault.{RetrievalFault}
 use Rattle.dg_retrieval.specs.declared.fault.RetrievalFault.TheVariants as fault
@@ -57,13 +58,16 @@ LeadNamesAreThere name_count recent leads = EventNamesAreThere name_count recent
 -- ---- graphs as of several instants
 
 -- There is a lead to each target, along one tree, whose weight is given; it begins with the base, or with none, of the
--- tree's path, and puts in names that are there. What the single plans weigh is given too, and their sum.
+-- tree's path, and puts in names that are there. What the single plans weigh is given too, and their sum. Neither is more
+-- than 32 plans weigh at the most.
 pub record IsRetrieval (name_count : ℕ) (recent : List Event) (edges : List Edge) (targets : List NodeId) (r : Retrieved) : Type 0 where
   pub count : length (leads_in r.leads) ≡ length targets
   pub singles_count : length r.singles.items ≡ length targets
   pub tree : IsTreeOf edges targets r.weight (map (λ (l : GraphLead). base_handle l.begins) (leads_in r.leads))
   pub singles : AreSingles (arcs_of edges) (Root ∷ []) targets r.singles.items
   pub sum : r.sum ≡ sum r.singles.items
+  pub light : r.weight ≤ TREE_WEIGHT_MAX
+  pub light_sum : r.sum ≤ TREE_WEIGHT_MAX
   pub offered : All (IsOffered edges) (leads_in r.leads)
   pub named : LeadNamesAreThere name_count recent (leads_in r.leads)
 
@@ -87,6 +91,8 @@ pub record IsAlongTree (name_count : ℕ) (recent : List Event) (edges : List Ed
   pub weight : r.tree.weight ≡ tree_weight (arcs_of edges) (grafts_in r.tree)
   pub singles : AreSingles (arcs_of edges) (Root ∷ []) targets r.tree.singles.items
   pub sum : r.tree.sum ≡ sum r.tree.singles.items
+  pub light : r.tree.weight ≤ TREE_WEIGHT_MAX
+  pub light_sum : r.tree.sum ≤ TREE_WEIGHT_MAX
   pub leads : LeadAlongTree name_count recent edges o cols targets (grafts_in r.tree) times image (leads_in r.leads)
   pub named : LeadNamesAreThere name_count recent (leads_in r.leads)
 
@@ -98,6 +104,8 @@ pub record HasTreeParts (edges : List Edge) (o : Opening) (cols : Columns) (targ
   pub weight : r.tree.weight ≡ tree_weight (arcs_of edges) (grafts_in r.tree)
   pub singles : AreSingles (arcs_of edges) (Root ∷ []) targets r.tree.singles.items
   pub sum : r.tree.sum ≡ sum r.tree.singles.items
+  pub light : r.tree.weight ≤ TREE_WEIGHT_MAX
+  pub light_sum : r.tree.sum ≤ TREE_WEIGHT_MAX
   pub count : length r.branches.items ≡ length targets
   pub lead : All LeadsToTarget r.branches.items
   pub grow : Grow [] r.branches.items

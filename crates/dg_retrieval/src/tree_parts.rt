@@ -8,6 +8,7 @@ ghost use Rattle.dg_history.specs.History.{History};
 ghost use Rattle.dg_plan.specs.IndexGraph.{arcs_of};
 ghost use Rattle.dg_plan.specs.Walks.{AreSingles, tree_weight};
 ghost use Rattle.dg_planner.specs.Trees.{grafts_in};
+ghost use Rattle.dg_planner.specs.Whole.{TREE_WEIGHT_MAX};
 ghost use Rattle.dg_retrieval.specs.Calls.{HasTreeParts, ReadsRecords, TakesTree};
 ghost use Rattle.dg_retrieval.specs.NodeSets.{IsIndexOver};
 ghost use Rattle.dg_retrieval.specs.Retrieval.{IsNoDamage};
@@ -42,6 +43,8 @@ fn plan_tree(alloc: Global, planner: &Planner, targets: &[NodeId]) -> Result<Tre
     ensures singles { IfOk result (λ r. AreSingles (arcs_of planner.now.edges) (Root ∷ []) targets.now r.tree.singles.items) }
     ensures sum { IfOk result (λ r. r.tree.sum ≡ sum r.tree.singles.items) }
     ensures shared { IfOk result (λ r. r.tree.weight ≤ sum r.tree.singles.items) }
+    ensures light { IfOk result (λ r. r.tree.weight ≤ TREE_WEIGHT_MAX) }
+    ensures light_sum { IfOk result (λ r. r.tree.sum ≤ TREE_WEIGHT_MAX) }
 {
     let tree = planner.plan_several(alloc, targets)?;
     let branches = branches_of(alloc, planner.edges(), targets, &tree.grafts)?;

@@ -28,6 +28,8 @@ returns-clause-done g c =
       tree = (grafts_in c.in_ok-tree.field-0.tree, done.tree, done.weight, done.leads.bases);
       singles = done.singles;
       sum = done.sum;
+      light = done.light;
+      light_sum = done.light_sum;
       offered = done.leads.offered;
       named = done.named;
     }

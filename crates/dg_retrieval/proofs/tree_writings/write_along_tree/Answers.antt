@@ -60,4 +60,4 @@ returns-clause-done g c =
     let led =
     written_along done.walk c.deref.ensures.value c.deref-2.ensures.value c.args.index.now.opening c.args.cols (g.D.Disk.image c.args.disk.now) done.parts c.args.name_count
     c.args.recent.now c.args.times.now c.requires.edges c.in_ok-writings.writings.items c.in_ok-writings.ensures.ok c.deref-3.result.now c.deref-3.ensures.value c.in_ok-begins.begins.items c.in_ok-begins.ensures in
-    record { tree = done.walk.tree; weight = done.weight; singles = done.singles; sum = done.sum; leads = led.0; named = led.1 }
+    record { tree = done.walk.tree; weight = done.weight; singles = done.singles; sum = done.sum; light = done.light; light_sum = done.light_sum; leads = led.0; named = led.1 }

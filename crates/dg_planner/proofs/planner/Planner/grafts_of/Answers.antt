@@ -144,6 +144,13 @@ pub returns-clause-weight : goal.returns-clause-weight
 returns-clause-weight c =
     subst (λ (s : PlannerGraph). c.loop-i.weight ≡ tree_weight (arcs_of s.edges) (node_grafts c.loop-i.grafts.items)) c.self.view_is c.loop-i.invariant.0.weight_is
 
+pub returns-clause-light : goal.returns-clause-light
+returns-clause-light c =
+    let light = c.loop-i.invariant.0.light in
+    let within = length-take c.loop-i.i c.args.targets.now in
+    let few = c.requires.few in
+    omega arith
+
 pub returns-clause-once : goal.returns-clause-once
 returns-clause-once c =
     let inv = c.loop-i.invariant.0 in

@@ -62,6 +62,14 @@ loop-target-preserved c =
       (λ k. c.loop-target.invariant.1 k + c.weight_at-single.result) ∙ sym (sum_push c.loop-target.weights.items c.weight_at-single.result) ∙ sym (ap sum c.in_ok-push.ensures.items),
     )
 
+pub returns-clause-light : goal.returns-clause-light
+returns-clause-light c =
+    let light = c.loop-target.invariant.0.light in
+    let is = c.loop-target.invariant.1 in
+    let within = length-take c.loop-target.target-index c.args.targets.now in
+    let few = c.requires.few in
+    omega arith
+
 pub returns-clause-are : goal.returns-clause-are
 returns-clause-are c =
     subst (λ (s : PlannerGraph). AreSingles (arcs_of s.edges) (Root ∷ []) c.args.targets.now c.loop-target.weights.items) c.self.view_is
