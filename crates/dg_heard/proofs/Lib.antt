@@ -1,0 +1,6 @@
+pub mod Told
+pub mod ToldLists
+pub mod KeptLists
+pub mod HistoryLaws
+pub mod HeardLists
+pub mod HeardBytes
