@@ -1,0 +1,9 @@
+mod SortedSets
+mod ToldSets
+mod CollectedMessages
+mod ListColumns
+mod HeardLists
+mod MessagesBehind
+mod MessageWeights
+mod ShownMessages
+mod HeardGraphs

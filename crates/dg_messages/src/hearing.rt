@@ -1,0 +1,157 @@
+//! Messages behind what leads to graphs.
+ghost use Rattle.std.specs.Prelude.{◌≡◌, ◌≤◌, ◌<◌, ◌+◌, List, length, IfOk, IfSome};
+ghost use Rattle.std.specs.List.{sum};
+ghost use Rattle.dg_file.specs.Images.{IsOpenedAs};
+ghost use Rattle.dg_fold.specs.WritingSteps.{IsForOnly};
+ghost use Rattle.dg_graph.specs.declared.element.Element.{Element};
+ghost use Rattle.dg_heard.specs.Heard.{heard_bytes, with_heard_bytes};
+ghost use Rattle.dg_history.specs.History.{History};
+ghost use Rattle.dg_messages.specs.Calls.{HasMessages, HearsOver, TakesHeard, TellsMessageDamage};
+ghost use Rattle.dg_messages.specs.Told.{TellBehind, telling};
+ghost use Rattle.dg_planner.specs.Whole.{TREE_WEIGHT_MAX};
+ghost use Rattle.dg_retrieval.specs.Beginnings.{leads_in};
+ghost use Rattle.dg_retrieval.specs.Calls.{ReadsRecords};
+ghost use Rattle.dg_retrieval.specs.Retrieval.{IsOver};
+
+use crate::told::messages;
+use dg_delta::Delta;
+use dg_disk::Disk;
+use dg_file::Index;
+use dg_fold::Writing;
+use dg_graph::Event;
+use dg_heard::{heard_bytes, law_histories_are_heard};
+use dg_retrieval::{Leads, RetrievalFault, Retrieved};
+use dg_set::Set;
+use std::alloc::{AllocError, Global};
+
+// The messages, to be put in for one of so many instants alone.
+fn told_to(alloc: Global, messages: Set, target: usize, count: usize) -> Result<Writing, AllocError>
+    requires { target < count }
+    ensures delta { IfOk result (λ w. w.delta ≡ telling messages) }
+    ensures targets { IfOk result (λ w. IsForOnly target w) }
+{
+    let mut targets = vec![in alloc; false; count]?;
+    targets[target] = true;
+    let delta = Delta::of(Set::new(alloc), messages);
+    Ok(Writing { delta, targets })
+}
+
+// The leads, and behind each of them the messages of its instant.
+fn told_behind(alloc: Global, leads: Leads, sets: Vec<Set>) -> Result<Leads, AllocError>
+    requires { length sets.items ≡ length leads.begins.items }
+    ensures { IfOk result (λ told. TellBehind (leads_in leads) (leads_in told) sets.items) }
+{
+    let Leads { begins, writings } = leads;
+    let mut writings = writings;
+    let mut rest = sets;
+    while let Some(set) = rest.pop() {
+        let writing = told_to(alloc, set, rest.len(), begins.len())?;
+        writings.push(writing)?;
+    }
+    Ok(Leads { begins, writings })
+}
+
+// What single retrievals weigh, and what they weigh together.
+#[derive(Drop)]
+struct Weights {
+    singles: Vec<u64>,
+    sum: u64,
+}
+
+// The weights of single retrievals, to each of which comes what is heard of its instant.
+fn heard_weights(
+    alloc: Global,
+    index: &Index,
+    times: &[u64],
+    singles: &[u64],
+) -> Result<Weights, AllocError>
+    requires few { length times.now ≤ 32 }
+    requires count { length singles.now ≡ length times.now }
+    requires light { sum singles.now ≤ TREE_WEIGHT_MAX }
+    ensures singles { IfOk result (λ w. w.singles.items ≡ with_heard_bytes index.now.opening times.now singles.now) }
+    ensures sum { IfOk result (λ w. w.sum ≡ sum w.singles.items) }
+{
+    let mut weights = Vec::with_capacity(alloc, singles.len())?;
+    let mut sum = 0;
+    for n in 0..times.len() {
+        let weight = singles[n] + heard_bytes(index, &[times[n]]);
+        weights.push(weight)?;
+        sum += weight;
+    }
+    Ok(Weights {
+        singles: weights,
+        sum,
+    })
+}
+
+// What was retrieved for the instants, with the messages of each behind it, and weighing what is heard of them as well.
+fn with_messages(
+    alloc: Global,
+    index: &Index,
+    times: &[u64],
+    sets: Vec<Set>,
+    retrieved: Retrieved,
+) -> Result<Retrieved, AllocError>
+    requires few { length times.now ≤ 32 }
+    requires sets { length sets.items ≡ length retrieved.leads.begins.items }
+    requires singles { length retrieved.singles.items ≡ length times.now }
+    requires light { retrieved.weight ≤ TREE_WEIGHT_MAX }
+    requires light_sum { sum retrieved.singles.items ≤ TREE_WEIGHT_MAX }
+    ensures behind { IfOk result (λ r. TellBehind (leads_in retrieved.leads) (leads_in r.leads) sets.items) }
+    ensures weight { IfOk result (λ r. r.weight ≡ retrieved.weight + heard_bytes index.now.opening times.now) }
+    ensures singles { IfOk result (λ r. r.singles.items ≡ with_heard_bytes index.now.opening times.now retrieved.singles.items) }
+    ensures sum { IfOk result (λ r. r.sum ≡ sum r.singles.items) }
+{
+    let Retrieved {
+        leads,
+        weight,
+        singles,
+        ..
+    } = retrieved;
+    let leads = told_behind(alloc, leads, sets)?;
+    let Weights { singles, sum } = heard_weights(alloc, index, times, &singles)?;
+    Ok(Retrieved {
+        leads,
+        weight: weight + heard_bytes(index, times),
+        singles,
+        sum,
+    })
+}
+
+/// What was retrieved for these instants, with the messages of exactly each of them, which are read from the lists: to
+/// each weight comes what is read for it. The history has so many names, and its recent events are in memory.
+///
+/// `Disk` where a read failed, `Damaged` with the first list whose column of messages is in no spelling, and `Memory`.
+pub fn hear<D: Disk>(
+    alloc: Global,
+    index: &mut Index,
+    disk: &mut D,
+    name_count: u32,
+    recent: &[Event],
+    times: &[u64],
+    retrieved: Retrieved,
+) -> Result<Retrieved, RetrievalFault>
+    requires image { IfSome (D.image disk.old) (λ image. IsOpenedAs image index.old.opening) }
+    requires few { length times.now ≤ 32 }
+    requires count { length (leads_in retrieved.leads) ≡ length times.now }
+    requires singles { length retrieved.singles.items ≡ length times.now }
+    requires sum { retrieved.sum ≡ sum retrieved.singles.items }
+    requires light { retrieved.weight ≤ TREE_WEIGHT_MAX }
+    requires light_sum { retrieved.sum ≤ TREE_WEIGHT_MAX }
+
+    // what it gives, of which the second holds over an image of a history
+    ensures done { IfOk result (HasMessages name_count index.old.opening (D.image disk.old) recent.now times.now retrieved) }
+    ensures over { IfSome (D.image disk.old) (λ image. (z : History) (now : List Element) → IsOver z image index.old.opening name_count now recent.now → HearsOver z times.now retrieved result) }
+
+    // what it reads, and where a column is damaged
+    ensures takes { IfSome (D.image disk.old) (λ image. TakesHeard index.old.opening times.now (D.taken disk.old) (D.taken disk.new) result) }
+    ensures damage { IfSome (D.image disk.old) (λ image. TellsMessageDamage name_count index.old.opening times.now image result) }
+
+    // what it leaves, and why a read failed
+    ensures reads { ReadsRecords D.Disk index.old index.new disk.old disk.new result }
+{
+    law_histories_are_heard();
+    let sets = messages(alloc, index, disk, name_count, recent, times)?;
+    let told = with_messages(alloc, index, times, sets, retrieved)?;
+    Ok(told)
+}

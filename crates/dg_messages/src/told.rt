@@ -1,0 +1,99 @@
+//! The messages of instants.
+ghost use Rattle.std.specs.Prelude.{◌≡◌, [], IfOk, IfSome, OnOk, length};
+ghost use Rattle.std.specs.List.{All};
+ghost use Rattle.dg_file.specs.Images.{IsOpenedAs};
+ghost use Rattle.dg_messages.specs.Calls.{TakesHeard, TellsMessageDamage};
+ghost use Rattle.dg_messages.specs.Collected.{AreCollected, AreHeardIn};
+ghost use Rattle.dg_messages.specs.Told.{AreToldIn};
+ghost use Rattle.dg_retrieval.specs.Calls.{ReadsRecords};
+ghost use Rattle.dg_retrieval.specs.NamesThere.{EventNamesAreThere, NamesAreThere};
+
+use crate::collected::push_all;
+use crate::list::read_list;
+use crate::sets::sets_of;
+use dg_disk::Disk;
+use dg_file::Index;
+use dg_graph::{Element, Event};
+use dg_heard::next_heard;
+use dg_retrieval::RetrievalFault;
+use dg_set::Set;
+use std::alloc::{AllocError, Global};
+
+// A list for each instant, with nothing in it.
+fn empty_lists(alloc: Global, times: &[u64]) -> Result<Vec<Vec<Element>>, AllocError>
+    ensures { IfOk result (λ lists. AreCollected [] times.now lists.items) }
+{
+    let mut lists = Vec::with_capacity(alloc, times.len())?;
+    for _ in times {
+        lists.push(Vec::new(alloc))?;
+    }
+    Ok(lists)
+}
+
+// Collects the messages of the instants from the columns that are heard for them.
+//
+// `Disk` where a read failed, `Damaged` with the first list whose column is in no spelling, and `Memory`.
+fn push_heard<D: Disk>(
+    alloc: Global,
+    index: &mut Index,
+    disk: &mut D,
+    name_count: u32,
+    times: &[u64],
+    lists: &mut [Vec<Element>],
+) -> Result<(), RetrievalFault>
+    requires image { IfSome (D.image disk.old) (λ image. IsOpenedAs image index.old.opening) }
+    requires empty { AreCollected [] times.now lists.old }
+
+    // what it collects
+    ensures heard { OnOk result (AreHeardIn name_count (D.image disk.old) index.old.opening times.now lists.new) }
+
+    // what it reads, and where a column is damaged
+    ensures takes { IfSome (D.image disk.old) (λ image. TakesHeard index.old.opening times.now (D.taken disk.old) (D.taken disk.new) result) }
+    ensures damage { IfSome (D.image disk.old) (λ image. TellsMessageDamage name_count index.old.opening times.now image result) }
+
+    // what it leaves, and why a read failed
+    ensures reads { ReadsRecords D.Disk index.old index.new disk.old disk.new result }
+{
+    index.facts();
+    let mut from = 0;
+    while let Some(list) = next_heard(index, from, times) {
+        let events = read_list(alloc, index, disk, name_count, list)?;
+        push_all(lists, &events, times)?;
+        from = list + 1;
+    }
+    Ok(())
+}
+
+/// For each instant the messages of exactly it, in a history with so many names: those of the lists between whose times
+/// one of the instants lies, and of the recent events. The column of messages of each of these lists is read once, by
+/// rising number, where it has a byte; nothing else is read. Each event that is read, and each recent one, is compared to
+/// each instant, and the messages of an instant are sorted.
+///
+/// `Disk` where a read failed, `Damaged` with the first list whose column is in no spelling, and `Memory`.
+pub fn messages<D: Disk>(
+    alloc: Global,
+    index: &mut Index,
+    disk: &mut D,
+    name_count: u32,
+    recent: &[Event],
+    times: &[u64],
+) -> Result<Vec<Set>, RetrievalFault>
+    requires image { IfSome (D.image disk.old) (λ image. IsOpenedAs image index.old.opening) }
+
+    // what it gives
+    ensures told { IfOk result (λ sets. IfSome (D.image disk.old) (λ image. AreToldIn name_count image index.old.opening recent.now times.now sets.items)) }
+    ensures count { IfOk result (λ sets. length sets.items ≡ length times.now) }
+    ensures named { IfOk result (λ sets. EventNamesAreThere name_count recent.now → All (NamesAreThere name_count) sets.items) }
+
+    // what it reads, and where a column is damaged
+    ensures takes { IfSome (D.image disk.old) (λ image. TakesHeard index.old.opening times.now (D.taken disk.old) (D.taken disk.new) result) }
+    ensures damage { IfSome (D.image disk.old) (λ image. TellsMessageDamage name_count index.old.opening times.now image result) }
+
+    // what it leaves, and why a read failed
+    ensures reads { ReadsRecords D.Disk index.old index.new disk.old disk.new result }
+{
+    let mut lists = empty_lists(alloc, times)?;
+    push_heard(alloc, index, disk, name_count, times, &mut lists)?;
+    push_all(&mut lists, recent, times)?;
+    Ok(sets_of(alloc, lists)?)
+}
