@@ -10,7 +10,7 @@ use Rattle.dg_text.specs.Words.{words}
 use Rattle.dg_changes.specs.ChangeGrammar.{id_of, time_of}
 use Rattle.dg_machine.specs.declared.command.Command.{Command}
 use Rattle.dg_machine.specs.declared.command.Command.TheVariants as command
-use Rattle.dg_machine.specs.CommandGrammar.{BeginsCommand, IsColumn, columns_of, command_verbs, count_from_0, count_of, function_of, handle_of, held_node_verbs, n32_of, skewed_of, sweep_of}
+use Rattle.dg_machine.specs.CommandGrammar.{BeginsCommand, IsColumn, columns_of, command_verbs, count_from_0, count_of, function_of, handle_of, heard_columns_of, held_node_verbs, n32_of, skewed_of, sweep_of}
 use Rattle.dg_line.specs.Prefixes.{IsLongestPrefix, IsPrefixOfOne}
 use Rattle.dg_line.specs.Symbols.{Terminal, One_of, Number, IsLineOfOne}
 use Rattle.dg_line.proofs.WordNumbers.{number_within}
@@ -48,6 +48,9 @@ skewed = more_texts _ _ _ _ no_text
 pub columns : ReadsWord columns_of (One_of (codes "s" ∷ codes "sn" ∷ codes "se" ∷ codes "sne" ∷ []))
 columns = more_texts _ _ _ _ (more_texts _ _ _ _ (more_texts _ _ _ _ (more_texts _ _ _ _ no_text)))
 
+pub heard_columns : ReadsWord heard_columns_of (One_of (codes "st" ∷ codes "snt" ∷ codes "set" ∷ codes "snet" ∷ codes "s" ∷ codes "sn" ∷ codes "se" ∷ codes "sne" ∷ []))
+heard_columns = more_texts _ _ _ _ (more_texts _ _ _ _ (more_texts _ _ _ _ (more_texts _ _ _ _ columns)))
+
 -- what `materialise` takes for each kind of node, in the order of the table
 abbrev pub each_held : AllByRecursion (λ (v : Verb Command). Rows v.read) held_node_verbs
 each_held = row (two_row n32 columns _) ▸ row (three_row n32 n32 columns _) ▸ tt
@@ -61,8 +64,8 @@ each_command =
     or_rows (row (three_row n32 n32 function _)) (row (four_row n32 n32 skewed n32 _))
     ▸ row (one_row count _)
     ▸ row (one_row count _)
-    ▸ row (two_row time columns _)
-    ▸ filled_row (several_row columns time)
+    ▸ row (two_row time heard_columns _)
+    ▸ filled_row (several_row heard_columns time)
     ▸ held_nodes
     ▸ row (one_row handle _)
     ▸ row (one_row handle _)

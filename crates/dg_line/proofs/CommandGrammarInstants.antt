@@ -12,7 +12,7 @@ use Rattle.dg_changes.specs.ChangeGrammar.{time_of}
 use Rattle.dg_machine.specs.declared.command.Command.{Command}
 use Rattle.dg_machine.specs.declared.command.Command.TheVariants as command
 use Rattle.dg_machine.specs.declared.command.TheConstants.{TIMES_MAX}
-use Rattle.dg_machine.specs.CommandGrammar.{columns_of, times_of, several_with, several_of}
+use Rattle.dg_machine.specs.CommandGrammar.{heard_columns_of, times_of, several_with, several_of}
 use Rattle.dg_line.specs.Symbols.{Terminal, Number}
 use Rattle.dg_line.proofs.WordNumbers.{number_within}
 use Rattle.dg_line.proofs.Symbols.{words_both}
@@ -181,14 +181,14 @@ few_enough cols ws h = by_times (times_of ws) (as_many ws) h
         (refl, omega (arith, many ts refl))
 
 -- the columns, and the most instants
-pub several_row : {t : Terminal} → ReadsWord columns_of t → ReadsWord time_of instant → ReadsFilled several_of (t ∷ replicate TIMES_MAX instant)
+pub several_row : {t : Terminal} → ReadsWord heard_columns_of t → ReadsWord time_of instant → ReadsFilled several_of (t ∷ replicate TIMES_MAX instant)
 several_row {t} columns time = record { takes = takes; gives = gives }
   where
     takes : (ws : List (List ℕ)) → Is (several_of ws) → (n : ℕ) × AreWordsOf (ws ++ zeros n) (t ∷ replicate TIMES_MAX instant)
     takes [] h = absurd (false≢true h)
     takes (cols ∷ []) h = absurd (false≢true h)
     takes (cols ∷ word ∷ rest) h =
-        let parts = bound (λ c. several_by c (times_of (word ∷ rest))) (columns_of cols) h in
+        let parts = bound (λ c. several_by c (times_of (word ∷ rest))) (heard_columns_of cols) h in
         let few = few_enough parts.1.0 (word ∷ rest) parts.1.1 in
         (TIMES_MAX - length (word ∷ rest), (columns.takes cols parts.0, filled TIMES_MAX (word ∷ rest) time few.0 few.1))
 
@@ -202,4 +202,4 @@ several_row {t} columns time = record { takes = takes; gives = gives }
     gives [] h = absurd h
     gives (cols ∷ []) h = absurd h.1
     gives (cols ∷ word ∷ rest) h =
-        both (λ c. several_by c (times_of (word ∷ rest))) (columns_of cols) (columns.gives cols h.0) (λ c. given c (word ∷ rest) h.1)
+        both (λ c. several_by c (times_of (word ∷ rest))) (heard_columns_of cols) (columns.gives cols h.0) (λ c. given c (word ∷ rest) h.1)

@@ -1,8 +1,6 @@
 pub mod ListElements
 pub mod WordNumbers
 pub mod Space
-pub mod Names
-pub mod Buffered
 pub mod Prefixes
 pub mod SymbolNumbers
 pub mod Symbols
@@ -10,5 +8,4 @@ pub mod Verbs
 pub mod VerbReaders
 pub mod CommandGrammarInstants
 pub mod CommandGrammar
-pub mod BufferedLines
 pub mod CommandGrammarSteps

@@ -13,6 +13,7 @@ what_by_text (what.SetNode a) = Sets_node a.id a.key.now a.value.now
 what_by_text (what.UnsetNode k) = Unsets_node k.id k.key.now
 what_by_text (what.SetEdge a) = Sets_edge a.id a.key.now a.value.now
 what_by_text (what.UnsetEdge k) = Unsets_edge k.id k.key.now
+what_by_text (what.Send m) = Sends m.src m.dst m.value.now
 
 -- a change, with the texts in place of borrowed bytes
 abbrev pub change_by_text : TextChange → ChangeByText

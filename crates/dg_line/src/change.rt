@@ -1,13 +1,13 @@
 //! The change that a line of a batch asks for, with its texts numbered into the names.
 ghost use Rattle.std.specs.Prelude.{drop, ◌≡◌, ◌+◌, ◌<◌, ◌≤◌, ◌⊎◌, List, ℕ, Some, None, IfOk, IsErrOf, OnOk, OnErr, length, take};
 ghost use Rattle.std.specs.Option.{option_map};
-ghost use Rattle.dg_changes.specs.ChangeGrammar.{change_verbs, WhatByText, Plain, ChangeByText, what_by_text_of, change_with, direction_of, named, new_edge, one_id, change_by_text_of, setting_of, unset_of, what_in};
+ghost use Rattle.dg_changes.specs.ChangeGrammar.{change_verbs, WhatByText, Plain, ChangeByText, what_by_text_of, change_with, direction_of, named, new_edge, one_id, change_by_text_of, sending_of, setting_of, Sends, unset_of, what_in};
 ghost use Rattle.dg_text.specs.Verbs.{look_up};
 ghost use Rattle.dg_text.specs.Names.{added, number_in};
 ghost use Rattle.dg_line.specs.TextChange.{change_by_text, what_by_text, with_key};
 ghost use Rattle.dg_line.specs.declared.change.ChangeFault.TheVariants.{Memory};
 
-use crate::text_change::{TextAttribute, TextChange, TextKey, TextWhat};
+use crate::text_change::{TextAttribute, TextChange, TextKey, TextMessage, TextWhat};
 use crate::words::{Words, found, id, is, only_number, time};
 use dg_graph::{Change, What};
 use dg_names::{NAMES_MAX, Names, is_key, is_name};
@@ -34,7 +34,7 @@ impl From<AllocError> for ChangeFault {
 }
 
 /// The change that the line of a batch asks for, by the numbers of its texts. The names get its texts
-/// that they lack, the key before the value. `ChangeFault::Form` where the line is not in the grammar
+/// that they lack, the key before the value; a message has a value alone. `ChangeFault::Form` where the line is not in the grammar
 /// of changes: then the names are as they were. `ChangeFault::Memory` where memory ran out for a new
 /// name: then the names may have the key as a new last one. A line whose texts are names already
 /// needs none.
@@ -106,6 +106,11 @@ fn numbered(what: TextWhat, names: &mut Names) -> Result<What, AllocError>
             id: key.id,
             key: key_number(key, names)?,
         }),
+        TextWhat::Send(message) => Ok(What::Message {
+            src: message.src,
+            dst: message.dst,
+            value: value_number(message, names)?,
+        }),
     }
 }
 
@@ -150,6 +155,25 @@ fn key_number(key: TextKey, names: &mut Names) -> Result<u32, AllocError>
     names.add(key.key)
 }
 
+// The number of the value of a message.
+fn value_number(message: TextMessage, names: &mut Names) -> Result<u32, AllocError>
+    requires room { length names.old < NAMES_MAX }
+
+    // The number, and the names with the value.
+    ensures named { OnOk result (names.new ≡ added names.old message.entry.value.now) }
+    ensures value { IfOk result (λ number. number ≡ number_in names.new message.entry.value.now) }
+
+    // No memory for a value that is new.
+    ensures new_name { OnErr result (length names.old < length (added names.old message.entry.value.now)) }
+    ensures unchanged { OnErr result (names.new ≡ names.old) }
+
+    // Every name keeps its number, and at most one is new.
+    ensures kept { take (length names.old) names.new ≡ names.old }
+    ensures few { length names.new ≤ length names.old + 1 }
+{
+    names.add(message.value)
+}
+
 // The change of the line by its texts, where it is in the grammar of changes.
 fn parse_change(line: &[u8]) -> Option<TextChange>
     ensures { option_map change_by_text result ≡ change_by_text_of line.now }
@@ -180,12 +204,12 @@ fn parse_what(mut words: Words) -> Option<TextWhat>
             id: found!(only_id(words)),
         }))
     } else {
-        parse_attribute_change(verb, words)
+        parse_change_with_texts(verb, words)
     }
 }
 
 // What this verb and the words after it ask for, of those that stand behind `-edge` in the table.
-fn parse_attribute_change<'a>(verb: &[u8], words: Words<'a>) -> Option<TextWhat<'a>>
+fn parse_change_with_texts<'a>(verb: &[u8], words: Words<'a>) -> Option<TextWhat<'a>>
     ensures { option_map what_by_text result ≡ look_up verb.now (drop 4 change_verbs) words.entry }
 {
     if is(verb, b"nset") {
@@ -196,6 +220,8 @@ fn parse_attribute_change<'a>(verb: &[u8], words: Words<'a>) -> Option<TextWhat<
         Some(TextWhat::SetEdge(found!(parse_attribute(words))))
     } else if is(verb, b"edel") {
         Some(TextWhat::UnsetEdge(found!(parse_key(words))))
+    } else if is(verb, b"msg") {
+        Some(TextWhat::Send(found!(parse_message(words))))
     } else {
         None
     }
@@ -249,6 +275,22 @@ fn parse_key(mut words: Words) -> Option<TextKey>
     found!(words.end());
     if is_key(key) {
         Some(TextKey { id, key })
+    } else {
+        None
+    }
+}
+
+// `SRC DST VALUE`, where the value is the rest of the line.
+fn parse_message(mut words: Words) -> Option<TextMessage>
+    ensures { option_map (λ m. Sends m.src m.dst m.value.now) result ≡ sending_of words.entry }
+{
+    let sender = found!(words.next());
+    let receiver = found!(words.next());
+    let value = found!(words.rest());
+    let src = found!(id(sender));
+    let dst = found!(id(receiver));
+    if is_name(value) {
+        Some(TextMessage { src, dst, value })
     } else {
         None
     }

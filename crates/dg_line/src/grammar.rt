@@ -59,6 +59,10 @@ pub(crate) const CELLS: Symbol = Symbol::Number {
 
 pub(crate) const COLUMNS: Symbol = Symbol::OneOf(&[b"s", b"sn", b"se", b"sne"]);
 
+pub(crate) const HEARD_COLUMNS: Symbol = Symbol::OneOf(&[
+    b"st", b"snt", b"set", b"snet", b"s", b"sn", b"se", b"sne",
+]);
+
 /// How many bytes are a prefix of a word that a symbol stands for, and whether they are all of it.
 #[derive(Clone, Copy)]
 struct Prefix {

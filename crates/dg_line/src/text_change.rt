@@ -27,6 +27,8 @@ pub enum TextWhat<'a> {
     SetEdge(TextAttribute<'a>),
     /// No value of a key at an edge.
     UnsetEdge(TextKey<'a>),
+    /// A message.
+    Send(TextMessage<'a>),
 }
 
 /// An attribute of a node or an edge, by its texts: `ID KEY VALUE`.
@@ -39,6 +41,18 @@ pub struct TextAttribute<'a> {
     /// The value, which may be a name.
     pub value: &'a [u8],
     ghost short_key: { length key.now ≤ NAME_BYTES_MAX },
+    ghost short_value: { length value.now ≤ NAME_BYTES_MAX },
+}
+
+/// A message from one node to another, by its text: `SRC DST VALUE`.
+#[derive(Clone, Copy)]
+pub struct TextMessage<'a> {
+    /// The node that sends it.
+    pub src: u64,
+    /// The node to which it goes.
+    pub dst: u64,
+    /// The value, which may be a name.
+    pub value: &'a [u8],
     ghost short_value: { length value.now ≤ NAME_BYTES_MAX },
 }
 
