@@ -8,7 +8,7 @@ use Rattle.dg_append.proofs.BatchCrashes.{done_leaves, failed_leaves}
 use Rattle.dg_append.proofs.BatchSegmentIndex.{all_behind, new_counted, new_goes_on, new_names, new_total}
 use Rattle.dg_append.proofs.CompletedChanges.{events_fit}
 use Rattle.dg_append.proofs.FrontEvents.{IsPrepared, come_whole, comes_to_segment, here, known_few, more_event_names, more_names}
-use Rattle.dg_append.specs.AddedBatches.{AddsBatch, AddsBatchOrNot, AddsBehindOrNot, ComesToSegment, FailsBatch, IsOverHistory, IsReady, IsSegmentOver, MayAdd, MeetsNoDamage, ReadsNothing, TakesOlder, batch_with, recent_behind}
+use Rattle.dg_append.specs.AddedBatches.{AddsBatch, AddsBatchOrNot, AddsBehindOrNot, ComesToSegment, FailsBatch, IsOverHistory, IsReady, IsSegmentOver, MayAdd, MeetsNoDamage, ReadsNothing, TakesForm, TakesOlder, batch_with, recent_behind}
 use Rattle.dg_append.specs.BatchSegments.{IsBuiltOver, IsNext, IsSegmentBehind, MayFollow, StandsForKept, TakesSinglesOver}
 use Rattle.dg_append.specs.KeptBatches.{GainsNextOrNot, KeepsBatch, OverfillsFile, PassesBatch, StopsBatch}
 use Rattle.dg_append.specs.DiskLeft.{LeavesDisk}
@@ -31,7 +31,7 @@ use Rattle.dg_graph.specs.ExactEvents.{AreChangesOf}
 use Rattle.dg_graph.specs.Replay.{replay_from}
 use Rattle.dg_history.specs.declared.node.NodeId.TheVariants.{Root}
 use Rattle.dg_history.specs.History.{Batch as BatchOf, History, events_of, last_time_from, with_batch}
-use Rattle.dg_history.specs.LegalHistory.{IsLegal, are_silent}
+use Rattle.dg_history.specs.LegalHistory.{IsLegal}
 use Rattle.dg_index.specs.FileOfHistory.{Segment, segment_of}
 use Rattle.dg_index.specs.ImageOfHistory.{IsImageOf}
 use Rattle.dg_index.specs.IndexGrowth.{index_with}
@@ -103,6 +103,7 @@ module _ (o : Opening) (batch : Batch) (h : StoredHistory) (graph : List Element
   -- the batch was not put into the file
   pub not_added : (limit : ℕ) (before after : Option (List ℕ)) (f : BatchFault) → IsPrepared o batch h events → StopsBatch limit o next graph before after f → FailsBatch o limit batch h before after f
   not_added limit before after (fault.BadChange line reason) p stops = absurd stops
+  not_added limit before after fault.OldFormat p stops = absurd stops
   not_added limit before after (fault.FileFull needed most) p stops =
       let f : OverfillsFile limit o next graph before needed = stops.2 in (
         stops.0,
@@ -115,6 +116,7 @@ module _ (o : Opening) (batch : Batch) (h : StoredHistory) (graph : List Element
       events = events;
       whole = p.whole;
       come = come_whole o batch h events p;
+      form = p.form;
       damage = subst (λ (x : ℕ × List Event × List Event × List Element). IfSome before (λ image. IsNamedDamage x.0 image o x.1 x.2 x.3 key col))
           (let e : (next.known, next.recent.now, next.events.now, graph) ≡ (batch.known, h.recent.items, events, h.now.graph) = λ i. (n.known_is i, n.recent_is i, n.events_are i, graph_is i) in e) stops.1.0;
       never = by before stops.1.1;
@@ -124,7 +126,7 @@ module _ (o : Opening) (batch : Batch) (h : StoredHistory) (graph : List Element
       by : (told : Option (List ℕ)) → IfSome told (λ image. (z : History) → StandsForKept z image o next graph → ⊥) → IfSome told (λ image. (z : History) → IsOverHistory z image o batch.known h → ⊥)
       by None never = tt
       by (Some image) never = λ z over. never z (stands_for z image over)
-  not_added limit before after fault.Read p stops = (stops, record { events = events; whole = p.whole; come = come_whole o batch h events p })
+  not_added limit before after fault.Read p stops = (stops, record { events = events; whole = p.whole; come = come_whole o batch h events p; form = p.form })
   not_added limit before after fault.Memory p stops = stops
   not_added limit before after fault.Store p stops = record { events = events; segment = stops.segment; comes = comes before stops.segment p stops.built; gains = stops.gains; fits = stops.fits }
 
@@ -135,6 +137,7 @@ module _ (o : Opening) (batch : Batch) (h : StoredHistory) (graph : List Element
         events,
         p.whole,
         come_whole o batch h events p,
+        p.form,
         λ legal. subst (λ (b : BatchOf). IsImageOf z c ⊎ IsImageOf (with_batch z b) c) batch_is
             (gain z (stands_for z a over) (subst (λ (b : BatchOf). IsLegal (with_batch z b)) (sym batch_is) legal)),
       )
@@ -165,7 +168,7 @@ module _ (o : Opening) (batch : Batch) (h : StoredHistory) (graph : List Element
     fit = subst (λ (es : List Event). All (λ (e : Event). NamesFit e.body) es) (sym n.events_are) (events_fit (length h.names) events p.few_names p.there);
     set = subst IsSet (sym graph_is) set;
     changes = subst (λ (x : List Element × List Event). AreChangesOf x.0 x.1) (let e : (h.now.graph, events) ≡ (graph, next.events.now) = λ i. (sym graph_is i, sym n.events_are i) in e) p.changes_are;
-    silent = λ narrow. ap are_silent n.events_are ∙ p.silent narrow;
+    form = subst (TakesForm o) (sym n.events_are) p.form;
   }
 
 -- the index that is told of is this one
@@ -175,6 +178,7 @@ ready_here batch l o may is = subst (λ (x : Opening). IsReady x batch l.history
 -- a batch whose changes are right is not refused for one
 pub nothing_read : (limit : ℕ) (o : Opening) (next : NextBatch) (graph : List Element) (before after : Option (List ℕ)) (f : BatchFault) (taken then_taken : ℕ) → StopsBatch limit o next graph before after f → ReadsNothing f taken then_taken
 nothing_read limit o next graph before after (fault.BadChange line reason) taken then_taken stops = absurd stops
+nothing_read limit o next graph before after fault.OldFormat taken then_taken stops = absurd stops
 nothing_read limit o next graph before after (fault.FileFull needed most) taken then_taken stops = tt
 nothing_read limit o next graph before after (fault.Damaged key col) taken then_taken stops = tt
 nothing_read limit o next graph before after fault.Read taken then_taken stops = tt

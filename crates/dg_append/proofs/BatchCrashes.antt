@@ -1,12 +1,13 @@
 -- What calls that may put a batch into the file leave of the disk, and what a crash leaves.
 use Rattle.std.proofs.Common.{◌≡◌, ℕ, List, Option, IfSome, Ok, Err, refl, sym, subst, arith}
-use Rattle.dg_append.specs.AddedBatches.{batch_with}
+use Rattle.dg_append.specs.AddedBatches.{IsRefused, batch_with}
 use Rattle.dg_append.specs.BatchSegments.{IsBuiltOver, StandsForKept, StopsSegment}
+use Rattle.dg_append.specs.declared.batch.Batch.{Batch}
 use Rattle.dg_append.specs.declared.fault.BatchFault.{BatchFault}
 use Rattle.dg_append.specs.declared.fault.BatchFault.TheVariants as fault
 use Rattle.dg_append.specs.declared.next_batch.NextBatch.{NextBatch}
 use Rattle.dg_append.specs.DiskLeft.{LeavesDisk}
-use Rattle.dg_append.specs.Faults.{HasCause, of_prepare}
+use Rattle.dg_append.specs.Faults.{HasCause}
 use Rattle.dg_append.specs.KeptBatches.{GainsNextOrNot, StopsKeeping}
 use Rattle.dg_disk.proofs.CrashReads.{reads_first, told_reads}
 use Rattle.dg_disk.proofs.CrashTold.{told_widens}
@@ -19,8 +20,6 @@ use Rattle.dg_graph.specs.declared.element.Element.{Element}
 use Rattle.dg_history.specs.History.{History, events_of}
 use Rattle.dg_index.specs.FileOfHistory.{Segment, segment_of}
 use Rattle.dg_index.specs.OpenedIndex.{Opening}
-use Rattle.dg_current.specs.declared.fault.PrepareFault.{PrepareFault}
-use Rattle.dg_current.specs.declared.fault.PrepareFault.TheVariants as prepare_fault
 
 module _ {D : Type 0} (g : Ghosts D) where
   -- ---- calls that read
@@ -40,16 +39,22 @@ module _ {D : Type 0} (g : Ghosts D) where
   pub cause_made : (old new : D) → ReadsDisk g old new → (before : Option (List ℕ)) (o : Opening) (next : NextBatch) (graph : List Element) (f : BatchFault)
       → StopsSegment before o next graph f → (f ≡ fault.Read → Fails g old new) → HasCause g f old new
   cause_made old new reads before o next graph (fault.BadChange line reason) stops fails = tt
+  cause_made old new reads before o next graph fault.OldFormat stops fails = tt
   cause_made old new reads before o next graph (fault.FileFull needed most) stops fails = tt
   cause_made old new reads before o next graph (fault.Damaged key col) stops fails = tt
   cause_made old new reads before o next graph fault.Read stops fails = (fails refl, reads.no_write_failed)
   cause_made old new reads before o next graph fault.Memory stops fails = tt
   cause_made old new reads before o next graph fault.Store stops fails = absurd stops
 
-  -- changes that are refused come of no call of the disk
-  pub cause_prepare : (disk : D) (f : PrepareFault) → HasCause g (of_prepare f) disk disk
-  cause_prepare disk (prepare_fault.BadChange line reason) = tt
-  cause_prepare disk prepare_fault.Memory = tt
+  -- lines that are refused come of no call of the disk
+  pub cause_refused : (disk : D) (o : Opening) (graph : List Element) (batch : Batch) (f : BatchFault) → IsRefused o graph batch f → HasCause g f disk disk
+  cause_refused disk o graph batch (fault.BadChange line reason) refused = tt
+  cause_refused disk o graph batch fault.OldFormat refused = tt
+  cause_refused disk o graph batch (fault.FileFull needed most) refused = absurd refused
+  cause_refused disk o graph batch (fault.Damaged key col) refused = absurd refused
+  cause_refused disk o graph batch fault.Read refused = absurd refused
+  cause_refused disk o graph batch fault.Memory refused = tt
+  cause_refused disk o graph batch fault.Store refused = absurd refused
 
   -- ---- calls that read, and then one that writes
 
@@ -65,6 +70,7 @@ module _ {D : Type 0} (g : Ghosts D) where
 
     cause_kept : (f : BatchFault) → StopsKeeping g limit o s new middle after f → HasCause g f before after
     cause_kept (fault.BadChange line reason) stops = tt
+    cause_kept fault.OldFormat stops = tt
     cause_kept (fault.FileFull needed most) stops = tt
     cause_kept (fault.Damaged key col) stops = tt
     cause_kept fault.Read stops = absurd stops
@@ -76,6 +82,7 @@ module _ {D : Type 0} (g : Ghosts D) where
 
     unwritten_there : (f : BatchFault) → StopsKeeping g limit o s new middle after f → (f ≡ fault.Store → ⊥) → ReadsDisk g before after
     unwritten_there (fault.BadChange line reason) stops other = absurd stops
+    unwritten_there fault.OldFormat stops other = absurd stops
     unwritten_there (fault.FileFull needed most) stops other = untouched stops.4
     unwritten_there (fault.Damaged key col) stops other = absurd stops
     unwritten_there fault.Read stops other = absurd stops

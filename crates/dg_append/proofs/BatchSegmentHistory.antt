@@ -8,7 +8,7 @@ use Rattle.std.proofs.lemmas.List.Elements.{Contains-get_or}
 use Rattle.std.proofs.lemmas.Option.{get_or_from_slice_get, same_Some, slice_get_within}
 use Rattle.dg_append.proofs.OlderChildSteps.{leaf_led}
 use Rattle.dg_append.proofs.OlderGroupSets.{some_map}
-use Rattle.dg_append.specs.AddedBatches.{batch_with}
+use Rattle.dg_append.specs.AddedBatches.{TakesForm, batch_with}
 use Rattle.dg_append.specs.BatchSegments.{IsBuiltOver, IsNext, IsPast, IsSegmentBehind, IsUnmade, MakesSegment, StandsForKept, StopsSegment, TakesSinglesOver}
 use Rattle.dg_append.specs.declared.fault.BatchFault.{BatchFault}
 use Rattle.dg_append.specs.declared.fault.BatchFault.TheVariants as fault
@@ -106,16 +106,16 @@ module _ (z : History) (image : ListOf ℕ) (o : Opening) (next : NextBatch) (gr
   narrow_silent narrow =
       all_silent z.form z.batches is.0.legal.silent (sym (ap (λ (x : Opening). is_wide x.form) opened ∙ wide_in z.form z.params z.batches) ∙ narrow)
 
-  pub past_is : (steps : ListOf Delta) → AreChangesOf graph next.events.now → (is_wide o.form ≡ false → are_silent next.events.now ≡ true) → AreRead o next z steps
+  pub past_is : (steps : ListOf Delta) → AreChangesOf graph next.events.now → TakesForm o next.events.now → AreRead o next z steps
       → IsPast o (events_of z) next.recent.now graph next.events.now steps
-  past_is steps changes silent are = record {
+  past_is steps changes takes are = record {
     long = sym long;
     recent_is = is.1.recent_are ∙ ap (λ (p : Params). recent_of p (events_of z)) (sym params);
     graph_is = is.1.graph_is;
     changes = changes_joined [] (events_of z) next.events.now (legal_is_indexed z is.0.legal).0.changes (subst (λ (set : ListOf Element). AreChangesOf set next.events.now) is.1.graph_is changes);
     steps_are = are
         ∙ (λ i. steps_to (map (set_of (sym params i) (events_of z)) (older_in_time o.params.k (leaves o.params (long i)) (leaves_after o (length next.events.now)))) (last_leaf (sym params i) (events_of z)));
-    silent = λ narrow. silent_append (events_of z) next.events.now (narrow_silent narrow) (silent narrow);
+    form = λ narrow. silent_append (events_of z) next.events.now (narrow_silent narrow) (takes narrow);
   }
 
   -- the current graph, led back over the recent events, is the last leaf
@@ -155,7 +155,7 @@ module _ (told : Option (ListOf ℕ)) (o other : Opening) (next : NextBatch) (gr
   past_given : (z : History) (image : ListOf ℕ) → StandsForKept z image o next graph → AreRead o next z steps → IsPast other (events_of z) next.recent.now graph events given
   past_given z image is steps_are =
       subst (λ (x : Opening). IsPast x (events_of z) next.recent.now graph events given) (sym index)
-      (past_is z image o next graph is given n.changes n.silent (taken ∙ steps_are))
+      (past_is z image o next graph is given n.changes n.form (taken ∙ steps_are))
 
   abbrev Made : Segment → Type 0
   Made s = (past : ListOf Event) → IsPast other past next.recent.now graph events given → s ≡ segment_of other.params past (batch_with next.known next.names.now events)
@@ -182,6 +182,7 @@ module _ (told : Option (ListOf ℕ)) (o other : Opening) (next : NextBatch) (gr
       → IfErr r (StopsSegment told o next graph)
   unmade_over (Ok s) unmade never = tt
   unmade_over (Err (fault.BadChange line reason)) unmade never = unmade
+  unmade_over (Err fault.OldFormat) unmade never = unmade
   unmade_over (Err (fault.FileFull needed most)) unmade never = unmade
   unmade_over (Err (fault.Damaged key col)) unmade never = (damage told whole led, none told are)
     where

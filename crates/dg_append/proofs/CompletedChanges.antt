@@ -1,11 +1,9 @@
--- The names of the events that some changes come to are there, where those of the changes and of the graph are; and
--- none of the events is a message, where no change sends one.
-use Rattle.std.proofs.Common.{◌≡◌, ℕ, ◌<◌, ◌≤◌, ◌^◌, Bool, true, false, not, List, [], ◌∷◌, Option, Some, None, Ok, get_or, find, refl, sym, ap, subst, arith}
+-- The names of the events that some changes come to are there, where those of the changes and of the graph are.
+use Rattle.std.proofs.Common.{◌≡◌, ℕ, ◌<◌, ◌≤◌, ◌^◌, Bool, List, [], ◌∷◌, Option, Some, None, Ok, get_or, find, refl, subst, arith}
 use Rattle.std.specs.Prelude.{IfSome, option_and_then}
 use Rattle.std.specs.List.{All}
 use Rattle.std.proofs.lemmas.List.Elements.{All-nil, All-cons, All-head, All-tail}
-use Rattle.std.proofs.lemmas.Bool.{and_from, false≢true}
-use Rattle.dg_append.specs.AddedBatches.{WhatHasNamesThere, sends}
+use Rattle.dg_append.specs.AddedBatches.{WhatHasNamesThere}
 use Rattle.dg_columns.specs.NamesInRange.{NamesFit}
 use Rattle.dg_graph.specs.declared.element.Element.{Element}
 use Rattle.dg_graph.specs.declared.element.Element.TheVariants as element
@@ -18,7 +16,6 @@ use Rattle.dg_graph.specs.declared.event.What.TheVariants as what
 use Rattle.dg_graph.specs.Completion.{node_value, edge_value, complete, is_node_value, is_edge_value, value_in}
 use Rattle.dg_graph.specs.Effect.{forwards}
 use Rattle.dg_graph.specs.Elements.{has}
-use Rattle.dg_history.specs.LegalHistory.{are_silent, is_message}
 use Rattle.dg_graph.proofs.Completions.{AllCome, IsCompletion, completion, found_in}
 use Rattle.dg_retrieval.proofs.NamesThere.{forwards_there}
 use Rattle.dg_retrieval.specs.NamesThere.{BodyHasNamesThere, EventNamesAreThere, HasNamesThere, NamesAreThere}
@@ -91,30 +88,3 @@ body_fits n (body.Message src dst value) few f = tt
 
 pub events_fit : (n : ℕ) (events : List Event) → n ≤ 2 ^ 30 → EventNamesAreThere n events → All (λ (e : Event). NamesFit e.body) events
 events_fit n events few there k d lt = body_fits n (get_or events k d).body few (there k d lt)
-
--- ---- messages
-
--- a change that sends none comes to none
-what_silent : (w : What) (set : List Element) (b : Body) → sends w ≡ false → IsCompletion w set b → not (is_message b) ≡ true
-what_silent (what.AddNode id) set b silent c = ap (λ (x : Body). not (is_message x)) (sym c.0)
-what_silent (what.RemoveNode id) set b silent c = ap (λ (x : Body). not (is_message x)) (sym c.0)
-what_silent (what.AddEdge id src dst directed) set b silent c = ap (λ (x : Body). not (is_message x)) (sym c.0)
-what_silent (what.RemoveEdge id) set b silent c = ap (λ (x : Body). not (is_message x)) (sym c.is)
-what_silent (what.SetNode id key value) set b silent c = ap (λ (x : Body). not (is_message x)) (sym c.0)
-what_silent (what.UnsetNode id key) set b silent c = ap (λ (x : Body). not (is_message x)) (sym c.0.is)
-what_silent (what.SetEdge id key value) set b silent c = ap (λ (x : Body). not (is_message x)) (sym c.0)
-what_silent (what.UnsetEdge id key) set b silent c = ap (λ (x : Body). not (is_message x)) (sym c.0.is)
-what_silent (what.Message src dst value) set b silent c = absurd (false≢true (sym silent))
-
-abbrev IsSilentLine : Option Change → Type 0
-IsSilentLine c = IfSome c (λ (c : Change). sends c.what ≡ false)
-
-pub events_silent : (earliest : ℕ) (set : List Element) (changes : List (Option Change)) (events : List Event)
-    → AllCome earliest set changes events → All IsSilentLine changes → are_silent events ≡ true
-events_silent earliest set [] [] h f = refl
-events_silent earliest set [] (e ∷ events) h f = absurd h
-events_silent earliest set (None ∷ changes) events h f = absurd h
-events_silent earliest set (Some c ∷ changes) [] h f = absurd h
-events_silent earliest set (Some c ∷ changes) (e ∷ events) h f =
-    and_from (not (is_message e.body)) _ (what_silent c.what set e.body (All-head IsSilentLine (Some c) changes f) (completion c.what set e.body h.0.body))
-    (events_silent e.time (forwards set e) changes events h.1 (All-tail IsSilentLine (Some c) changes f))

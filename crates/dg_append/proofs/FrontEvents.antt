@@ -1,12 +1,12 @@
 -- What holds of the events that the changes of a next batch come to.
-use Rattle.std.proofs.Common.{◌≡◌, ℕ, ◌+◌, ◌<◌, ◌≤◌, ◌^◌, true, false, List, [], ◌∷◌, Option, Some, None, Ok, length, take, drop, refl, sym, ◌∙◌, ap, subst, nat_le, arith, get_or, length-append}
+use Rattle.std.proofs.Common.{◌≡◌, ℕ, ◌+◌, ◌<◌, ◌≤◌, ◌^◌, true, List, [], ◌∷◌, Option, Some, None, Ok, length, take, drop, refl, sym, ◌∙◌, ap, subst, nat_le, arith, get_or, length-append}
 use Rattle.std.specs.Prelude.{IfSome}
 use Rattle.std.specs.List.{All}
 use Rattle.std.proofs.lemmas.List.{length-map, take-append-drop}
 use Rattle.std.proofs.lemmas.List.Elements.{All-nil, All-cons, All-head, All-tail}
 use Rattle.std.proofs.lemmas.Bool.{and_parts, leb-true}
-use Rattle.dg_append.proofs.CompletedChanges.{events_silent, events_there}
-use Rattle.dg_append.specs.AddedBatches.{ComesToSegment, IsReady, IsSegmentOver, WhatHasNamesThere, sends}
+use Rattle.dg_append.proofs.CompletedChanges.{events_there}
+use Rattle.dg_append.specs.AddedBatches.{ComesToSegment, IsReady, IsSegmentOver, TakesForm, WhatHasNamesThere}
 use Rattle.dg_append.specs.BatchSegments.{MayFollow}
 use Rattle.dg_append.specs.declared.batch.Batch.{Batch}
 use Rattle.dg_append.specs.declared.front.Front.{Front}
@@ -25,8 +25,7 @@ use Rattle.dg_graph.specs.ExactEvents.{AreChangesOf}
 use Rattle.dg_graph.specs.Graph.{IsGraph}
 use Rattle.dg_text.specs.Names.{are_new}
 use Rattle.dg_graph.proofs.Completions.{AllCome, all_come, as_many, made_come, times_fit}
-use Rattle.dg_history.specs.History.{are_parameters, is_wide}
-use Rattle.dg_history.specs.LegalHistory.{are_silent}
+use Rattle.dg_history.specs.History.{are_parameters}
 use Rattle.dg_history.proofs.EventTimes.{first_and_last, last_in_time, rises_come}
 use Rattle.dg_history.proofs.ParameterRanges.{InRange, in_range}
 use Rattle.dg_index.specs.declared.entry.BatchEntry.{BatchEntry}
@@ -69,7 +68,7 @@ pub may_name_parts : (names new : List (List ℕ)) → may_be_named names new �
 may_name_parts names new h =
     leb-true (length names + length new) NAMES_MAX (and_parts (are_new names new) (nat_le (length names + length new) NAMES_MAX) h).1
 
--- The events are those of the changes as a batch behind the index.
+-- The events are those of the changes as a batch behind the index, and the form of the file takes them.
 pub record IsPrepared (o : Opening) (batch : Batch) (h : StoredHistory) (events : List Event) : Type 0 where
   pub whole : batch.front ≡ Whole
   pub comes : completed 1 (earliest_in 0 o.batches) h.now.graph (lines batch.changes.items) ≡ Ok events
@@ -78,7 +77,7 @@ pub record IsPrepared (o : Opening) (batch : Batch) (h : StoredHistory) (events 
   pub changes_are : AreChangesOf h.now.graph events
   pub there : EventNamesAreThere (length h.names) events
   pub few_names : length h.names ≤ 2 ^ 30
-  pub silent : is_wide o.form ≡ false → are_silent events ≡ true
+  pub form : TakesForm o events
 
 -- there are no more names than a history may have
 pub few_names : (known : ℕ) (names : List (List ℕ)) → may_be_named (take known names) (drop known names) ≡ true → length names ≤ 2 ^ 30
@@ -116,8 +115,8 @@ pub more_event_names : (n m : ℕ) (events : List Event) → n ≤ m → EventNa
 more_event_names n m events le f k d lt = body_there n m (get_or events k d).body le (f k d lt)
 
 pub prepared : (o : Opening) (batch : Batch) (h : StoredHistory) (events : List Event) → are_parameters o.params.l o.params.k ≡ true → IsReady o batch h → IsGraph h.now.graph → batch.front ≡ Whole
-    → completed 1 (earliest_in 0 o.batches) h.now.graph (lines batch.changes.items) ≡ Ok events → IsPrepared o batch h events
-prepared o batch h events parameters r graph whole comes =
+    → completed 1 (earliest_in 0 o.batches) h.now.graph (lines batch.changes.items) ≡ Ok events → TakesForm o events → IsPrepared o batch h events
+prepared o batch h events parameters r graph whole comes form =
     let p : InRange o.params.l o.params.k = in_range o.params.l o.params.k parameters in
     let changes : List Change = batch.changes.items in
     let earliest : ℕ = earliest_in 0 o.batches in
@@ -148,7 +147,7 @@ prepared o batch h events parameters r graph whole comes =
       there = events_there (length h.names) earliest h.now.graph (lines changes) events come (more_names (length (take batch.known h.names)) (length h.names) h.now.graph (known_few batch.known h.names) r.sound.named)
           (on_lines (λ (c : Change). WhatHasNamesThere (length h.names) c.what) changes (r.fit whole));
       few_names = few_names batch.known h.names (r.named whole);
-      silent = λ narrow. events_silent earliest h.now.graph (lines changes) events come (on_lines (λ (c : Change). sends c.what ≡ false) changes (r.silent narrow whole));
+      form = form;
     }
 
 pub here : (told : Option Opening) (o : Opening) (P : Opening → Type 0) → told ≡ Some o → P o → IfSome told P
@@ -156,12 +155,6 @@ here told o P is p = subst (λ (i : Option Opening). IfSome i P) (sym is) p
 
 pub of_here : (told : Option Opening) (o : Opening) (P : Opening → Type 0) → told ≡ Some o → IfSome told P → P o
 of_here told o P is p = subst (λ (i : Option Opening). IfSome i P) is p
-
-pub is_prepared : (o : Opening) (batch : Batch) (h : StoredHistory) (events : List Event) (last : Option ℕ)
-    → are_parameters o.params.l o.params.k ≡ true → IsReady o batch h → IsGraph h.now.graph → batch.front ≡ Whole → earliest_now last ≡ earliest_in 0 o.batches
-    → completed 1 (earliest_now last) h.now.graph (lines batch.changes.items) ≡ Ok events → IsPrepared o batch h events
-is_prepared o batch h events last parameters ready graph whole early comes =
-    prepared o batch h events parameters ready graph whole (ap (λ (t : ℕ). completed 1 t h.now.graph (lines batch.changes.items)) (sym early) ∙ comes)
 
 -- the lines come to these events
 pub come_whole : (o : Opening) (batch : Batch) (h : StoredHistory) (events : List Event) → IsPrepared o batch h events → ComeTo o h.now.graph batch (Ok events)
@@ -171,4 +164,4 @@ come_whole o batch h events p all f =
 
 pub comes_to_segment : (o : Opening) (batch : Batch) (h : StoredHistory) (before : Option (List ℕ)) (events : List Event) (s : Segment)
     → IsPrepared o batch h events → IsSegmentOver before o batch.known h events s → ComesToSegment o batch h before events s
-comes_to_segment o batch h before events s p built = record { whole = p.whole; come = come_whole o batch h events p; built = built }
+comes_to_segment o batch h before events s p built = record { whole = p.whole; come = come_whole o batch h events p; form = p.form; built = built }

@@ -30,6 +30,7 @@ err_as (Err e) x P h p = subst (λ y. P (Err y)) (sym h.1) p
 pub stops_made : (limit : ℕ) (o : Opening) (next : NextBatch) (graph : List Element) (before after : Option (List ℕ)) (f : BatchFault)
     → after ≡ before → StopsSegment before o next graph f → StopsBatch limit o next graph before after f
 stops_made limit o next graph before after (fault.BadChange line reason) same stops = absurd stops
+stops_made limit o next graph before after fault.OldFormat same stops = absurd stops
 stops_made limit o next graph before after (fault.FileFull needed most) same stops = absurd stops
 stops_made limit o next graph before after (fault.Damaged key col) same stops = (same, stops)
 stops_made limit o next graph before after fault.Read same stops = same
@@ -39,6 +40,7 @@ stops_made limit o next graph before after fault.Store same stops = absurd stops
 -- the index is what it was, where the segment was not made
 pub made_stays : (f : BatchFault) (old new : Opening) → new ≡ old → IndexStays f old new
 made_stays (fault.BadChange line reason) old new same = same
+made_stays fault.OldFormat old new same = same
 made_stays (fault.FileFull needed most) old new same = same
 made_stays (fault.Damaged key col) old new same = same
 made_stays fault.Read old new same = same
@@ -49,6 +51,7 @@ made_stays fault.Store old new same = tt
 module _ {D : Type 0} (g : Ghosts D) (limit : ℕ) (o new : Opening) (next : NextBatch) (graph : List Element) (s : Segment) (before middle after : D) (reads : ReadsDisk g before middle) (made : MakesSegment (g.image before) o next graph s) where
   pub stops_kept : (f : BatchFault) → StopsKeeping g limit o s new middle after f → StopsBatch limit o next graph (g.image before) (g.image after) f
   stops_kept (fault.BadChange line reason) stops = absurd stops
+  stops_kept fault.OldFormat stops = absurd stops
   stops_kept (fault.FileFull needed most) stops = (ap g.image stops.4 ∙ reads.same_image, stops.1, record { segment = s; built = made.built; needed_is = stops.0; over = stops.2 })
   stops_kept (fault.Damaged key col) stops = absurd stops
   stops_kept fault.Read stops = absurd stops
@@ -62,6 +65,7 @@ module _ {D : Type 0} (g : Ghosts D) (limit : ℕ) (o new : Opening) (next : Nex
 
   pub stays_kept : (f : BatchFault) → StopsKeeping g limit o s new middle after f → IndexStays f o new
   stays_kept (fault.BadChange line reason) stops = absurd stops
+  stays_kept fault.OldFormat stops = absurd stops
   stays_kept (fault.FileFull needed most) stops = stops.3
   stays_kept (fault.Damaged key col) stops = absurd stops
   stays_kept fault.Read stops = absurd stops

@@ -1,5 +1,5 @@
 -- How the next batch is added to a history.
-use Rattle.std.specs.Prelude.{◌≡◌, ◌⊎◌, ◌+◌, ◌-◌, ◌*◌, ◌<◌, ◌≤◌, ℕ, Bool, true, false, List, [], ◌∷◌, ◌++◌, Option, Some, Result, Ok, Err, IfErr, IfSome, length, take, drop}
+use Rattle.std.specs.Prelude.{◌≡◌, ◌⊎◌, ◌+◌, ◌-◌, ◌*◌, ◌<◌, ◌≤◌, ℕ, true, false, List, [], ◌∷◌, ◌++◌, Option, Some, Result, Ok, Err, IfErr, IfSome, length, take, drop}
 use Rattle.std.specs.List.{All, sum}
 use Rattle.dg_append.specs.declared.batch.AddedBatch.{AddedBatch}
 use Rattle.dg_append.specs.declared.batch.Batch.{Batch}
@@ -14,6 +14,7 @@ use Rattle.dg_append.specs.OlderGroups.{AreUndamaged, in_groups, older_children}
 use Rattle.dg_file.specs.Images.{BothTold, GainsBatch, GainsBatchOrNot}
 use Rattle.dg_fold.specs.BytesRead.{TakesAtMost}
 use Rattle.dg_graph.specs.declared.element.Column.{Column}
+use Rattle.dg_graph.specs.declared.element.Element.{Element}
 use Rattle.dg_graph.specs.declared.event.Change.{Change}
 use Rattle.dg_graph.specs.declared.event.Event.{Event}
 use Rattle.dg_graph.specs.declared.event.What.{What}
@@ -25,7 +26,7 @@ use Rattle.dg_history.specs.declared.node.Key.{Key}
 use Rattle.dg_history.specs.declared.node.NodeId.TheVariants.{Root}
 use Rattle.dg_history.specs.declared.params.Params.{Params}
 use Rattle.dg_history.specs.History.{Batch as BatchOf, History, events_of, is_wide, last_time_from, with_batch}
-use Rattle.dg_history.specs.LegalHistory.{IsLegal}
+use Rattle.dg_history.specs.LegalHistory.{IsLegal, are_silent}
 use Rattle.dg_index.specs.FileOfHistory.{Segment, segment_of}
 use Rattle.dg_index.specs.Hierarchy.{leaves}
 use Rattle.dg_index.specs.ImageOfHistory.{IsImageOf}
@@ -52,14 +53,8 @@ WhatHasNamesThere name_count (what.SetEdge id key value) = (key < name_count) ×
 WhatHasNamesThere name_count (what.UnsetEdge id key) = key < name_count
 WhatHasNamesThere name_count (what.Message src dst value) = value < name_count
 
--- the change sends a message
-abbrev pub sends : What → Bool
-sends (what.Message src dst value) = true
-sends _ = false
-
 -- The batch may be a next one of this history, which has its names already: there is room for its events, the names
--- behind those that were known may follow them, and its changes name none but these. In a file of the first form none of
--- its changes sends a message.
+-- behind those that were known may follow them, and its changes name none but these.
 pub record IsReady (o : Opening) (batch : Batch) (h : StoredHistory) : Type 0 where
   pub sound : IsSoundHistory (Some o) (take batch.known h.names) h.now h.recent.items
   pub within : batch.known ≤ length h.names
@@ -69,7 +64,6 @@ pub record IsReady (o : Opening) (batch : Batch) (h : StoredHistory) : Type 0 wh
   pub named : batch.front ≡ Whole → may_be_named (take batch.known h.names) (drop batch.known h.names) ≡ true
   pub fit : batch.front ≡ Whole → All (λ (change : Change). WhatHasNamesThere (length h.names) change.what) batch.changes.items
   pub timed : batch.front ≡ Whole → All (λ (change : Change). change.time ≤ TIME_MAX) batch.changes.items
-  pub silent : is_wide o.form ≡ false → batch.front ≡ Whole → All (λ (change : Change). sends change.what ≡ false) batch.changes.items
 
 -- The history has an index, the batch may be a next one behind it, and the current graph of the pool is that of the history.
 pub record MayAdd (batch : Batch) (l : Live) : Type 0 where
@@ -77,6 +71,10 @@ pub record MayAdd (batch : Batch) (l : Live) : Type 0 where
   pub there : index_opening l.history.index ≡ Some index
   pub ready : IsReady index batch l.history
   pub pool : graph_now l.pool.value ≡ l.history.now.graph
+
+-- the form of the file takes these events: in the first form none of them is a message
+abbrev pub TakesForm : Opening → List Event → Type 0
+TakesForm o events = is_wide o.form ≡ false → are_silent events ≡ true
 
 -- ---- the batch and its segment
 
@@ -100,10 +98,11 @@ abbrev pub recent_behind : Params → ℕ → List Event → List Event → List
 recent_behind p before recent events =
     drop (leaves p (before + length events) * p.l - leaves p before * p.l) (recent ++ events)
 
--- The lines come to a batch of these events, whose segment is this.
+-- The lines come to a batch of these events, which the form of the file takes, and whose segment is this.
 pub record ComesToSegment (o : Opening) (batch : Batch) (old : StoredHistory) (before : Option (List ℕ)) (events : List Event) (segment : Segment) : Type 0 where
   pub whole : batch.front ≡ Whole
   pub come : ComeTo o old.now.graph batch (Ok events)
+  pub form : TakesForm o events
   pub built : IsSegmentOver before o batch.known old events segment
 
 -- Where the image is told, the trees of the older children of the interior nodes that a batch of so many events completes
@@ -131,13 +130,13 @@ pub record AddsBatch (o : Opening) (limit : ℕ) (batch : Batch) (old new : Live
   pub told : added ≡ record { events = length events; total = event_total o.batches + length events; last = last_time_from 0 events }
 
 -- What a crash may leave while the lines are added behind this index as a batch: over the image of a history of which
--- this is kept, an image of it; or the lines come to a batch, and where that may follow the history, an image without it
--- or with it.
+-- this is kept, an image of it; or the lines come to a batch that the form of the file takes, and where that may follow
+-- the history, an image without it or with it.
 abbrev pub AddsBehindOrNot : Opening → Batch → StoredHistory → List ℕ → List ℕ → Type 0
 AddsBehindOrNot o batch h before after =
     (z : History) → IsOverHistory z before o batch.known h
     → IsImageOf z after
-    ⊎ ((events : List Event) × (batch.front ≡ Whole) × ComeTo o h.now.graph batch (Ok events)
+    ⊎ ((events : List Event) × (batch.front ≡ Whole) × ComeTo o h.now.graph batch (Ok events) × TakesForm o events
     × (IsLegal (with_batch z (batch_with batch.known h.names events)) → IsImageOf z after ⊎ IsImageOf (with_batch z (batch_with batch.known h.names events)) after))
 
 -- the same behind the index of the history
@@ -162,25 +161,49 @@ pub record BreaksBatch (o : Opening) (limit : ℕ) (batch : Batch) (old : Stored
   pub gains : BothTold before after (GainsBatchOrNot segment)
   pub fits : needed_for o segment ≤ limit
 
--- The lines come to a batch of these events, whose older children or deltas are damaged so.
+-- The lines come to a batch of these events, one of which is a message, and the file has its first form.
+pub record IsOldFormat (o : Opening) (batch : Batch) (old : StoredHistory) : Type 0 where
+  pub events : List Event
+  pub whole : batch.front ≡ Whole
+  pub come : ComeTo o old.now.graph batch (Ok events)
+  pub narrow : is_wide o.form ≡ false
+  pub sends : are_silent events ≡ false
+
+-- The lines come to a batch of these events, which the form of the file takes, and whose older children or deltas are
+-- damaged so.
 pub record MeetsDamage (o : Opening) (batch : Batch) (old : StoredHistory) (before : Option (List ℕ)) (key : Key) (col : Column) : Type 0 where
   pub events : List Event
   pub whole : batch.front ≡ Whole
   pub come : ComeTo o old.now.graph batch (Ok events)
+  pub form : TakesForm o events
   pub damage : IfSome before (λ image. IsNamedDamage batch.known image o old.recent.items events old.now.graph key col)
   pub never : IfSome before (λ image. (z : History) → IsOverHistory z image o batch.known old → ⊥)
 
--- The lines come to a batch, and a read failed while its older children were read: so it comes only behind lines that
--- are refused for nothing.
+-- The lines come to a batch that the form of the file takes, and a read failed while its older children were read: so it
+-- comes only behind lines that are refused for nothing.
 pub record FailsToRead (o : Opening) (batch : Batch) (old : StoredHistory) : Type 0 where
   pub events : List Event  -- those of the batch
   pub whole : batch.front ≡ Whole  -- each line is a change
   pub come : ComeTo o old.now.graph batch (Ok events)  -- and no change is refused
+  pub form : TakesForm o events  -- nor a message
+
+-- Why the lines come to no batch over this graph that the form of the file takes: a line is refused, or one is a message;
+-- of want of memory nothing is said.
+abbrev pub IsRefused : Opening → List Element → Batch → BatchFault → Type 0
+IsRefused o graph batch (fault.BadChange line reason) = ComeTo o graph batch (Err (line, reason))
+IsRefused o graph batch fault.OldFormat =
+    (events : List Event) × (batch.front ≡ Whole) × ComeTo o graph batch (Ok events) × (is_wide o.form ≡ false) × (are_silent events ≡ false)
+IsRefused o graph batch (fault.FileFull needed most) = ⊥
+IsRefused o graph batch (fault.Damaged key col) = ⊥
+IsRefused o graph batch fault.Read = ⊥
+IsRefused o graph batch fault.Memory = Unit {0}
+IsRefused o graph batch fault.Store = ⊥
 
 -- what a fault says of the batch and of the image
 abbrev pub FailsBatch : Opening → ℕ → Batch → StoredHistory → Option (List ℕ) → Option (List ℕ) → BatchFault → Type 0
 FailsBatch o limit batch old before after (fault.BadChange line reason) =
     (after ≡ before) × ComeTo o old.now.graph batch (Err (line, reason))
+FailsBatch o limit batch old before after fault.OldFormat = (after ≡ before) × IsOldFormat o batch old
 FailsBatch o limit batch old before after (fault.FileFull needed most) =
     (after ≡ before) × (most ≡ limit) × FillsFile o limit batch old before needed
 FailsBatch o limit batch old before after (fault.Damaged key col) =
@@ -200,6 +223,7 @@ pub record IsAsKnown (known : ℕ) (old new : Live) : Type 0 where
 -- after a fault all is as it was; after a failure of a write or sync nothing is kept
 abbrev pub IsBack : BatchFault → ℕ → Live → Live → Type 0
 IsBack (fault.BadChange line reason) known old new = IsAsKnown known old new
+IsBack fault.OldFormat known old new = IsAsKnown known old new
 IsBack (fault.FileFull needed most) known old new = IsAsKnown known old new
 IsBack (fault.Damaged key col) known old new = IsAsKnown known old new
 IsBack fault.Read known old new = IsAsKnown known old new
@@ -216,17 +240,18 @@ TakesOlder before o batch h taken then_taken =
     → (singles : List ℕ) → AreSingles (arcs_of (record_edges o)) (Root ∷ []) (older_children o (length batch.changes.items)) singles
     → TakesAtMost (sum singles) taken then_taken)
 
--- a batch that is refused for a change has read nothing
+-- a batch that is refused for a change, or for a message, has read nothing
 abbrev pub ReadsNothing : BatchFault → ℕ → ℕ → Type 0
 ReadsNothing (fault.BadChange line reason) taken then_taken = then_taken ≡ taken
+ReadsNothing fault.OldFormat taken then_taken = then_taken ≡ taken
 ReadsNothing (fault.FileFull needed most) taken then_taken = Unit {0}
 ReadsNothing (fault.Damaged key col) taken then_taken = Unit {0}
 ReadsNothing fault.Read taken then_taken = Unit {0}
 ReadsNothing fault.Memory taken then_taken = Unit {0}
 ReadsNothing fault.Store taken then_taken = Unit {0}
 
--- The bytes that a batch reads: those of the older children at most, and none where a change is refused or where not
--- all lines are kept.
+-- The bytes that a batch reads: those of the older children at most, and none where a change or a message is refused or
+-- where not all lines are kept.
 pub record TakesBatch (o : Opening) (batch : Batch) (h : StoredHistory) (before : Option (List ℕ)) (r : Result AddedBatch BatchFault) (taken then_taken : ℕ) : Type 0 where
   pub older : TakesOlder before o batch h taken then_taken
   pub refused : IfErr r (λ f. ReadsNothing f taken then_taken)

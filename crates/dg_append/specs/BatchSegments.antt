@@ -4,7 +4,7 @@ use Rattle.std.specs.List.{All, sum}
 use Rattle.dg_append.specs.declared.fault.BatchFault.{BatchFault}
 use Rattle.dg_append.specs.declared.fault.BatchFault.TheVariants as fault
 use Rattle.dg_append.specs.declared.next_batch.NextBatch.{NextBatch}
-use Rattle.dg_append.specs.AddedBatches.{MeetsNoDamage, batch_with, recent_behind}
+use Rattle.dg_append.specs.AddedBatches.{MeetsNoDamage, TakesForm, batch_with, recent_behind}
 use Rattle.dg_append.specs.OlderChildSteps.{IsFirstWideDelta, IsNamedDamage}
 use Rattle.dg_append.specs.OlderGroups.{leaves_after, older_children}
 use Rattle.dg_build.specs.OlderSteps.{AreOlderSteps}
@@ -23,7 +23,6 @@ use Rattle.dg_history.specs.declared.limits.TheConstants.{BATCH_LINES_MAX, EVENT
 use Rattle.dg_history.specs.declared.node.NodeId.TheVariants.{Root}
 use Rattle.dg_history.specs.EventTimes.{RisesFrom}
 use Rattle.dg_history.specs.History.{History, events_of, first_time_of, is_wide, last_time_from}
-use Rattle.dg_history.specs.LegalHistory.{are_silent}
 use Rattle.dg_index.specs.FileOfHistory.{Segment, segment_of, stored_in}
 use Rattle.dg_index.specs.ImageOfHistory.{IsImageOf}
 use Rattle.dg_index.specs.IndexGrowth.{name_total}
@@ -55,7 +54,7 @@ pub record MayFollow (o : Opening) (recent events : ListOf Event) : Type 0 where
   pub goes_on : MayGoOn (Some o) recent
 
 -- The batch may be put behind the index, whose events lead to this graph: its events change the graph, its names may
--- follow those that were known, and all names of events can be spelled. In the first form no event is a message.
+-- follow those that were known, all names of events can be spelled, and the form of the file takes its events.
 pub record IsNext (o : Opening) (next : NextBatch) (graph : ListOf Element) : Type 0 where
   pub follows : MayFollow o next.recent.now next.events.now
   pub within : next.known ≤ length next.names.now
@@ -65,7 +64,7 @@ pub record IsNext (o : Opening) (next : NextBatch) (graph : ListOf Element) : Ty
   pub fit : All (λ (e : Event). NamesFit e.body) next.events.now
   pub set : IsSet graph
   pub changes : AreChangesOf graph next.events.now
-  pub silent : is_wide o.form ≡ false → are_silent next.events.now ≡ true
+  pub form : TakesForm o next.events.now
 
 -- ---- what is made
 
@@ -84,14 +83,14 @@ pub record IsSegmentBehind (o : Opening) (names : ListOf (ListOf ℕ)) (recent e
   pub unheard : is_wide o.form ≡ false → AreUnheard (stored_in s)
 
 -- These are all events of an index, of which these are recent; this graph is theirs, these are the exact steps of their
--- older children, and these events may follow them. In the first form no event is a message.
+-- older children, and these events may follow them. The form of the file takes all of them.
 pub record IsPast (o : Opening) (past recent : ListOf Event) (graph : ListOf Element) (events : ListOf Event) (steps : ListOf Delta) : Type 0 where
   pub long : length past ≡ event_total o.batches
   pub recent_is : recent ≡ recent_of o.params past
   pub graph_is : graph ≡ replay past
   pub changes : AreChangesOf [] (past ++ events)
   pub steps_are : AreOlderSteps o.params past (leaves_after o (length events)) steps
-  pub silent : is_wide o.form ≡ false → are_silent (past ++ events) ≡ true
+  pub form : TakesForm o (past ++ events)
 
 -- the image stands for a history of which this graph is kept, and the names and recent events that the batch follows
 abbrev pub StandsForKept : History → ListOf ℕ → Opening → NextBatch → ListOf Element → Type 0
@@ -122,6 +121,7 @@ TakesSinglesOver before o next graph taken then_taken =
 -- why the segment of the batch is not made from these steps of its older children
 abbrev pub IsUnmade : Opening → NextBatch → ListOf Element → ListOf Delta → BatchFault → Type 0
 IsUnmade o next graph steps (fault.BadChange line reason) = ⊥
+IsUnmade o next graph steps fault.OldFormat = ⊥
 IsUnmade o next graph steps (fault.FileFull needed most) = ⊥
 IsUnmade o next graph steps (fault.Damaged key col) = (col ≡ Structure) × IsFirstWideDelta o next.recent.now next.events.now graph steps key
 IsUnmade o next graph steps fault.Read = ⊥
@@ -132,6 +132,7 @@ IsUnmade o next graph steps fault.Store = ⊥
 -- kept; a read failed; or memory lacked.
 abbrev pub StopsSegment : Option (ListOf ℕ) → Opening → NextBatch → ListOf Element → BatchFault → Type 0
 StopsSegment before o next graph (fault.BadChange line reason) = ⊥
+StopsSegment before o next graph fault.OldFormat = ⊥
 StopsSegment before o next graph (fault.FileFull needed most) = ⊥
 StopsSegment before o next graph (fault.Damaged key col) =
     IfSome before (λ image. IsNamedDamage next.known image o next.recent.now next.events.now graph key col)

@@ -28,6 +28,7 @@ OnlyReadFailed disk old new = Fails disk old new × (disk.write_faults new ≡ d
 -- what the disk counted in the call: where a write or sync failed, that it did; where a read failed, that nothing else did
 abbrev pub HasCause : {D : Type 0} → Ghosts D → BatchFault → D → D → Type 0
 HasCause disk (fault.BadChange line reason) old new = Unit {0}
+HasCause disk fault.OldFormat old new = Unit {0}
 HasCause disk (fault.FileFull needed most) old new = Unit {0}
 HasCause disk (fault.Damaged key col) old new = Unit {0}
 HasCause disk fault.Read old new = OnlyReadFailed disk old new

@@ -50,6 +50,7 @@ pub record MakesBatch (before : Option (List ℕ)) (o : Opening) (next : NextBat
 -- why the segment is not kept in the file, and what becomes of the index and of the disk
 abbrev pub StopsKeeping : {D : Type 0} → Ghosts D → ℕ → Opening → Segment → Opening → D → D → BatchFault → Type 0
 StopsKeeping g limit o s new before after (fault.BadChange line reason) = ⊥
+StopsKeeping g limit o s new before after fault.OldFormat = ⊥
 StopsKeeping g limit o s new before after (fault.FileFull needed most) =
     (needed ≡ needed_for o s) × (most ≡ limit) × (limit < needed) × (new ≡ o) × (after ≡ before)
 StopsKeeping g limit o s new before after (fault.Damaged key col) = ⊥
@@ -96,6 +97,7 @@ pub record BreaksFile (limit : ℕ) (o : Opening) (next : NextBatch) (graph : Li
 -- why the batch is not put into the file, and what becomes of the image
 abbrev pub StopsBatch : ℕ → Opening → NextBatch → List Element → Option (List ℕ) → Option (List ℕ) → BatchFault → Type 0
 StopsBatch limit o next graph before after (fault.BadChange line reason) = ⊥
+StopsBatch limit o next graph before after fault.OldFormat = ⊥
 StopsBatch limit o next graph before after (fault.FileFull needed most) =
     (after ≡ before) × (most ≡ limit) × OverfillsFile limit o next graph before needed
 StopsBatch limit o next graph before after (fault.Damaged key col) =
@@ -107,6 +109,7 @@ StopsBatch limit o next graph before after fault.Store = BreaksFile limit o next
 -- the index is what it was, except after a failure of a write or sync
 abbrev pub IndexStays : BatchFault → Opening → Opening → Type 0
 IndexStays (fault.BadChange line reason) old new = new ≡ old
+IndexStays fault.OldFormat old new = new ≡ old
 IndexStays (fault.FileFull needed most) old new = new ≡ old
 IndexStays (fault.Damaged key col) old new = new ≡ old
 IndexStays fault.Read old new = new ≡ old
@@ -132,6 +135,7 @@ pub record IsCut (known : ℕ) (old new : Live) : Type 0 where
 -- what a batch that is not added leaves behind is taken back; after a failure of a write or sync nothing is kept
 abbrev pub GivesBack : BatchFault → ℕ → Live → Live → Type 0
 GivesBack (fault.BadChange line reason) known old new = IsCut known old new
+GivesBack fault.OldFormat known old new = IsCut known old new
 GivesBack (fault.FileFull needed most) known old new = IsCut known old new
 GivesBack (fault.Damaged key col) known old new = IsCut known old new
 GivesBack fault.Read known old new = IsCut known old new

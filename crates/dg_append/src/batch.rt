@@ -1,24 +1,21 @@
 //! Adding the next batch to a history: in the file, and in memory.
 
-ghost use Rattle.std.specs.Prelude.{◌≡◌, ◌≤◌, ◌<◌, ◌^◌, IfOk, IfErr, IfSome, take};
+ghost use Rattle.std.specs.Prelude.{◌≡◌, ◌≤◌, IfOk, IfErr, IfSome, take};
 ghost use Rattle.dg_append.specs.AddedBatches.{AddsBatch, AddsBatchOrNot, FailsBatch, IsBack, MayAdd, TakesBatch};
 ghost use Rattle.dg_append.specs.DiskLeft.{LeavesDisk};
 ghost use Rattle.dg_append.specs.KeptBatches.{GivesBack};
 ghost use Rattle.dg_append.specs.LiveHistories.{IsLiveHistory};
 ghost use Rattle.dg_history.specs.declared.limits.TheConstants.{FILE_BYTES_MAX};
-ghost use Rattle.dg_index.specs.OpenedIndex.{earliest_in};
-ghost use Rattle.dg_current.specs.Now.{earliest_time_after};
 ghost use Rattle.dg_start.specs.StoredHistory.{IsHeldBy, index_opening};
 
 use crate::batch_commit::keep_batch;
-use crate::completion::prepare;
+use crate::completion::complete;
 use crate::fault::BatchFault;
 use crate::front::Front;
 use crate::live::Live;
 use crate::next_batch::NextBatch;
 use crate::segment::last_instant;
 use dg_disk::Disk;
-use dg_file::Index;
 use dg_graph::Change;
 use std::alloc::Global;
 use std::thread::Threads;
@@ -45,15 +42,6 @@ pub struct AddedBatch {
     pub last: u64,
 }
 
-// The last time of the batches in the file.
-fn last_of(index: &Index) -> Option<u64>
-    ensures last { earliest_time_after result ≡ earliest_in 0 index.now.opening.batches }
-    ensures small { IfSome result (λ t. t < 2 ^ 63) }
-{
-    index.facts();
-    index.last_time()
-}
-
 // Takes back what the batch has left in memory: its names and its events. Where a write or a sync failed all is
 // forgotten, since what the file holds is not known.
 fn give_back(alloc: Global, known: u32, fault: BatchFault, live: &mut Live)
@@ -72,11 +60,12 @@ fn give_back(alloc: Global, known: u32, fault: BatchFault, live: &mut Live)
 /// lead to them are read first, in groups of 32, each by one tree over the records alone. All memory is taken before the
 /// first write. A crash at any moment leaves the history without the batch or with it.
 ///
-/// `BatchFault::BadChange` for the least line that is refused, with nothing read; `BatchFault::FileFull` with the
-/// bytes that would be in use, where they are more than `limit`; `BatchFault::Damaged`, `BatchFault::Read` where the
-/// older children cannot be read; `BatchFault::Memory` for want of memory: then history and pool are as they were, with
-/// the names that there were before the batch. `BatchFault::Store` where a write or a sync failed: what the file holds
-/// is not known then, so nothing of it is kept, and no graph.
+/// `BatchFault::BadChange` for the least line that is refused, and behind it `BatchFault::OldFormat` where a line is a
+/// message and the file is in its first form, both with nothing read; `BatchFault::FileFull` with the bytes that would be
+/// in use, where they are more than `limit`; `BatchFault::Damaged`, `BatchFault::Read` where the older children cannot
+/// be read; `BatchFault::Memory` for want of memory: then history and pool are as they were, with the names that there
+/// were before the batch. `BatchFault::Store` where a write or a sync failed: what the file holds is not known then, so
+/// nothing of it is kept, and no graph.
 pub fn add_batch<R: Threads, D: Disk>(
     rt: &R,
     alloc: Global,
@@ -104,21 +93,15 @@ pub fn add_batch<R: Threads, D: Disk>(
     // why it fails, what it leaves of the disk, and what a crash leaves
     ensures disk { LeavesDisk D.Disk (AddsBatchOrNot batch live.old.history) disk.old disk.new result }
 {
-    let Batch {
-        known,
-        front,
-        changes,
-    } = batch;
+    let known = batch.known;
     let Live { history, pool } = live;
     let Some(index) = &mut history.index else {
         unreachable!()
     };
     index.facts();
     history.now.facts();
-    let last = last_of(index);
     // The changes are dropped with this, and the events held where they are pending: one copy of the batch.
-    if let Err(refused) = prepare(&mut history.now, last, front, changes) {
-        let fault = BatchFault::from(refused);
+    if let Err(fault) = complete(index, &mut history.now, batch) {
         give_back(alloc, known, fault, live);
         return Err(fault);
     }

@@ -1,16 +1,22 @@
 //! What the changes of a batch come to.
 
 ghost use Rattle.std.specs.Prelude.{◌≡◌, ◌≤◌, ◌<◌, ◌^◌, ◌++◌, ◌∷◌, List, [], Option, None, Ok, length, IfErr, IfSome, IfNone, OnErr, OnOk};
+ghost use Rattle.dg_append.specs.AddedBatches.{IsRefused, TakesForm};
 ghost use Rattle.dg_append.specs.Fronts.{IsFront, lines};
 ghost use Rattle.dg_graph.specs.declared.event.Change.{Change};
 ghost use Rattle.dg_graph.specs.declared.event.Event.{Event};
 ghost use Rattle.dg_graph.specs.CompletedChanges.{completed};
+ghost use Rattle.dg_history.specs.LegalHistory.{are_silent, is_message};
+ghost use Rattle.dg_index.specs.OpenedIndex.{earliest_in};
 ghost use Rattle.dg_history.specs.declared.limits.TheConstants.{BATCH_LINES_MAX};
 ghost use Rattle.dg_current.specs.Now.{FaultOf, earliest_time_after};
 
+use crate::batch::Batch;
+use crate::fault::BatchFault;
 use crate::front::Front;
 use dg_current::{Now, PrepareFault};
-use dg_graph::{Change, REASON_FORM};
+use dg_file::Index;
+use dg_graph::{Body, Change, Event, REASON_FORM};
 
 // Why the changes are refused, if they are, before a line that is no change. The graph has nothing
 // pending, before and after.
@@ -54,12 +60,35 @@ fn fault_of_form(now: &mut Now, last: Option<u64>, changes: &[Change]) -> Prepar
     }
 }
 
-/// Completes the lines whose changes were kept, as a batch after the last time. Their events are pending
-/// then, and the changes are dropped.
-///
-/// `PrepareFault::BadChange` for the least line that is refused; `PrepareFault::Memory` for want of
-/// memory. Then nothing has changed.
-pub(crate) fn prepare(
+// The last time of the batches in the file.
+fn last_of(index: &Index) -> Option<u64>
+    ensures last { earliest_time_after result ≡ earliest_in 0 index.now.opening.batches }
+    ensures small { IfSome result (λ t. t < 2 ^ 63) }
+{
+    index.facts();
+    index.last_time()
+}
+
+// Whether the event is a message.
+fn is_message(event: &Event) -> bool
+    ensures { result ≡ is_message event.now.body }
+{
+    matches!(event.body, Body::Message { .. })
+}
+
+// Whether none of the events is a message.
+fn are_silent(events: &[Event]) -> bool
+    ensures { result ≡ are_silent events.now }
+{
+    events.iter().all(|event| !is_message(event))
+}
+
+// Completes the lines whose changes were kept, as a batch after the last time. Their events are pending then, and the
+// changes are dropped.
+//
+// `PrepareFault::BadChange` for the least line that is refused; `PrepareFault::Memory` for want of memory. Then nothing
+// has changed.
+fn prepare(
     now: &mut Now,
     last: Option<u64>,
     front: Front,
@@ -81,4 +110,26 @@ pub(crate) fn prepare(
         Front::Form => Err(fault_of_form(now, last, &changes)),
         Front::Unkept => Err(PrepareFault::Memory),
     }
+}
+
+/// Completes the batch behind the index. Its events are pending then, and the form of the file takes them; the changes are
+/// dropped.
+///
+/// `BatchFault::BadChange` for the least line that is refused; where none is, `BatchFault::OldFormat` where one is a message
+/// and the file is in its first form, with the events pending; `BatchFault::Memory` for want of memory.
+pub(crate) fn complete(index: &Index, now: &mut Now, batch: Batch) -> Result<(), BatchFault>
+    requires none_pending { now.old.pending ≡ [] }
+    requires some { batch.front ≡ Front.Whole → 1 ≤ length batch.changes.items }
+    requires few { length batch.changes.items ≤ BATCH_LINES_MAX }
+    ensures whole { OnOk result (batch.front ≡ Front.Whole) }
+    ensures done { OnOk result (completed 1 (earliest_in 0 index.now.opening.batches) now.old.graph (lines batch.changes.items) ≡ Ok now.new.pending) }
+    ensures form { OnOk result (TakesForm index.now.opening now.new.pending) }
+    ensures refused { IfErr result (IsRefused index.now.opening now.old.graph batch) }
+    ensures same_graph { now.new.graph ≡ now.old.graph }
+{
+    prepare(now, last_of(index), batch.front, batch.changes)?;
+    if !index.is_wide() && !are_silent(now.pending()) {
+        return Err(BatchFault::OldFormat);
+    }
+    Ok(())
 }

@@ -17,6 +17,9 @@ pub enum BatchFault {
     /// The least line that is refused, from 1, and the first reason against it.
     #[error("line {0} is refused for reason {1}")]
     BadChange(u32, u8),
+    /// A line of the batch is a message, and the file is in its first form.
+    #[error("a line is a message, and the file is in its first form")]
+    OldFormat,
     /// The file would have so many bytes in use, and may have fewer: the two numbers.
     #[error("the file would have {0} bytes in use, more than {1}")]
     FileFull(u64, u64),

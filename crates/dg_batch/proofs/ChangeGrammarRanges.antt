@@ -15,7 +15,7 @@ use Rattle.dg_text.specs.Lines.{ScriptLine, Text, Long}
 use Rattle.dg_text.specs.Names.{is_key, is_name}
 use Rattle.dg_text.specs.Verbs.{Verb, none_more, one, two_words, three, four_words}
 use Rattle.dg_text.specs.Words.{words, number}
-use Rattle.dg_changes.specs.ChangeGrammar.{WhatByText, Plain, Sets_node, Unsets_node, Sets_edge, Unsets_edge, Sends, ChangeByText, change_verbs, id_of, time_of, direction_of, key_text_of, value_text_of, setting_of, what_by_text_of, change_by_text_of_words, change_by_text_in}
+use Rattle.dg_changes.specs.ChangeGrammar.{WhatByText, Plain, Sets_node, Unsets_node, Sets_edge, Unsets_edge, Sends, ChangeByText, change_verbs, id_of, time_of, direction_of, key_text_of, value_text_of, sending_of, setting_of, what_by_text_of, change_by_text_of_words, change_by_text_in}
 use Rattle.dg_machine.proofs.VerbTables.{each_read_by}
 
 -- what the words, or one word, are read as has the property
@@ -106,7 +106,7 @@ tested test text x e = by (test text) refl e
 
 -- ---- changes
 
--- the ids of a change of nodes and edges fit; no line sends a message
+-- the ids of a change of nodes and edges fit
 abbrev pub PlainFits : What → Type 0
 PlainFits (what.AddNode id) = id < 2 ^ 64
 PlainFits (what.RemoveNode id) = id < 2 ^ 64
@@ -125,7 +125,7 @@ AskedFits (Sets_node id key value) = (id < 2 ^ 64) × (is_key key ≡ true) × (
 AskedFits (Unsets_node id key) = (id < 2 ^ 64) × (is_key key ≡ true)
 AskedFits (Sets_edge id key value) = (id < 2 ^ 64) × (is_key key ≡ true) × (is_name value ≡ true)
 AskedFits (Unsets_edge id key) = (id < 2 ^ 64) × (is_key key ≡ true)
-AskedFits (Sends src dst value) = ⊥
+AskedFits (Sends src dst value) = (src < 2 ^ 64) × (dst < 2 ^ 64) × (is_name value ≡ true)
 
 abbrev pub SaidFits : ChangeByText → Type 0
 SaidFits said = (said.time ≤ TIME_MAX) × AskedFits said.asked
@@ -143,6 +143,17 @@ set_gives make q (id ∷ key ∷ word ∷ more) x e =
     let t = and_then_is (λ k. option_map (λ v. make s.0 k v) (value_text_of text)) (key_text_of key) x s.2 in
     let u = map_is (λ v. make s.0 t.0 v) (value_text_of text) x t.2 in
     subst AskedFits u.2 (q s.0 t.0 u.0 (id_fits id s.0 s.1) (tested is_key key t.0 t.1) (tested is_name text u.0 u.1))
+
+send_gives : Gives AskedFits sending_of
+send_gives [] x e = absurd (none-some x e)
+send_gives (src ∷ []) x e = absurd (none-some x e)
+send_gives (src ∷ dst ∷ []) x e = absurd (none-some x e)
+send_gives (src ∷ dst ∷ word ∷ more) x e =
+    let text : List ℕ = join_with_byte 32 (word ∷ more) in
+    let s = and_then_is (λ a. option_and_then (λ b. option_map (λ v. Sends a b v) (value_text_of text)) (id_of dst)) (id_of src) x e in
+    let t = and_then_is (λ b. option_map (λ v. Sends s.0 b v) (value_text_of text)) (id_of dst) x s.2 in
+    let u = map_is (λ v. Sends s.0 t.0 v) (value_text_of text) x t.2 in
+    subst AskedFits u.2 (id_fits src s.0 s.1, id_fits dst t.0 t.1, tested is_name text u.0 u.1)
 
 unset_gives : (make : ℕ → List ℕ → WhatByText) → ((n : ℕ) (k : List ℕ) → n < 2 ^ 64 → is_key k ≡ true → AskedFits (make n k)) → Gives AskedFits (two_words id_of key_text_of make)
 unset_gives make = two_gives id_of key_text_of make (λ n. n < 2 ^ 64) (λ k. is_key k ≡ true) AskedFits id_fits (λ key k e. tested is_key key k e)
@@ -162,7 +173,7 @@ each_change = (
             unset_gives (λ n k. Unsets_node n k) (λ n k a b. (a, b)),
             (
               set_gives (λ n k v. Sets_edge n k v) (λ n k v a b c. (a, b, c)),
-              (unset_gives (λ n k. Unsets_edge n k) (λ n k a b. (a, b)), tt),
+              (unset_gives (λ n k. Unsets_edge n k) (λ n k a b. (a, b)), (send_gives, tt)),
             ),
           ),
         ),

@@ -61,6 +61,7 @@ module _ (tie : TieIsKept) (batch : Batch) (old : Held) (new : Live) (may : MayA
 
   pub held_back : (f : BatchFault) → (f ≡ fault.Store → ⊥) → IsBack f batch.known old.live new → IsLiveHistory new → IsHeld Over
   held_back (fault.BadChange line reason) kept back live = as_known back live
+  held_back fault.OldFormat kept back live = as_known back live
   held_back (fault.FileFull needed most) kept back live = as_known back live
   held_back (fault.Damaged key col) kept back live = as_known back live
   held_back fault.Read kept back live = as_known back live

@@ -18,7 +18,7 @@ use Rattle.dg_changes.specs.Batch.{changes_after, names_after}
 use Rattle.dg_changes.specs.ChangeGrammar.{ChangeByText}
 use Rattle.dg_history.specs.declared.form.Form.{Form}
 use Rattle.dg_history.specs.declared.form.Form.TheVariants as form
-use Rattle.dg_history.specs.History.{History, Batch, events_of, names_of, with_batch, span_of, earliest_next, is_form, is_skewed, narrow_batches}
+use Rattle.dg_history.specs.History.{History, Batch, events_of, names_of, with_batch, span_of, earliest_next, is_form, is_skewed, is_wide, narrow_batches}
 use Rattle.dg_history.specs.LegalHistory.{FitsEvent, IsLegal, IsLegalBatch, AreLegalAfter, are_silent}
 use Rattle.dg_index.proofs.UnheardRecords.{silent_append}
 use Rattle.dg_text.specs.Names.{are_new}
@@ -28,9 +28,7 @@ use Rattle.dg_history.proofs.LegalHistories.{all_fit, events_among}
 use Rattle.dg_batch.proofs.LegalHistoryRanges.{BodyFits, ChangeFits, ElementFits, HasKey, WhatFits, body_more, changes_fit, events_fit, events_keys, from_legal, has_key_more, legal_body, lines_grow, replay_fits}
 use Rattle.dg_batch.proofs.NamesAfter.{Grows, changes_length, grown_drop, grown_long, grows_none, new_joined}
 use Rattle.dg_batch.proofs.ChangeGrammarRanges.{SaidFits}
-use Rattle.dg_append.specs.AddedBatches.{sends}
 use Rattle.dg_append.specs.Fronts.{lines}
-use Rattle.dg_append.proofs.CompletedChanges.{events_silent}
 
 -- ---- batches, with more names
 
@@ -77,11 +75,11 @@ form_more form.Two function batches b is = refl
 abbrev silent_in : Form → List Batch → Bool
 silent_in f batches = are_silent (flat_map (λ (x : Batch). x.events) (narrow_batches f batches))
 
-silent_more : (f : Form) (function : Function) (batches : List Batch) (b : Batch) → is_form f function (length batches) ≡ true → are_silent b.events ≡ true → silent_in f batches ≡ true
+silent_more : (f : Form) (function : Function) (batches : List Batch) (b : Batch) → is_form f function (length batches) ≡ true → (is_wide f ≡ false → are_silent b.events ≡ true) → silent_in f batches ≡ true
     → silent_in f (batches ++ b ∷ []) ≡ true
 silent_more form.One function batches b is next silent =
     ap are_silent (flat_map-append (λ (x : Batch). x.events) batches (b ∷ []) ∙ ap (λ (es : List Event). flat_map (λ (x : Batch). x.events) batches ++ es) (append-nil b.events))
-    ∙ silent_append (flat_map (λ (x : Batch). x.events) batches) b.events silent next
+    ∙ silent_append (flat_map (λ (x : Batch). x.events) batches) b.events silent (next refl)
 silent_more (form.Upgraded n) function batches b is next silent =
     ap (λ (l : List Batch). are_silent (flat_map (λ (x : Batch). x.events) l)) (first_stay n batches b (upgraded_within (not (is_skewed function)) n batches is)) ∙ silent
 silent_more form.Two function batches b is next silent = refl
@@ -92,7 +90,8 @@ silent_more form.Two function batches b is next silent = refl
 abbrev pub AskedFit : List (Option ChangeByText) → Type 0
 AskedFit asked = All (λ s. IfSome s SaidFits) asked
 
--- what is asked for comes to these events as the next batch, and the names with its texts are these
+-- What is asked for comes to these events as the next batch, the names with its texts are these, and none of the events
+-- is a message where the history is in the first form.
 pub record IsNext (z : History) (asked : List (Option ChangeByText)) (changes : List Change) (grown : List (List ℕ)) (events : List Event) : Type 0 where
   pub fit : AskedFit asked
   pub changes_are : changes_after (names_of z) asked ≡ lines changes
@@ -102,6 +101,7 @@ pub record IsNext (z : History) (asked : List (Option ChangeByText)) (changes : 
   pub few : length asked ≤ BATCH_LINES_MAX
   pub room : length (events_of z) + length asked ≤ EVENTS_MAX
   pub few_names : length grown ≤ NAMES_MAX
+  pub form : is_wide z.form ≡ false → are_silent events ≡ true
 
 abbrev pub batch_next : History → List (List ℕ) → List Event → Batch
 batch_next z grown events = record { names = drop (length (names_of z)) grown; events = events }
@@ -122,10 +122,6 @@ numbers_of names (Some c) h = h.numbers
 times_of : (names : List (List ℕ)) (c : Option Change) → IfSome c (ChangeFits names) → IfSome c (λ (x : Change). x.time ≤ TIME_MAX)
 times_of names None h = tt
 times_of names (Some c) h = h.time
-
-silences_of : (names : List (List ℕ)) (c : Option Change) → IfSome c (ChangeFits names) → IfSome c (λ (x : Change). sends x.what ≡ false)
-silences_of names None h = tt
-silences_of names (Some c) h = h.silent
 
 keys_of : (names : List (List ℕ)) (c : Option Change) → IfSome c (ChangeFits names) → IfSome c (λ (x : Change). HasKey names x.what)
 keys_of names None h = tt
@@ -165,14 +161,6 @@ next_legal z asked changes grown events legal n =
       keys = events_keys grown earliest set (lines changes) events come (λ k d lt. keys_of grown (get_or (lines changes) k d) (fit k d lt));
     }
 
--- none of its events is a message
-silent_next : (z : History) (asked : List (Option ChangeByText)) (changes : List Change) (grown : List (List ℕ)) (events : List Event) → IsNext z asked changes grown events → are_silent events ≡ true
-silent_next z asked changes grown events n =
-    let earliest : ℕ = earliest_next (span_of (events_of z)) in
-    let set : List Element = replay (events_of z) in
-    let fit : All (λ c. IfSome c (ChangeFits grown)) (lines changes) = fitting_next (names_of z) grown asked changes n.fit n.changes_are n.names_are in
-    events_silent earliest set (lines changes) events (all_come 1 earliest set (lines changes) events n.comes) (λ k d lt. silences_of grown (get_or (lines changes) k d) (fit k d lt))
-
 -- the names and the events with the next batch
 pub names_with : (z : History) (b : Batch) → names_of (with_batch z b) ≡ names_of z ++ b.names
 names_with z b =
@@ -199,7 +187,7 @@ legal_next z asked changes grown events legal n =
       parameters = legal.parameters;
       function = legal.function;
       form = form_more z.form z.params.function z.batches b legal.form;
-      silent = silent_more z.form z.params.function z.batches b legal.form (silent_next z asked changes grown events n) legal.silent;
+      silent = silent_more z.form z.params.function z.batches b legal.form n.form legal.silent;
       batches = subst (λ (ns : List (List ℕ)). AreLegalAfter ns [] (z.batches ++ b ∷ [])) (sym (all ∙ is)) (batches_more (names_of z) g.more [] z.batches b legal.batches batch);
       names = ap (are_new []) (all ∙ is) ∙ new_joined [] (names_of z) g.more legal.names g.right;
       few_names = omega (arith, ap length all, n.few_names);

@@ -25,7 +25,7 @@ use Rattle.dg_graph.specs.Replay.{replay_from}
 use Rattle.dg_graph.proofs.Completions.{AllCome, IsCompletion, completion}
 use Rattle.dg_batch.proofs.NamesAfter.{Grows, Has, grows_none, grows_both, added_grows, added_has, has_more, key_is_name, number_within, text_is}
 use Rattle.dg_batch.proofs.ChangeGrammarRanges.{AskedFits, PlainFits, SaidFits}
-use Rattle.dg_append.specs.AddedBatches.{WhatHasNamesThere, sends}
+use Rattle.dg_append.specs.AddedBatches.{WhatHasNamesThere}
 
 -- Ids of which the fact `I` holds, and numbers of names below n: in a change, in an element and in what
 -- changes.
@@ -213,7 +213,7 @@ asked_grows names (Unsets_node id key) f = added_grows names key (key_is_name ke
 asked_grows names (Sets_edge id key value) f =
     grows_both names (added names key) (added (added names key) value) (added_grows names key (key_is_name key f.1)) (added_grows (added names key) value f.2)
 asked_grows names (Unsets_edge id key) f = added_grows names key (key_is_name key f.1)
-asked_grows names (Sends src dst value) f = absurd f
+asked_grows names (Sends src dst value) f = added_grows names value f.2
 
 pub lines_grow : (names : List (List ℕ)) (lines : List (Option ChangeByText)) → All (λ s. IfSome s SaidFits) lines → Grows names (names_after names lines)
 lines_grow names [] f = grows_none names
@@ -223,12 +223,11 @@ lines_grow names (Some s ∷ lines) f =
     (asked_grows names s.asked (All-head (λ s. IfSome s SaidFits) (Some s) lines f).1)
     (lines_grow (named names s.asked) lines (All-tail (λ s. IfSome s SaidFits) (Some s) lines f))
 
--- the ids, the numbers of names and the key of a change are in their ranges, in this list of names, and it sends no message
+-- the ids, the numbers of names and the key of a change are in their ranges, in this list of names
 pub record ChangeFits (names : List (List ℕ)) (c : Change) : Type 0 where
   pub time : c.time ≤ TIME_MAX
   pub numbers : WhatFits (λ n. n < 2 ^ 64) (length names) c.what
   pub key : HasKey names c.what
-  pub silent : sends c.what ≡ false
 
 plain_fits : (n : ℕ) (w : What) → PlainFits w → WhatFits (λ n. n < 2 ^ 64) n w
 plain_fits n (what.AddNode id) f = f
@@ -252,17 +251,6 @@ plain_key names (what.SetEdge id key value) f = absurd f
 plain_key names (what.UnsetEdge id key) f = absurd f
 plain_key names (what.Message src dst value) f = absurd f
 
-plain_silent : (w : What) → PlainFits w → sends w ≡ false
-plain_silent (what.AddNode id) f = refl
-plain_silent (what.RemoveNode id) f = refl
-plain_silent (what.AddEdge id src dst directed) f = refl
-plain_silent (what.RemoveEdge id) f = refl
-plain_silent (what.SetNode id key value) f = absurd f
-plain_silent (what.UnsetNode id key) f = absurd f
-plain_silent (what.SetEdge id key value) f = absurd f
-plain_silent (what.UnsetEdge id key) f = absurd f
-plain_silent (what.Message src dst value) f = absurd f
-
 -- the key and the value that were added
 key_there : (names : List (List ℕ)) (key value : List ℕ) → is_name value ≡ true → Has (added (added names key) value) key
 key_there names key value f = has_more (added names key) (added (added names key) value) key (added_grows (added names key) value f) (added_has names key)
@@ -278,7 +266,7 @@ asked_numbers names new (Sets_edge id key value) f g =
     let all = added (added names key) value in
     (f.0, number_within all new key g (key_there names key value f.2), number_within all new value g (added_has (added names key) value))
 asked_numbers names new (Unsets_edge id key) f g = (f.0, number_within (added names key) new key g (added_has names key))
-asked_numbers names new (Sends src dst value) f g = absurd f
+asked_numbers names new (Sends src dst value) f g = (f.0, f.1, number_within (added names value) new value g (added_has names value))
 
 asked_key : (names new : List (List ℕ)) (asked : WhatByText) → AskedFits asked → Grows (named names asked) new → HasKey new (what_in (named names asked) asked)
 asked_key names new (Plain w) f g = plain_key new w f
@@ -288,15 +276,7 @@ asked_key names new (Unsets_node id key) f g = ap is_key (text_is (added names k
 asked_key names new (Sets_edge id key value) f g =
     ap is_key (text_is (added (added names key) value) new key g (key_there names key value f.2)) ∙ f.1
 asked_key names new (Unsets_edge id key) f g = ap is_key (text_is (added names key) new key g (added_has names key)) ∙ f.1
-asked_key names new (Sends src dst value) f g = absurd f
-
-asked_silent : (names : List (List ℕ)) (asked : WhatByText) → AskedFits asked → sends (what_in names asked) ≡ false
-asked_silent names (Plain w) f = plain_silent w f
-asked_silent names (Sets_node id key value) f = refl
-asked_silent names (Unsets_node id key) f = refl
-asked_silent names (Sets_edge id key value) f = refl
-asked_silent names (Unsets_edge id key) f = refl
-asked_silent names (Sends src dst value) f = absurd f
+asked_key names new (Sends src dst value) f g = tt
 
 pub changes_fit : (names new : List (List ℕ)) (lines : List (Option ChangeByText)) → All (λ s. IfSome s SaidFits) lines → Grows (names_after names lines) new
     → All (λ c. IfSome c (ChangeFits new)) (changes_after names lines)
@@ -309,7 +289,7 @@ changes_fit names new (Some s ∷ lines) f g =
     let grown : Grows (named names s.asked) new =
     grows_both (named names s.asked) (names_after (named names s.asked) lines) new (lines_grow (named names s.asked) lines more) g in
     All-cons (λ c. IfSome c (ChangeFits new)) (Some (change_with names s)) (changes_after (named names s.asked) lines)
-    (record { time = said.0; numbers = asked_numbers names new s.asked said.1 grown; key = asked_key names new s.asked said.1 grown; silent = asked_silent (named names s.asked) s.asked said.1 })
+    (record { time = said.0; numbers = asked_numbers names new s.asked said.1 grown; key = asked_key names new s.asked said.1 grown })
     (changes_fit (named names s.asked) new lines more g)
 
 -- ---- the ranges that are asked for elsewhere

@@ -18,6 +18,7 @@ creation_halt create_fault.Disk = halt.Stop stop.Store
 
 abbrev pub batch_halt : BatchFault → Halt
 batch_halt (batch_fault.BadChange line reason) = halt.Refusal (refusal.BadChange line reason)
+batch_halt batch_fault.OldFormat = halt.Refusal refusal.OldFormat
 batch_halt (batch_fault.FileFull needed limit) = halt.Refusal (refusal.FileFull needed limit)
 batch_halt (batch_fault.Damaged key column) = halt.Refusal (refusal.Damaged key column)
 batch_halt batch_fault.Read = halt.Refusal refusal.StoreRead

@@ -65,6 +65,7 @@ impl From<BatchFault> for Halt {
             BatchFault::BadChange(line, reason) => {
                 Halt::Refusal(Refusal::BadChange(line, reason))
             }
+            BatchFault::OldFormat => Halt::Refusal(Refusal::OldFormat),
             BatchFault::FileFull(needed, limit) => Halt::Refusal(Refusal::FileFull(needed, limit)),
             BatchFault::Damaged(key, column) => Halt::Refusal(Refusal::Damaged(key, column)),
             BatchFault::Read => Halt::Refusal(Refusal::StoreRead),

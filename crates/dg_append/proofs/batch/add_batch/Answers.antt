@@ -2,8 +2,8 @@ use Rattle.std.proofs.Common.{inl, ◌≡◌, ◌+◌, ◌∙◌, List, Option, 
 use Rattle.std.specs.Prelude.{IfSome}
 use Rattle.std.specs.Box.{with_value}
 use Rattle.dg_append.proofs.AddedBatchOutcomes.{WentOn, added_is, added_leaves, adds, live_after, next_is, not_added, not_added_leaves, nothing_read, ready_here, takes_kept, takes_stopped, total_kept}
-use Rattle.dg_append.proofs.BatchCrashes.{cause_prepare, reads_leave}
-use Rattle.dg_append.proofs.FrontEvents.{IsPrepared, here, is_prepared}
+use Rattle.dg_append.proofs.BatchCrashes.{cause_refused, reads_leave}
+use Rattle.dg_append.proofs.FrontEvents.{IsPrepared, here, prepared}
 use Rattle.dg_append.proofs.batch.add_batch.Goals as goal
 use Rattle.dg_append.specs.AddedBatches.{AddsBatch, AddsBatchOrNot, AddsBehindOrNot, IsReady}
 use Rattle.dg_append.specs.declared.batch.AddedBatch.{AddedBatch}
@@ -29,9 +29,9 @@ keep_batch-requires-clause-next g c =
     let h : StoredHistory = l.history in
     let is : index_opening h.index ≡ Some o = ap index_opening c.in-Some.is in
     let ready : IsReady o b h = ready_here b l o c.requires.may is in
-    let events : List Event = c.prepare.new.now.pending in
+    let events : List Event = c.complete.new.now.pending in
     let p : IsPrepared o b h events =
-    is_prepared o b h events c.last_of-last.result c.facts.ensures.parameters ready c.facts-2.ensures c.in_default-prepare.ensures.whole c.last_of-last.ensures.last c.in_default-prepare.ensures.done in
+    prepared o b h events c.facts.ensures.parameters ready c.facts-2.ensures c.in_default-complete.ensures.whole c.in_default-complete.ensures.done c.in_default-complete.ensures.form in
     let graph_is : graph_now c.deref_mut.result.now ≡ h.now.graph = ap graph_now c.deref_mut.ensures.value ∙ c.requires.may.pool in
     next_is o b h (graph_now c.deref_mut.result.now) events _ graph_is
     (record { known_is = refl; names_are = refl; recent_is = c.deref.ensures.value; events_are = c.pending-events.ensures })
@@ -45,16 +45,16 @@ returns-in-Ok-clause-adds g c =
     let h : StoredHistory = l.history in
     let is : index_opening h.index ≡ Some o = ap index_opening c.in-Some.is in
     let ready : IsReady o b h = ready_here b l o c.requires.may is in
-    let events : List Event = c.prepare.new.now.pending in
+    let events : List Event = c.complete.new.now.pending in
     let p : IsPrepared o b h events =
-    is_prepared o b h events c.last_of-last.result c.facts.ensures.parameters ready c.facts-2.ensures c.in_default-prepare.ensures.whole c.last_of-last.ensures.last c.in_default-prepare.ensures.done in
+    prepared o b h events c.facts.ensures.parameters ready c.facts-2.ensures c.in_default-complete.ensures.whole c.in_default-complete.ensures.done c.in_default-complete.ensures.form in
     let graph_is : graph_now c.deref_mut.result.now ≡ h.now.graph = ap graph_now c.deref_mut.ensures.value ∙ c.requires.may.pool in
     let new : Live = record {
       history = record { index = Some c.keep_batch.new.index; names = h.names; now = c.commit.new.self; recent = c.in-Ok.left };
       pool = with_value l.pool c.keep_batch.new.pool;
     } in
     let went : WentOn l new c.keep_batch.new.index.opening events c.in-Ok.left.items =
-    record { index = refl; names_are = refl; graph_is = c.commit.ensures.graph ∙ ap (λ (set : List Element). replay_from set events) c.prepare.ensures.same_graph; pending = c.commit.ensures.none; recent_are = refl } in
+    record { index = refl; names_are = refl; graph_is = c.commit.ensures.graph ∙ ap (λ (set : List Element). replay_from set events) c.complete.ensures.same_graph; pending = c.commit.ensures.none; recent_are = refl } in
     let total : c.events_len.result ≡ event_total o.batches + length events =
     c.events_len.ensures.events
     ∙ total_kept g.D.Disk o c.keep_batch.new.index.opening c.args.limit b l new c.args.disk.now c.keep_batch.new.disk events c.in-Ok.left.items _ c.deref_mut.result.now c.deref_mut.ensures.value graph_is
@@ -75,16 +75,16 @@ returns-in-Ok-clause-live g c =
     let h : StoredHistory = l.history in
     let is : index_opening h.index ≡ Some o = ap index_opening c.in-Some.is in
     let ready : IsReady o b h = ready_here b l o c.requires.may is in
-    let events : List Event = c.prepare.new.now.pending in
+    let events : List Event = c.complete.new.now.pending in
     let p : IsPrepared o b h events =
-    is_prepared o b h events c.last_of-last.result c.facts.ensures.parameters ready c.facts-2.ensures c.in_default-prepare.ensures.whole c.last_of-last.ensures.last c.in_default-prepare.ensures.done in
+    prepared o b h events c.facts.ensures.parameters ready c.facts-2.ensures c.in_default-complete.ensures.whole c.in_default-complete.ensures.done c.in_default-complete.ensures.form in
     let graph_is : graph_now c.deref_mut.result.now ≡ h.now.graph = ap graph_now c.deref_mut.ensures.value ∙ c.requires.may.pool in
     let new : Live = record {
       history = record { index = Some c.keep_batch.new.index; names = h.names; now = c.commit.new.self; recent = c.in-Ok.left };
       pool = with_value l.pool c.keep_batch.new.pool;
     } in
     let went : WentOn l new c.keep_batch.new.index.opening events c.in-Ok.left.items =
-    record { index = refl; names_are = refl; graph_is = c.commit.ensures.graph ∙ ap (λ (set : List Element). replay_from set events) c.prepare.ensures.same_graph; pending = c.commit.ensures.none; recent_are = refl } in
+    record { index = refl; names_are = refl; graph_is = c.commit.ensures.graph ∙ ap (λ (set : List Element). replay_from set events) c.complete.ensures.same_graph; pending = c.commit.ensures.none; recent_are = refl } in
     live_after g.D.Disk o c.keep_batch.new.index.opening c.args.limit b l new c.args.disk.now c.keep_batch.new.disk events c.in-Ok.left.items _ c.deref_mut.result.now c.deref_mut.ensures.value graph_is
     (record { known_is = refl; names_are = refl; recent_is = c.deref.ensures.value; events_are = c.pending-events.ensures }) p c.in-Ok.ensures.kept c.in-Ok.ensures.passed went ready
 
@@ -96,9 +96,9 @@ returns-in-Ok-clause-reads g c =
     let h : StoredHistory = l.history in
     let is : index_opening h.index ≡ Some o = ap index_opening c.in-Some.is in
     let ready : IsReady o b h = ready_here b l o c.requires.may is in
-    let events : List Event = c.prepare.new.now.pending in
+    let events : List Event = c.complete.new.now.pending in
     let p : IsPrepared o b h events =
-    is_prepared o b h events c.last_of-last.result c.facts.ensures.parameters ready c.facts-2.ensures c.in_default-prepare.ensures.whole c.last_of-last.ensures.last c.in_default-prepare.ensures.done in
+    prepared o b h events c.facts.ensures.parameters ready c.facts-2.ensures c.in_default-complete.ensures.whole c.in_default-complete.ensures.done c.in_default-complete.ensures.form in
     let graph_is : graph_now c.deref_mut.result.now ≡ h.now.graph = ap graph_now c.deref_mut.ensures.value ∙ c.requires.may.pool in
     here (index_opening h.index) o _ is
     (record {
@@ -118,9 +118,9 @@ returns-in-Err-keep_batch-clause-fails g c =
     let h : StoredHistory = l.history in
     let is : index_opening h.index ≡ Some o = ap index_opening c.in-Some.is in
     let ready : IsReady o b h = ready_here b l o c.requires.may is in
-    let events : List Event = c.prepare.new.now.pending in
+    let events : List Event = c.complete.new.now.pending in
     let p : IsPrepared o b h events =
-    is_prepared o b h events c.last_of-last.result c.facts.ensures.parameters ready c.facts-2.ensures c.in_default-prepare.ensures.whole c.last_of-last.ensures.last c.in_default-prepare.ensures.done in
+    prepared o b h events c.facts.ensures.parameters ready c.facts-2.ensures c.in_default-complete.ensures.whole c.in_default-complete.ensures.done c.in_default-complete.ensures.form in
     let graph_is : graph_now c.deref_mut.result.now ≡ h.now.graph = ap graph_now c.deref_mut.ensures.value ∙ c.requires.may.pool in
     here (index_opening h.index) o _ is
     (not_added o b h (graph_now c.deref_mut.result.now) events _ graph_is
@@ -135,9 +135,9 @@ returns-in-Err-keep_batch-clause-reads g c =
     let h : StoredHistory = l.history in
     let is : index_opening h.index ≡ Some o = ap index_opening c.in-Some.is in
     let ready : IsReady o b h = ready_here b l o c.requires.may is in
-    let events : List Event = c.prepare.new.now.pending in
+    let events : List Event = c.complete.new.now.pending in
     let p : IsPrepared o b h events =
-    is_prepared o b h events c.last_of-last.result c.facts.ensures.parameters ready c.facts-2.ensures c.in_default-prepare.ensures.whole c.last_of-last.ensures.last c.in_default-prepare.ensures.done in
+    prepared o b h events c.facts.ensures.parameters ready c.facts-2.ensures c.in_default-complete.ensures.whole c.in_default-complete.ensures.done c.in_default-complete.ensures.form in
     let graph_is : graph_now c.deref_mut.result.now ≡ h.now.graph = ap graph_now c.deref_mut.ensures.value ∙ c.requires.may.pool in
     here (index_opening h.index) o _ is
     (record {
@@ -159,7 +159,7 @@ returns-in-Err-clause-disk g c =
     let is : index_opening h.index ≡ Some o = ap index_opening c.in-Some.is in
     reads_leave g.D.Disk c.args.disk.now c.args.disk.now g.met.D.Disk.only_now reads_none (IsHeldBy (index_opening h.index) (take b.known h.names)) (AddsBatchOrNot b h)
     (λ before held. here (index_opening h.index) o (λ o. AddsBehindOrNot o b h before before) is (λ z over. inl over.stands))
-    c.requires.image c.from-fault.result (subst (λ (f : BatchFault). HasCause g.D.Disk f c.args.disk.now c.args.disk.now) (sym c.from-fault.ensures) (cause_prepare g.D.Disk c.args.disk.now c.in-Err.refused))
+    c.requires.image c.in-Err.fault (cause_refused g.D.Disk c.args.disk.now o h.now.graph b c.in-Err.fault c.in-Err.ensures.refused)
 
 pub returns-in-Ok-clause-disk : goal.returns-in-Ok-clause-disk
 returns-in-Ok-clause-disk g c =
@@ -169,9 +169,9 @@ returns-in-Ok-clause-disk g c =
     let h : StoredHistory = l.history in
     let is : index_opening h.index ≡ Some o = ap index_opening c.in-Some.is in
     let ready : IsReady o b h = ready_here b l o c.requires.may is in
-    let events : List Event = c.prepare.new.now.pending in
+    let events : List Event = c.complete.new.now.pending in
     let p : IsPrepared o b h events =
-    is_prepared o b h events c.last_of-last.result c.facts.ensures.parameters ready c.facts-2.ensures c.in_default-prepare.ensures.whole c.last_of-last.ensures.last c.in_default-prepare.ensures.done in
+    prepared o b h events c.facts.ensures.parameters ready c.facts-2.ensures c.in_default-complete.ensures.whole c.in_default-complete.ensures.done c.in_default-complete.ensures.form in
     let graph_is : graph_now c.deref_mut.result.now ≡ h.now.graph = ap graph_now c.deref_mut.ensures.value ∙ c.requires.may.pool in
     added_leaves o b h (graph_now c.deref_mut.result.now) events _ graph_is
     (record { known_is = refl; names_are = refl; recent_is = c.deref.ensures.value; events_are = c.pending-events.ensures })
@@ -185,9 +185,9 @@ returns-in-Err-keep_batch-clause-disk g c =
     let h : StoredHistory = l.history in
     let is : index_opening h.index ≡ Some o = ap index_opening c.in-Some.is in
     let ready : IsReady o b h = ready_here b l o c.requires.may is in
-    let events : List Event = c.prepare.new.now.pending in
+    let events : List Event = c.complete.new.now.pending in
     let p : IsPrepared o b h events =
-    is_prepared o b h events c.last_of-last.result c.facts.ensures.parameters ready c.facts-2.ensures c.in_default-prepare.ensures.whole c.last_of-last.ensures.last c.in_default-prepare.ensures.done in
+    prepared o b h events c.facts.ensures.parameters ready c.facts-2.ensures c.in_default-complete.ensures.whole c.in_default-complete.ensures.done c.in_default-complete.ensures.form in
     let graph_is : graph_now c.deref_mut.result.now ≡ h.now.graph = ap graph_now c.deref_mut.ensures.value ∙ c.requires.may.pool in
     not_added_leaves o b h (graph_now c.deref_mut.result.now) events _ graph_is
     (record { known_is = refl; names_are = refl; recent_is = c.deref.ensures.value; events_are = c.pending-events.ensures })

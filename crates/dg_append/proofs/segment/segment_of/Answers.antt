@@ -63,7 +63,7 @@ returns-in-Ok-clause-is c past is =
     is.changes
     (past_steps o p n c.params-params.ensures c.events_len-before.ensures.events past c.args.next.now.recent.now (graph_now c.args.pool.now) c.args.next.now.events.now c.args.older.now is)
     parts.0 parts.1 parts.2
-    ∙ written_whole c.is_wide.result (segment_of p past b) (λ narrow. segment_unheard p past b (is.silent (sym c.is_wide.ensures ∙ narrow)))
+    ∙ written_whole c.is_wide.result (segment_of p past b) (λ narrow. segment_unheard p past b (is.form (sym c.is_wide.ensures ∙ narrow)))
     ∙ (λ i. segment_of (c.params-params.ensures i) past (record { names = parts.3 i; events = c.args.next.now.events.now }))
 
 pub returns-clause-never : goal.returns-clause-never
