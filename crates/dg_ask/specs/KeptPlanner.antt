@@ -1,6 +1,7 @@
 -- The planners that a session keeps between commands.
 use Rattle.std.specs.Prelude.{◌≡◌, ℕ, List, Option, Some, None}
 use Rattle.std.specs.List.{All, Contains}
+use Rattle.dg_fold.specs.Parts.{graph_columns}
 use Rattle.dg_graph.specs.declared.element.Columns.{Columns}
 use Rattle.dg_index.specs.OpenedIndex.{Opening, event_total}
 use Rattle.dg_machine.specs.declared.stands.Stands.{Stands}
@@ -22,6 +23,10 @@ IsGraphOver (Some o) table k = IsGraphFor o table k.0 k.1
 abbrev pub IsKeptFor : Option Opening → List (ℕ × Stands) → List (Columns × PlannerGraph) → Type 0
 IsKeptFor index table kept = All (IsGraphOver index table) kept
 
--- a graph in these columns is kept
+-- a graph in these columns is kept, messages left aside: no plan reads these
 abbrev pub KeepsColumns : Columns → List (Columns × PlannerGraph) → Type 0
-KeepsColumns cols kept = (g : PlannerGraph) × Contains kept (cols, g)
+KeepsColumns cols kept = (g : PlannerGraph) × Contains kept (graph_columns cols, g)
+
+-- this graph is that in these columns, of whatever index and handles those are that are kept
+abbrev pub IsKeptIn : Columns → List (Columns × PlannerGraph) → PlannerGraph → Type 0
+IsKeptIn cols kept g = (o : Opening) (table : List (ℕ × Stands)) → IsKeptFor (Some o) table kept → IsGraphFor o table cols g

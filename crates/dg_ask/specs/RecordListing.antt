@@ -1,5 +1,5 @@
 -- The lines of the records that an index holds.
-use Rattle.std.specs.Prelude.{ℕ, ◌*◌, ◌/◌, ◌^◌, List, [], ◌∷◌, Option, Some, None, length, map, slice_index}
+use Rattle.std.specs.Prelude.{ℕ, ◌*◌, ◌/◌, ◌^◌, List, [], ◌∷◌, Option, Some, None, length, map}
 use Rattle.std.specs.Map.{lookup}
 use Rattle.dg_history.specs.declared.node.Key.{Key}
 use Rattle.dg_history.specs.declared.node.Key.TheVariants as key
@@ -13,10 +13,10 @@ use Rattle.dg_machine.specs.declared.reply.BodyLine.TheVariants as line
 use Rattle.dg_machine.specs.declared.reply.Head.TheVariants as head
 use Rattle.dg_machine.specs.declared.reply.Reply.{Reply}
 
--- the bytes of the three columns of a record, and none where the key is not held
+-- the bytes of the four columns of a record, and none where the key is not held
 abbrev pub lengths_held : Option Entry → List ℕ
-lengths_held None = 0 ∷ 0 ∷ 0 ∷ []
-lengths_held (Some e) = slice_index e.lengths 0 ∷ slice_index e.lengths 1 ∷ slice_index e.lengths 2 ∷ []
+lengths_held None = 0 ∷ 0 ∷ 0 ∷ 0 ∷ []
+lengths_held (Some e) = e.lengths
 
 -- the line of a record
 abbrev pub held_line : List (Key × Entry) → Key → BodyLine

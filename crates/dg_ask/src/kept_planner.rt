@@ -4,7 +4,9 @@
 ghost use Rattle.std.specs.Prelude.{◌≡◌, ◌≢◌, true, false, [], IfNone, IfSome, OnErr, OnOk, Some};
 ghost use Rattle.std.specs.List.{Contains};
 ghost use Rattle.dg_ask.specs.HeldIndex.{HasNodes};
-ghost use Rattle.dg_ask.specs.KeptPlanner.{IsKeptFor, KeepsColumns};
+ghost use Rattle.dg_ask.specs.KeptPlanner.{IsKeptFor, IsKeptIn, KeepsColumns};
+ghost use Rattle.dg_fold.specs.Parts.{graph_columns};
+ghost use Rattle.dg_planner.specs.Whole.{PlannerGraph};
 
 use crate::plans::planner_of;
 use dg_file::Index;
@@ -13,6 +15,16 @@ use dg_handles::Handles;
 use dg_planner::Planner;
 use std::alloc::{AllocError, Global};
 use std::marker::Model;
+
+// Of the columns those that a plan reads: the messages are left out.
+fn graph_columns(cols: Columns) -> Columns
+    ensures { result ≡ graph_columns cols }
+{
+    Columns {
+        transient: false,
+        ..cols
+    }
+}
 
 // Whether the two are the same columns.
 fn are_same(left: Columns, right: Columns) -> bool
@@ -39,10 +51,10 @@ impl Model for ColumnsPlanner {
 }
 
 /// A planner for each set of columns that was asked for, while neither the index nor a handle that holds a node has
-/// changed.
+/// changed. No plan reads messages: the planner of columns is that of these without messages.
 #[derive(Drop)]
 pub struct KeptPlanner {
-    // One for each set of columns, of which there are four, so they are searched in a row.
+    // One for each set of columns without messages, of which there are four, so they are searched in a row.
     kept: Vec<ColumnsPlanner>,
 }
 
@@ -88,6 +100,7 @@ impl KeptPlanner {
         ensures columns { OnOk result (KeepsColumns cols self.new) }
         ensures err { OnErr result (self.new ≡ self.old) }
     {
+        let cols = graph_columns(cols);
         if self.find(cols).is_some() {
             return Ok(());
         }
@@ -96,10 +109,10 @@ impl KeptPlanner {
         Ok(())
     }
 
-    // The planner in these columns, where it is kept.
+    // The planner that is kept with exactly these columns.
     fn find(&self, cols: Columns) -> Option<&Planner>
         ensures some { IfSome result (λ planner. Contains self.now (cols, planner.now)) }
-        ensures none { IfNone result (KeepsColumns cols self.now → ⊥) }
+        ensures none { IfNone result ((g : PlannerGraph) → Contains self.now (cols, g) → ⊥) }
     {
         for kept in &self.kept {
             if are_same(kept.cols, cols) {
@@ -112,9 +125,9 @@ impl KeptPlanner {
     /// The planner in these columns, which is kept.
     pub fn planner(&self, cols: Columns) -> &Planner
         requires columns { KeepsColumns cols self.now }
-        ensures planner { Contains self.now (cols, result.now) }
+        ensures planner { IsKeptIn cols self.now result.now }
     {
-        match self.find(cols) {
+        match self.find(graph_columns(cols)) {
             Some(planner) => planner,
             None => unreachable!(),
         }

@@ -21,14 +21,11 @@ use std::alloc::{AllocError, Global};
 fn record_line(catalogue: &Catalogue, key: Key) -> BodyLine
     ensures { result ≡ held_line catalogue.now.entries key }
 {
-    let [structure, nodes_attr, edges_attr, _] = match catalogue.entry(key) {
+    let lengths = match catalogue.entry(key) {
         Some(entry) => entry.lengths,
         None => [0; 4],
     };
-    BodyLine::Sizes {
-        key,
-        lengths: [structure, nodes_attr, edges_attr],
-    }
+    BodyLine::Sizes { key, lengths }
 }
 
 // Adds the lines of the lists.
@@ -119,7 +116,7 @@ fn add_downs(
 }
 
 // A line for each list, top and down of an index of this shape, in key order, with the bytes of its
-// three columns. Where the catalogue does not hold one of them, its line has no byte.
+// four columns. Where the catalogue does not hold one of them, its line has no byte.
 fn record_lines(
     alloc: Global,
     shape: Shape,

@@ -20,4 +20,4 @@ returns-clause-none c =
     let whole : c.args.self.now ≡ seen =
     sym c.self.view_is ∙ sym c.deref-kept-items.ensures.value ∙ sym (take_all c.loop-kept.kept-index c.deref-kept-items.result.now c.loop-kept-test.false) in
     let none : All Other c.args.self.now = All-same Other c.args.self.now seen whole c.loop-kept.invariant in
-    λ keeps. All-contains Other c.args.self.now (c.args.cols, keeps.0) none keeps.1 refl
+    λ g keeps. All-contains Other c.args.self.now (c.args.cols, g) none keeps refl

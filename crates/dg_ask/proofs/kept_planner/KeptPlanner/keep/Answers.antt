@@ -15,12 +15,15 @@ returns-clause-kept c =
     let Over = IsGraphOver (Some c.args.index.now.opening) c.args.handles.now.table in
     let old = c.self.inside.kept.items in
     let planner = c.in_ok-planner.planner in
-    All-same Over c.push.new.self.items (old ++ (c.args.cols, planner) ∷ []) c.in_ok-push.ensures.items
-    (All-push Over old (c.args.cols, planner) (All-same Over old c.args.self.now c.self.view_is c.requires.kept) c.in_ok-planner.ensures.graph)
+    let cols = c.graph_columns-cols.result in
+    All-same Over c.push.new.self.items (old ++ (cols, planner) ∷ []) c.in_ok-push.ensures.items
+    (All-push Over old (cols, planner) (All-same Over old c.args.self.now c.self.view_is c.requires.kept) c.in_ok-planner.ensures.graph)
 
 pub returns-clause-columns : goal.returns-clause-columns
 returns-clause-columns c =
-    let planner = c.in_ok-planner.planner in (
+    let planner = c.in_ok-planner.planner in
+    let cols = c.graph_columns-cols.result in (
       planner,
-      subst (λ kept. Contains kept (c.args.cols, planner)) (sym c.in_ok-push.ensures.items) (Contains-push c.self.inside.kept.items (c.args.cols, planner)),
+      subst (λ asked. Contains c.push.new.self.items (asked, planner)) c.graph_columns-cols.ensures
+          (subst (λ kept. Contains kept (cols, planner)) (sym c.in_ok-push.ensures.items) (Contains-push c.self.inside.kept.items (cols, planner))),
     )
