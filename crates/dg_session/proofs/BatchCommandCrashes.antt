@@ -1,7 +1,7 @@
 -- What a crash may leave while a batch is added, as the machine goes.
 use Rattle.std.proofs.Common.{◌≡◌, ◌⊎◌, inl, inr, ℕ, ◌+◌, ◌≤◌, true, List, Option, Some, None, Result, Ok, Err, length, refl, sym, ◌∙◌, ap, subst}
 use Rattle.std.specs.Prelude.{IfSome}
-use Rattle.dg_append.specs.AddedBatches.{AddsBatch, AddsBatchOrNot, AddsBehindOrNot, BreaksBatch, ComesToSegment, FailsBatch, batch_with}
+use Rattle.dg_append.specs.AddedBatches.{AddsBatch, AddsBatchOrNot, AddsBehindOrNot, BreaksBatch, ComesToSegment, FailsBatch, TakesForm, batch_with}
 use Rattle.dg_append.specs.declared.batch.AddedBatch.{AddedBatch}
 use Rattle.dg_append.specs.declared.batch.Batch.{Batch}
 use Rattle.dg_append.specs.declared.fault.BatchFault.{BatchFault}
@@ -70,11 +70,11 @@ module _ (from : Origin) (got : List ScriptLine) (p : Parts) (count limit : ℕ)
         is = is_added from got p count limit l b asked told events segment comes fits image at m z s h
 
         by : IsImageOf z left
-            ⊎ ((x : List Event) × (b.front ≡ Whole) × ComeTo index l.history.now.graph b (Ok x)
+            ⊎ ((x : List Event) × (b.front ≡ Whole) × ComeTo index l.history.now.graph b (Ok x) × TakesForm index x
             × (IsLegal (with_batch z (batch_with b.known l.history.names x)) → IsImageOf z left ⊎ IsImageOf (with_batch z (batch_with b.known l.history.names x)) left))
             → IsImageOf z left ⊎ IsImageOf (more_of z) left
         by (inl same) = inl same
-        by (inr (x, whole, come, left_so)) =
+        by (inr (x, whole, come, form, left_so)) =
             subst (λ (y : List Event). IsLegal (with_batch z (batch_with b.known l.history.names y)) → IsImageOf z left ⊎ IsImageOf (with_batch z (batch_with b.known l.history.names y)) left)
             (one_batch image m z h x events come comes.come) left_so is.legal
 
@@ -140,6 +140,7 @@ module _ (from : Origin) (got : List ScriptLine) (p : Parts) (count limit : ℕ)
         → ((f ≡ fault.Store → ⊥) → ReadsDisk g before after) → LeftByCrash g before after (AddsBatchOrNot b l.history)
         → LeftByCrash g before after (LeavesCommand (adding from count) got p (Err (batch_halt f)))
     failed_left only (fault.BadChange line reason) fails unwritten run = reads_leave g only before after (unwritten (λ e. cc)) (λ a left. left ≡ a) (λ a. refl)
+    failed_left only fault.OldFormat fails unwritten run = reads_leave g only before after (unwritten (λ e. cc)) (λ a left. left ≡ a) (λ a. refl)
     failed_left only (fault.FileFull needed most) fails unwritten run = reads_leave g only before after (unwritten (λ e. cc)) (λ a left. left ≡ a) (λ a. refl)
     failed_left only (fault.Damaged key col) fails unwritten run = reads_leave g only before after (unwritten (λ e. cc)) (λ a left. left ≡ a) (λ a. refl)
     failed_left only fault.Read fails unwritten run = reads_leave g only before after (unwritten (λ e. cc)) (λ a left. left ≡ a) (λ a. refl)

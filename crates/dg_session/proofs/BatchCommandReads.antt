@@ -104,6 +104,7 @@ unread_reads from count p image (halt.Stop stop.Store) taken = stopped_reads fro
 pub failed_reads : (from : Origin) (count : ℕ) (p : Parts) (image : Option (List ℕ)) (f : BatchFault) (before after : ℕ) → ReadsNoMore p image count before after → ReadsNothing f before after
     → ReadsIn (adding from count) p image (Err (batch_halt f)) before after
 failed_reads from count p image (fault.BadChange line reason) before after older none = batch_reads from count p image _ before after older (λ e. none)
+failed_reads from count p image fault.OldFormat before after older none = batch_reads from count p image _ before after older (λ e. none)
 failed_reads from count p image (fault.FileFull n most) before after older none = batch_reads from count p image _ before after older (λ e. absurd (false≢true e))
 failed_reads from count p image (fault.Damaged key col) before after older none = batch_reads from count p image _ before after older (λ e. absurd (false≢true e))
 failed_reads from count p image fault.Read before after older none = batch_reads from count p image _ before after older (λ e. absurd (false≢true e))
@@ -145,6 +146,7 @@ unread_is_no_read which count p names grown taken cut bar (halt.Stop s) bar_is b
 -- the refusal of a failed read comes from a failed read
 pub read_fault : (f : BatchFault) → batch_halt f ≡ halt.Refusal refusal.StoreRead → f ≡ fault.Read
 read_fault (fault.BadChange line reason) e = absurd cc
+read_fault fault.OldFormat e = absurd cc
 read_fault (fault.FileFull n most) e = absurd cc
 read_fault (fault.Damaged key col) e = absurd cc
 read_fault fault.Read e = refl
@@ -226,6 +228,7 @@ module _ (from : Origin) (got : List ScriptLine) (p : Parts) (count limit : ℕ)
       names_it from count p told key col
       (meets told key col (of_here (index_opening c.index) o (λ o. FailsBatch o limit b c told after (fault.Damaged key col)) here fails).1)
   failed_damage told after (fault.BadChange line reason) fails = tt
+  failed_damage told after fault.OldFormat fails = tt
   failed_damage told after (fault.FileFull n most) fails = tt
   failed_damage told after fault.Read fails = tt
   failed_damage told after fault.Memory fails = tt

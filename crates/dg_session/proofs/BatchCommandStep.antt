@@ -6,7 +6,7 @@ use Rattle.std.proofs.lemmas.Bool.{false≢true, not-false}
 use Rattle.std.proofs.lemmas.List.{length-map, take-append-drop}
 use Rattle.std.proofs.Math.ListN.{get_or-map}
 use borrow.Author.Tests.{le-leb, lt-ltb, le-ltb, ltb-false}
-use Rattle.dg_append.specs.AddedBatches.{AddsBatch, BreaksBatch, ComesToSegment, FailsBatch, FailsToRead, FillsFile, IsAsKnown, IsBack, IsOverHistory, IsReady, MayAdd, batch_with, recent_behind}
+use Rattle.dg_append.specs.AddedBatches.{AddsBatch, BreaksBatch, ComesToSegment, FailsBatch, FailsToRead, FillsFile, IsAsKnown, IsBack, IsOldFormat, IsOverHistory, IsReady, MayAdd, TakesForm, batch_with, recent_behind}
 use Rattle.dg_append.specs.Fronts.{ComeTo, IsFront, lines}
 use Rattle.dg_append.specs.declared.batch.AddedBatch.{AddedBatch}
 use Rattle.dg_append.specs.declared.batch.Batch.{Batch}
@@ -39,9 +39,10 @@ use Rattle.dg_index.proofs.OpenedIndexGrowth.{measured, opened_more}
 use Rattle.dg_index.proofs.OpenedIndexHistories.{large_parameters}
 use Rattle.dg_index.proofs.HierarchyStability.{leaves_more, recent_more}
 use Rattle.dg_index.proofs.OpenedLegalHistories.{behind}
-use Rattle.dg_history.specs.History.{History, Batch as HistoryBatch, earliest_next, events_of, last_time_from, names_of, span_of, with_batch}
+use Rattle.dg_history.specs.History.{History, Batch as HistoryBatch, earliest_next, events_of, is_wide, last_time_from, names_of, span_of, with_batch}
 use Rattle.dg_index.specs.ImageOfHistory.{IsImageOf, StandsAs}
-use Rattle.dg_history.specs.LegalHistory.{IsLegal}
+use Rattle.dg_history.specs.declared.form.Form.{Form}
+use Rattle.dg_history.specs.LegalHistory.{IsLegal, are_silent}
 use Rattle.dg_index.specs.OpenedIndex.{Opened, Opening, earliest_in, event_total, may_be_named}
 use Rattle.dg_machine.specs.declared.limits.Limits.{Limits}
 use Rattle.dg_machine.specs.declared.stands.Stands.{Stands}
@@ -84,6 +85,7 @@ use Rattle.dg_ask.proofs.KeptAdjacencies.{graphs_same}
 use Rattle.dg_session.specs.Parts.{Parts}
 use Rattle.dg_session.specs.Session.{Accepts, ComesTo, CutsOff, Denies, Moves, StandsFor, TakesLines, is_reached, is_too_full, refusals_by, refused_by}
 use Rattle.dg_start.specs.declared.stored_history.StoredHistory.{StoredHistory}
+use Rattle.dg_sound_files.proofs.OpenedIndexRecords.{form_is}
 use Rattle.dg_start.specs.StoredHistory.{IsSoundHistory, index_opening}
 
 -- ---- why the command is refused before its lines are completed
@@ -168,6 +170,7 @@ unread_comes which count old new names grown taken cut image h bar back bar_is b
 pub takes_failed : (taken : List ScriptLine → Type 0) (cut : Type 0) (got : List ScriptLine) (f : BatchFault)
     → taken got → TakesLines {A = Reply} taken cut got (Err (batch_halt f))
 takes_failed taken cut got (fault.BadChange line reason) h = h
+takes_failed taken cut got fault.OldFormat h = h
 takes_failed taken cut got (fault.FileFull n most) h = h
 takes_failed taken cut got (fault.Damaged key col) h = h
 takes_failed taken cut got fault.Read h = h
@@ -259,7 +262,7 @@ is_generated seed p called count l b bar same bar_is free index graph recent few
 abbrev batch_in : History → List (Option ChangeByText) → List Event → HistoryBatch
 batch_in z asked events = record { names = drop (length (names_of z)) (names_after (names_of z) asked); events = events }
 
--- the answer, by its test
+-- the answer, by the test of its room
 abbrev by_room : MachineState → History → Origin → HistoryBatch → Bool → Answered
 by_room m z from b full =
     if full then refuse m (refusal.FileFull (size (with_batch z b)) m.limits.file_bytes)
@@ -268,9 +271,26 @@ by_room m z from b full =
       state = record m { index = Some (with_batch z b) };
     }
 
--- a batch that is refused for no change is refused for a full file alone
-behind_reads : (m : MachineState) (z : History) (from : Origin) (b : HistoryBatch) → is_behind_reads (with_made m z from (Ok b)).reply.head ≡ true
-behind_reads m z from b = by (nat_lt m.limits.file_bytes (size (with_batch z b)))
+-- the form of the file does not take these events
+abbrev is_barred_by : Form → List Event → Bool
+is_barred_by form events = not (is_wide form) && not (are_silent events)
+
+-- the answer, by the test of the form, which comes first
+abbrev by_form : MachineState → History → Origin → HistoryBatch → Bool → Answered
+by_form m z from b bars = if bars then refuse m refusal.OldFormat else by_room m z from b (nat_lt m.limits.file_bytes (size (with_batch z b)))
+
+takes_form : (form : Form) (events : List Event) → (is_wide form ≡ false → are_silent events ≡ true) → is_barred_by form events ≡ false
+takes_form form events takes = by (is_wide form) (are_silent events) takes
+  where
+    by : (wide silent : Bool) → (wide ≡ false → silent ≡ true) → (not wide && not silent) ≡ false
+    by true silent h = refl
+    by false true h = refl
+    by false false h = absurd (false≢true (h refl))
+
+-- a batch that is refused neither for a change nor for the form is refused for a full file alone
+behind_reads : (m : MachineState) (z : History) (from : Origin) (b : HistoryBatch) → is_barred_by z.form b.events ≡ false → is_behind_reads (with_made m z from (Ok b)).reply.head ≡ true
+behind_reads m z from b free =
+    ap (λ bars. is_behind_reads (by_form m z from b bars).reply.head) free ∙ by (nat_lt m.limits.file_bytes (size (with_batch z b)))
   where
     by : (full : Bool) → is_behind_reads (by_room m z from b full).reply.head ≡ true
     by true = refl
@@ -279,6 +299,7 @@ behind_reads m z from b = by (nat_lt m.limits.file_bytes (size (with_batch z b))
 -- after a fault the session keeps what it kept; after a failure of a write or sync nothing is said
 abbrev pub StaysAs : BatchFault → Parts → Parts → Type 0
 StaysAs (fault.BadChange line reason) p q = q ≡ p
+StaysAs fault.OldFormat p q = q ≡ p
 StaysAs (fault.FileFull needed limit) p q = q ≡ p
 StaysAs (fault.Damaged key col) p q = q ≡ p
 StaysAs fault.Read p q = q ≡ p
@@ -385,7 +406,6 @@ module _ (from : Origin) (got : List ScriptLine) (p : Parts) (count limit : ℕ)
     named = named;
     fit = λ whole k d lt. what_named (length c.names) (get_or b.changes.items k d).what (change_fits whole k d lt).numbers;
     timed = λ whole k d lt. (change_fits whole k d lt).time;
-    silent = λ narrow whole k d lt. (change_fits whole k d lt).silent;
   })
 
   pub may_add : IsSoundHistory p.index p.names c.now c.recent.items → graph_now l.pool.value ≡ c.now.graph → MayAdd b l
@@ -427,6 +447,14 @@ module _ (from : Origin) (got : List ScriptLine) (p : Parts) (count limit : ℕ)
       ∙ ap (λ (ns : List (List ℕ)). completed 1 (earliest_in 0 free.index.batches) c.now.graph (changes_after ns Due)) (sym h.names)
       ∙ come (changes_after p.names Due) a.changes_are
 
+  -- the form of the file is that of the history
+  form_of : (image : List ℕ) (m : MachineState) (z : History) → IsOf p free.index image m z → free.index.form ≡ z.form
+  form_of image m z h = ap (λ (x : Opening). x.form) h.opened ∙ form_is z h.stands.legal
+
+  -- where it takes the events, the form bars nothing
+  free_form : (image : List ℕ) (m : MachineState) (z : History) (events : List Event) → IsOf p free.index image m z → TakesForm free.index events → is_barred_by z.form events ≡ false
+  free_form image m z events h takes = ap (λ f. is_barred_by f events) (sym (form_of image m z h)) ∙ takes_form free.index.form events takes
+
   -- the answer, by what the lines come to
   answer_with : (image : List ℕ) (m : MachineState) (z : History) (due : Result (List Event) (ℕ × ℕ)) → StandsFor p image m → IsOf p free.index image m z → ComeTo free.index c.now.graph b due
       → answer m (adding from count) got no_plan ≡ with_made m z from (on_value (batch_in z Due) due)
@@ -455,6 +483,7 @@ module _ (from : Origin) (got : List ScriptLine) (p : Parts) (count limit : ℕ)
           few = omega (arith, a.many, a.few);
           room = omega (arith, free.room, held_here, a.few_events, a.many, many_of image m z h);
           few_names = a.few_names comes.whole;
+          form = λ narrow. comes.form (ap is_wide (form_of image m z h) ∙ narrow);
         }
 
     known_of : (image : List ℕ) (m : MachineState) (z : History) → IsOf p free.index image m z → known ≡ length (names_of z)
@@ -468,6 +497,7 @@ module _ (from : Origin) (got : List ScriptLine) (p : Parts) (count limit : ℕ)
         answer_with image m z (Ok events) s h comes.come
         ∙ ap (λ (ns : List (List ℕ)). let x : HistoryBatch = record { names = drop (length (names_of z)) ns; events = events } in with_made m z from (Ok x)) (sym next.names_are)
         ∙ ap (λ (k : ℕ). with_made m z from (Ok (batch_with k c.names events))) (sym (known_of image m z h))
+        ∙ ap (by_form m z from New) (free_form image m z events h comes.form)
 
     -- the segment is that of the batch behind the history
     segment_is : (image : List ℕ) → told ≡ Some image → (m : MachineState) (z : History) → IsOf p free.index image m z → segment ≡ segment_of z.params (events_of z) New
@@ -594,6 +624,7 @@ module _ (from : Origin) (got : List ScriptLine) (p : Parts) (count limit : ℕ)
     -- after a fault the session keeps what it kept, its handles and their graphs among it
     pub failed_stays : (f : BatchFault) (h h' : HandlesState) → IsBack f known l new → HandlesStay (Err f) h h' → with_handles p h l.pool.value ≡ p → StaysAs f p (with_handles (with_history p new.history) h' new.pool.value)
     failed_stays (fault.BadChange line reason) h h' back hs same = kept_as h h' back hs same
+    failed_stays fault.OldFormat h h' back hs same = kept_as h h' back hs same
     failed_stays (fault.FileFull n most) h h' back hs same = kept_as h h' back hs same
     failed_stays (fault.Damaged key col) h h' back hs same = kept_as h h' back hs same
     failed_stays fault.Read h h' back hs same = kept_as h h' back hs same
@@ -636,6 +667,16 @@ module _ (from : Origin) (got : List ScriptLine) (p : Parts) (count limit : ℕ)
         (λ m image s.
         let z = is_of p free.index image m free.there s in
         steps_as image m s (refuse m (refusal.BadChange line reason)) (answer_with image m z.0 (Err (line, reason)) s z.1 f.1)) (λ h. absurd (false≢true h)) (inr (inl (adds from count, a.not_refused)))
+    batch_failed fault.OldFormat fails q q_is =
+        let f = of_here (index_opening c.index) free.index (λ o. FailsBatch o limit b c before after fault.OldFormat) opening_there fails in
+        let d : IsOldFormat free.index b c = f.1 in
+        denied (adding from count) got p q before after refusal.OldFormat q_is f.0
+        (λ m image s.
+        let z = is_of p free.index image m free.there s in
+        let bars : is_barred_by z.0.form d.events ≡ true =
+        ap (λ x. is_barred_by x d.events) (sym (form_of image m z.0 z.1)) ∙ ap (λ wide. not wide && not (are_silent d.events)) d.narrow ∙ ap not d.sends in
+        steps_as image m s (refuse m refusal.OldFormat) (answer_with image m z.0 (Ok d.events) s z.1 d.come ∙ ap (by_form m z.0 from (batch_in z.0 Due d.events)) bars))
+        (λ h. absurd (false≢true h)) (inr (inl (adds from count, a.not_refused)))
     batch_failed (fault.FileFull n most) fails q q_is =
         let f = of_here (index_opening c.index) free.index (λ o. FailsBatch o limit b c before after (fault.FileFull n most)) opening_there fails in
         let d : FillsFile free.index limit b c before n = f.2 in
@@ -656,7 +697,7 @@ module _ (from : Origin) (got : List ScriptLine) (p : Parts) (count limit : ℕ)
         (λ m image s.
         let z = is_of p free.index image m free.there s in
         ap (λ (x : Answered). is_behind_reads x.reply.head) (answer_with image m z.0 (Ok d.events) s z.1 d.come)
-        ∙ behind_reads m z.0 from (batch_in z.0 Due d.events))
+        ∙ behind_reads m z.0 from (batch_in z.0 Due d.events) (free_form image m z.0 d.events z.1 d.form))
     batch_failed fault.Memory fails q q_is =
         let f : after ≡ before = of_here (index_opening c.index) free.index (λ o. FailsBatch o limit b c before after fault.Memory) opening_there fails in
         lacking_denies (adding from count) got p q before after q_is f (lacks from count) a.not_refused

@@ -32,6 +32,7 @@ use Rattle.dg_batch.specs.declared.halt.Halt.TheVariants as halt
 use Rattle.dg_session.specs.Damage.{DamageIn, DamageIs, Graphs, damage_told, IsMetBy, MeetsNone, NamesDamage, NamesNodeDamage, Node_set, ReadsFor, TellsGraphDamage, TellsNodeDamage, reads_for}
 use Rattle.dg_batch.specs.Halt.{retrieval_halt}
 use Rattle.dg_session.specs.Parts.{Parts}
+use Rattle.dg_session.specs.Retrievals.{TellsLeadDamage}
 use Rattle.dg_ask.specs.HeldIndex.{points_over}
 use Rattle.dg_session.specs.Session.{Accepts, ComesTo, Denies, damage_of, is_of_read}
 
@@ -74,14 +75,14 @@ never_for_damage c x got p before q after r is no_reads comes =
 -- the fault of a retrieval over what the session has in memory
 pub graph_damage_over : (p : Parts) (o : Opening) (times : List ℕ) (cols : Columns) (told : Option (List ℕ)) (names : ℕ) (recent : List Event) (r : Result Retrieved RetrievalFault)
     → IsSession p o names recent → (edges : List Edge) → edges ≡ kept_edges o (event_total o.batches) cols (bases_in cols p.table)
-    → IfSome told (λ image. TellsDamage names edges o cols (points_over o recent times) image r) → TellsGraphDamage p told (times, cols) r
+    → IfSome told (λ image. TellsLeadDamage names edges o (points_over o recent times) times cols image r) → TellsGraphDamage p told (times, cols) r
 graph_damage_over p o times cols told names recent r is edges edges_is damage =
-    by r (subst (λ gs. IfSome told (λ image. TellsDamage (length p.names) gs o cols (points_over o p.recent times) image r)) edges_is
-    (subst (λ es. IfSome told (λ image. TellsDamage (length p.names) edges o cols (points_over o es times) image r)) is.all
-    (subst (λ n. IfSome told (λ image. TellsDamage n edges o cols (points_over o recent times) image r)) is.count damage)))
+    by r (subst (λ gs. IfSome told (λ image. TellsLeadDamage (length p.names) gs o (points_over o p.recent times) times cols image r)) edges_is
+    (subst (λ es. IfSome told (λ image. TellsLeadDamage (length p.names) edges o (points_over o es times) times cols image r)) is.all
+    (subst (λ n. IfSome told (λ image. TellsLeadDamage n edges o (points_over o recent times) times cols image r)) is.count damage)))
   where
     by : (r : Result Retrieved RetrievalFault)
-        → IfSome told (λ image. TellsDamage (length p.names) (kept_edges o (event_total o.batches) cols (bases_in cols p.table)) o cols (points_over o p.recent times) image r)
+        → IfSome told (λ image. TellsLeadDamage (length p.names) (kept_edges o (event_total o.batches) cols (bases_in cols p.table)) o (points_over o p.recent times) times cols image r)
         → TellsGraphDamage p told (times, cols) r
     by (Ok x) d = (o, is.there, d)
     by (Err f) d = (o, is.there, d)

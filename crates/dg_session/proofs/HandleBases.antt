@@ -20,6 +20,7 @@ use Rattle.dg_history.specs.declared.node.NodeId.TheVariants as node
 use Rattle.dg_history.specs.History.{History, events_of}
 use Rattle.dg_index.specs.Hierarchy.{numbers, set_of}
 use Rattle.dg_index.specs.IndexRecords.{heights}
+use Rattle.dg_index.specs.OpenedIndex.{Opening}
 use Rattle.dg_machine.specs.declared.stands.Stands.{Stands}
 use Rattle.dg_machine.specs.declared.stands.Stands.TheVariants.{Base}
 use Rattle.dg_machine.specs.MachineState.{elements, stands_at}
@@ -33,9 +34,9 @@ use Rattle.dg_retrieval.specs.declared.fault.RetrievalFault.{RetrievalFault}
 use Rattle.dg_retrieval.specs.Beginnings.{GraphLead}
 use Rattle.dg_retrieval.specs.declared.retrieval.Retrieved.{Retrieved}
 use Rattle.dg_retrieval.specs.Beginnings.{IsOffered, leads_in}
-use Rattle.dg_retrieval.specs.Calls.{IsRetrieval}
 use Rattle.dg_retrieval.specs.Retrieval.{AreHeld}
 use Rattle.dg_session.proofs.NodeSets.{IsNoMessage, node_quiet}
+use Rattle.dg_session.specs.Retrievals.{LeadsToInstants}
 
 -- ---- the edges of bases
 
@@ -169,7 +170,7 @@ all_begin_on table cols g hold (Ok x) offered = each (leads_in x.leads) offered
         All-cons (BeginsOn table cols) l leads (begins_on table cols g hold l (All-head (IsOffered (edges_of g)) l leads h)) (each leads (All-tail (IsOffered (edges_of g)) l leads h))
 
 -- so do the leads that a retrieval gives over these edges
-pub all_begin : (table : ListOf (ℕ × Stands)) (cols : Columns) (g : Ground) → All (HoldsNode table cols) g.bases → (r : Result Retrieved RetrievalFault) (names : ℕ) (recent : ListOf Event) (edges : ListOf Edge) (targets : ListOf NodeId)
-    → edges ≡ edges_of g → IfOk r (IsRetrieval names recent edges targets) → IfOk r (λ x. All (BeginsOn table cols) (leads_in x.leads))
-all_begin table cols g hold (Err f) names recent edges targets is done = tt
-all_begin table cols g hold (Ok x) names recent edges targets is done = all_begin_on table cols g hold (Ok x) (subst (λ es. All (IsOffered es) (leads_in x.leads)) is done.offered)
+pub all_begin : (table : ListOf (ℕ × Stands)) (cols : Columns) (g : Ground) → All (HoldsNode table cols) g.bases → (r : Result Retrieved RetrievalFault) (names : ℕ) (recent : ListOf Event) (edges : ListOf Edge) (o : Opening) (targets : ListOf NodeId) (times : ListOf ℕ)
+    → edges ≡ edges_of g → IfOk r (LeadsToInstants names recent edges o targets times cols) → IfOk r (λ x. All (BeginsOn table cols) (leads_in x.leads))
+all_begin table cols g hold (Err f) names recent edges o targets times is done = tt
+all_begin table cols g hold (Ok x) names recent edges o targets times is done = all_begin_on table cols g hold (Ok x) (subst (λ es. All (IsOffered es) (leads_in x.leads)) is done.offered)

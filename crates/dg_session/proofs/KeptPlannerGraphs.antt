@@ -1,8 +1,8 @@
 -- The graph in which a session plans, by the planners that it keeps.
 use Rattle.std.proofs.Common.{◌≡◌, ◌≢◌, ℕ, Bool, true, false, cond, List as ListOf, [], ◌∷◌, ◌++◌, Some, ◌∙◌, ap, subst}
-use Rattle.std.specs.List.{All, Contains}
+use Rattle.std.specs.List.{All}
 use Rattle.std.proofs.lemmas.Bool.{false≢true}
-use Rattle.std.proofs.lemmas.List.Elements.{All-cons, All-contains, All-head, All-nil, All-tail}
+use Rattle.std.proofs.lemmas.List.Elements.{All-cons, All-head, All-nil, All-tail}
 use Rattle.dg_file.specs.Index.{IndexState}
 use Rattle.dg_graph.specs.declared.element.Columns.{Columns}
 use Rattle.dg_handles.specs.Handles.{HoldsNode}
@@ -17,7 +17,7 @@ use Rattle.dg_retrieval.specs.KeptGraph.{HoldNoList, kept_edges, kept_nodes}
 use Rattle.dg_session.specs.contracts.session.Session.{the_view}
 use Rattle.dg_session.specs.declared.session.Session.TheInside.{Inside}
 use Rattle.dg_ask.specs.HeldIndex.{HasNodeOf, HasNodes, has_node_held}
-use Rattle.dg_ask.specs.KeptPlanner.{IsGraphFor, IsGraphOver, IsKeptFor}
+use Rattle.dg_ask.specs.KeptPlanner.{IsGraphFor, IsKeptFor, IsKeptIn}
 use Rattle.dg_session.specs.Parts.{Parts}
 use Rattle.dg_start.specs.StoredHistory.{index_opening}
 
@@ -46,12 +46,12 @@ pub record IsPlanningIn (p : Parts) (o : Opening) (cols : Columns) (g : PlannerG
 
 -- by a graph that is kept in these columns
 pub graph_for : (o : Opening) (table : ListOf (ℕ × Stands)) (cols : Columns) (kept : ListOf (Columns × PlannerGraph)) (g : PlannerGraph)
-    → IsKeptFor (Some o) table kept → Contains kept (cols, g) → IsGraphFor o table cols g
-graph_for o table cols kept g is there = All-contains (IsGraphOver (Some o) table) kept (cols, g) is there
+    → IsKeptFor (Some o) table kept → IsKeptIn cols kept g → IsGraphFor o table cols g
+graph_for o table cols kept g is there = there o table is
 
 pub planning_in : (p : Parts) (s : Inside) (index : IndexState) (cols : Columns) (kept : ListOf (Columns × PlannerGraph)) (g : PlannerGraph)
     → (the_view s).parts ≡ p → s.held.live.history.index ≡ Some index → HasNodes (index_opening s.held.live.history.index) s.held.handles.table
-    → IsKeptFor (Some index.opening) s.held.handles.table kept → Contains kept (cols, g) → IsPlanningIn p index.opening cols g
+    → IsKeptFor (Some index.opening) s.held.handles.table kept → IsKeptIn cols kept g → IsPlanningIn p index.opening cols g
 planning_in p s index cols kept g view there nodes is among =
     let graph = graph_for index.opening s.held.handles.table cols kept g is among in
     let table : s.held.handles.table ≡ p.table = ap (λ (x : Parts). x.table) view in

@@ -6,7 +6,9 @@ pub mod AnswerQueries
 pub mod SessionReleaseStep
 pub mod SessionPoolStep
 pub mod PlanStep
+pub mod MessageLeads
 pub mod SessionRetrievals
+pub mod SessionLeads
 pub mod SessionInstantStep
 pub mod SessionSeveralStep
 pub mod ReadsStep

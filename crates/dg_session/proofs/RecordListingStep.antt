@@ -1,6 +1,6 @@
 -- The answer to a listing of the records.
 use Rattle.std.proofs.Common.{◌≡◌, ℕ, suc, true, not, List, [], ◌∷◌, Option, Some, None, length, map, refl, sym, ◌∙◌, ap, subst, arith}
-use Rattle.std.specs.Prelude.{is_some, slice_index}
+use Rattle.std.specs.Prelude.{is_some}
 use Rattle.std.specs.List.{Contains}
 use Rattle.std.specs.Map.{lookup}
 use Rattle.std.proofs.lemmas.Bool.{false≢true}
@@ -49,8 +49,7 @@ line_is z legal k there = by (lookup (same_key k) (opened_of z).index.records) r
     by : (e : Option Entry) → lookup (same_key k) (opened_of z).index.records ≡ e → is_some e ≡ true → held_line (opened_of z).index.records k ≡ record_line z k
     by None is some = absurd (false≢true some)
     by (Some e) is some =
-        ap (λ x. line.Sizes k (lengths_held x)) is
-        ∙ ap (λ (l : List ℕ). line.Sizes k (slice_index l 0 ∷ slice_index l 1 ∷ slice_index l 2 ∷ [])) (told_at z legal k e is).0
+        ap (λ x. line.Sizes k (lengths_held x)) is ∙ ap (line.Sizes k) (told_at z legal k e is).0
 
 listed : (z : History) → IsLegal z → listing_of (opening_of z) (length (events_of z)) ≡ tree_reply z
 listed z legal =

@@ -35,7 +35,7 @@ use Rattle.dg_session.specs.declared.creation_command.AskedFunction.{AskedFuncti
 use Rattle.dg_session.specs.declared.creation_command.AskedFunction.TheVariants.{Named, Share}
 use Rattle.dg_session.specs.Parts.{Parts}
 use Rattle.dg_start.specs.StoredHistory.{AreCounted, IsHeldBy}
-use Rattle.dg_session.specs.Session.{Accepts, ComesTo, CutsOff, Denies, StandsFor, refused_by}
+use Rattle.dg_session.specs.Session.{Accepts, ComesTo, CutsOff, StandsFor, refused_by}
 
 -- it needs no index yet, and parameters in their ranges
 abbrev creation_needs : ℕ → ℕ → ℕ → Needs
@@ -177,11 +177,6 @@ module _ (l k : ℕ) (asked : AskedFunction) (params : Params) (params_are : par
     none,
     λ x y a b. create_cuts p x y none (both_told before after (λ x y. IsMadeInPart form.Two params x y) (part refl) x y a b),
   )
-
--- of a function that no line names nothing is made
-pub create_lacks : (p q : Parts) (l k : ℕ) (asked : AskedFunction) (image : Option (List ℕ)) → refused_by p 0 (needs (making l k asked)) ≡ None → q ≡ p
-    → Denies (making l k asked) [] p image q image refusal.OutOfMemory
-create_lacks p q l k asked image none same = lacking_denies (making l k asked) [] p q image image same refl (takes_memory l k asked) none
 
 -- without an index there are no names
 pub no_names : (index : Option Opening) (names : List (List ℕ)) (graph : List Element) (recent : List Event) → AreCounted index names graph recent → is_some index ≡ false → names ≡ []

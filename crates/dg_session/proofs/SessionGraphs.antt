@@ -1,14 +1,15 @@
 -- A batch leaves what the live handles list as it is, since its events are later than every instant of the history.
-use Rattle.std.proofs.Common.{◌≡◌, ℕ, ◌+◌, ◌*◌, ◌^◌, ◌<◌, ◌≤◌, Bool, true, cond, List, [], ◌∷◌, ◌++◌, length, map, refl, sym, subst, ap, ◌∙◌, arith, length-append}
+use Rattle.std.proofs.Common.{◌≡◌, ℕ, ◌+◌, ◌*◌, ◌^◌, ◌<◌, ◌≤◌, ◌==◌, Bool, true, false, None, if◌then◌else◌, cond, List, [], ◌∷◌, ◌++◌, length, map, refl, sym, subst, ap, ◌∙◌, arith, length-append}
 use native.Mathlib.Nat.{pow-zero}
 use Rattle.std.specs.Prelude.{◌&&◌, nat_le}
 use Rattle.std.specs.List.{All}
-use Rattle.std.proofs.lemmas.Bool.{leb-true, lt-leb, le-leb, false≢true, and_parts}
+use Rattle.std.proofs.lemmas.Bool.{leb-true, lt-leb, le-leb, ne_eqb, false≢true, and_parts}
 use Rattle.std.proofs.lemmas.List.Elements.{All-head, All-tail, All-nil, All-cons}
 use Rattle.dg_graph.specs.declared.element.Element.{Element}
 use Rattle.dg_graph.specs.declared.event.Event.{Event}
-use Rattle.dg_graph.specs.Elements.{shown}
-use Rattle.dg_graph.specs.Replay.{events_until, replay_at}
+use Rattle.dg_graph.specs.declared.element.Columns.{Columns}
+use Rattle.dg_graph.specs.Elements.{shown, with_one}
+use Rattle.dg_graph.specs.Replay.{events_until, message_of, replay_at, shown_at, told_at}
 use Rattle.dg_history.specs.declared.node.NodeId.{NodeId}
 use Rattle.dg_history.specs.declared.node.NodeId.TheVariants.{Root, Now, Recent, Leaf, List as EventList, Inner}
 use Rattle.dg_history.specs.declared.params.Params.{Params}
@@ -41,6 +42,24 @@ none_until s t [] rises late = refl
 none_until s t (e ∷ events) rises late =
     let later : t < e.time = omega (arith, rises.0, late) in
     ap (λ b. cond b (e ∷ events_until events t) (events_until events t)) (lt-leb e.time t later) ∙ none_until e.time t events rises.1 later
+
+-- nor is an event of exactly such an instant among them
+none_told : (s t : ℕ) (events : List Event) → RisesFrom s events → t < s → told_at events t ≡ []
+none_told s t [] rises late = refl
+none_told s t (e ∷ events) rises late =
+    let other : (e.time == t) ≡ false = ne_eqb e.time t (λ is. absurd (omega (arith, rises.0, late, is))) in
+    ap (λ b. with_one (told_at events t) (if b then message_of e.body else None)) other ∙ none_told e.time t events rises.1 (omega (arith, rises.0, late))
+
+told_more : (s t : ℕ) (events more : List Event) → RisesFrom s more → t < s → told_at (events ++ more) t ≡ told_at events t
+told_more s t [] more rises late = none_told s t more rises late
+told_more s t (e ∷ events) more rises late =
+    ap (λ told. with_one told (if e.time == t then message_of e.body else None)) (told_more s t events more rises late)
+
+-- so the graph as of the instant and its messages stay
+shown_more : (s t : ℕ) (cols : Columns) (events more : List Event) → RisesFrom s more → t < s → shown_at (events ++ more) t cols ≡ shown_at events t cols
+shown_more s t cols events more rises late =
+    ap (λ (graph : List Element). shown graph cols ++ (if cols.transient then told_at (events ++ more) t else [])) (replay_at_more events more t (none_until s t more rises late))
+    ∙ ap (λ (told : List Element). shown (replay_at events t) cols ++ (if cols.transient then told else [])) (told_more s t events more rises late)
 
 -- an instant of the history is one of the history with the batch
 range_more : (events more : List Event) (t : ℕ) → RisesFrom (earliest_next (span_of events)) more → in_range (span_of events) t ≡ true → in_range (span_of (events ++ more)) t ≡ true
@@ -75,9 +94,8 @@ module _ (p : Params) (pos : 0 < p.l) (events more : List Event) where
 module _ (z : History) (pos : 0 < z.params.l) (b : Batch) (rises : RisesFrom (earliest_next (span_of (events_of z))) b.events) where
   pub elements_more : (s : Stands) → is_reached z s ≡ true → elements (with_batch z b) s ≡ elements z s
   elements_more (Overlay t cols on) r =
-      ap (λ (es : List Event). shown (replay_at es t) cols) (events_with z b)
-      ∙ ap (λ (es : List Element). shown es cols)
-      (replay_at_more (events_of z) b.events t (none_until (earliest_next (span_of (events_of z))) t b.events rises (before_next (events_of z) t r)))
+      ap (λ (es : List Event). shown_at es t cols) (events_with z b)
+      ∙ shown_more (earliest_next (span_of (events_of z))) t cols (events_of z) b.events rises (before_next (events_of z) t r)
   elements_more (Base node cols) r =
       ap (λ (es : List Event). shown (set_of z.params es node) cols) (events_with z b)
       ∙ ap (λ (es : List Element). shown es cols) (set_more z.params pos (events_of z) b.events node r)

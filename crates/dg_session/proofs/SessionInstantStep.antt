@@ -13,20 +13,19 @@ use Rattle.dg_machine.specs.declared.command.Command.TheVariants as command
 use Rattle.dg_machine.specs.declared.reply.Head.{Head}
 use Rattle.dg_machine.specs.declared.reply.Head.TheVariants as head
 use Rattle.dg_machine.specs.declared.reply.Reply.{Reply}
-use Rattle.dg_machine.specs.Answer.{accepted, base_for, headed, is_refusal, overlays, weight_told, with_handles}
+use Rattle.dg_machine.specs.Answer.{accepted, base_for, headed, heard_for, is_refusal, overlays, weight_told, with_handles}
 use Rattle.dg_machine.specs.MachineState.{MachineState}
 use Rattle.dg_machine.specs.Planning.{IsPlanned, Planned, edges_in, no_plan, point_for, points_for}
 use Rattle.dg_plan.specs.IndexGraph.{arcs_of}
 use Rattle.dg_plan.specs.TreePaths.{base_under}
 use Rattle.dg_plan.specs.Walks.{Arc, Graft, IsPlan, IsTree, steps_of, tree_weight, weight_of}
-use Rattle.dg_retrieval.specs.Retrieval.{TakesAtMostTree}
 use Rattle.dg_session.proofs.ReplyNames.{head_names}
 use Rattle.dg_session.proofs.SessionRetrievals.{handles_stand, if_some, moved_with, overlays_same, reads_failed, retrieval_accepted}
 use Rattle.dg_session.proofs.PartStates.{one_image, one_told}
 use Rattle.dg_session.specs.Decided.{IsHeadOf}
 use Rattle.dg_session.specs.Parts.{Parts}
 use Rattle.dg_session.specs.BatchReads.{is_early}
-use Rattle.dg_session.specs.Reads.{IsRetrieved, Reads, with_new_handles}
+use Rattle.dg_session.specs.Reads.{IsRetrieved, Reads, TakesAtMostRetrieval, with_new_handles}
 use Rattle.dg_session.specs.Session.{Accepts, StandsFor, refused_by, retrieval_needs}
 
 -- a tree of one target is the plan of the target
@@ -63,24 +62,29 @@ at_answers p q t cols before after weight singles bases graphs reply none same g
     (moved_with (command.At t cols) p q before after reply none
     (λ m x y a b s.
     let r = one_told before (λ image. (k : MachineState) → StandsFor p image k → IsRetrieved k (t ∷ []) cols weight singles bases graphs) x got a m s in
-    let plan = plan_alone (arcs_of (edges_in m cols)) (Root ∷ []) (point_for m t) r.tree.0 r.tree.1 in (
+    let plan = plan_alone (arcs_of (edges_in m cols)) (Root ∷ []) (point_for m t) r.tree.1.0 r.tree.1.1 in
+    let heard : ℕ = heard_for m cols (t ∷ []) in
+    let weighs : weight ≡ weight_of (arcs_of (edges_in m cols)) plan.0 + heard = r.tree.2 ∙ ap (λ w. w + heard) (r.tree.1.2 ∙ plan.2) in (
       record no_plan { steps = plan.0 },
       with_handles m (overlays_on cols (t ∷ []) bases),
       plan.1,
-      (λ i. record { reply = (ap (λ n. headed (head.At n (weight_of (arcs_of (edges_in m cols)) plan.0))) (sym s.next) ∙ ap (λ w. headed (head.At p.next w)) (sym (r.tree.2 ∙ plan.2)) ∙ sym reply_is) i; state = with_handles m (sym (overlays_are m t cols r.tree.0 plan.0 bases r.tree.3 plan.3) i) }),
+      (λ i. record {
+        reply = (ap (λ n. headed (head.At n (weight_of (arcs_of (edges_in m cols)) plan.0 + heard))) (sym s.next) ∙ ap (λ w. headed (head.At p.next w)) (sym weighs) ∙ sym reply_is) i;
+        state = with_handles m (sym (overlays_are m t cols r.tree.1.0 plan.0 bases r.tree.1.3 plan.3) i);
+      }),
       handles_stand p q x y m (t ∷ []) cols weight singles bases graphs s (one_image before after x y same a b) (omega arith) none r is,
     )))
     (ap (λ (r : Reply). is_refusal r.head) reply_is) none (subst (λ (r : Reply). IsHeadOf (command.At t cols) r.head) (sym reply_is) tt) same is (head_names (length q.names) (head.At p.next weight) reply reply_is)
 
 -- where it fails, the bytes read are at most what its reply would tell
 pub at_fails : (p : Parts) (t : ℕ) (cols : Columns) (image : Option (List ℕ)) (h : Head) (before after : ℕ) → is_refusal h ≡ true → is_early h ≡ false → refused_by p 0 (retrieval_needs (t ∷ []) 1) ≡ None
-    → IfSome image (λ bytes. (m : MachineState) → StandsFor p bytes m → TakesAtMostTree (edges_in m cols) (points_for m (t ∷ [])) before after)
+    → IfSome image (λ bytes. (m : MachineState) → StandsFor p bytes m → TakesAtMostRetrieval m (t ∷ []) cols before after)
     → Reads (command.At t cols) p image h before after
 at_fails p t cols image h before after refuses late none most =
     reads_failed (command.At t cols) p image h before after refl refuses late (λ m got reads. reads) (λ got. none)
-    (if_some image (λ bytes. (m : MachineState) → StandsFor p bytes m → TakesAtMostTree (edges_in m cols) (points_for m (t ∷ [])) before after)
+    (if_some image (λ bytes. (m : MachineState) → StandsFor p bytes m → TakesAtMostRetrieval m (t ∷ []) cols before after)
     (λ bytes. (m : MachineState) → StandsFor p bytes m → (got : List ScriptLine) (plan : Planned) → IsPlanned m (command.At t cols) plan
     → TakesAtMost (weight_told (accepted m (command.At t cols) got plan).reply.head) before after)
     (λ x f m s got plan planned.
     let tree = tree_alone (arcs_of (edges_in m cols)) (Root ∷ []) (point_for m t) plan.steps planned in
-    subst (λ w. TakesAtMost w before after) tree.2 (f m s tree.0 tree.1)) most)
+    subst (λ w. TakesAtMost (w + heard_for m cols (t ∷ [])) before after) tree.2 (f m s tree.0 tree.1)) most)

@@ -2,6 +2,7 @@
 use Rattle.std.proofs.Common.{◌≡◌, ℕ, Bool, true, false, ◌==◌, not, List, [], ◌∷◌, ◌++◌, Option, Some, None, if◌then◌else◌, map, length, refl, sym, ◌∙◌, ap, subst}
 use Rattle.std.specs.Prelude.{◌&&◌, IsErr, IsErrAnd, Result, is_some}
 use Rattle.std.proofs.lemmas.Option.{none-some}
+use Rattle.dg_graph.specs.declared.element.Columns.{Columns}
 use Rattle.dg_graph.specs.declared.element.Element.{Element}
 use Rattle.dg_handles.specs.Handles.{graph_among}
 use Rattle.dg_history.specs.History.{History}
@@ -10,7 +11,7 @@ use Rattle.dg_machine.specs.declared.reply.Refusal.{Refusal}
 use Rattle.dg_machine.specs.declared.reply.Refusal.TheVariants as refusal
 use Rattle.dg_machine.specs.declared.reply.Reply.{Reply}
 use Rattle.dg_machine.specs.declared.stands.Stands.{Stands}
-use Rattle.dg_machine.specs.Answer.{accepted, elements_if, is_refusal, say, shown_by}
+use Rattle.dg_machine.specs.Answer.{accepted, columns_by, columns_if, elements_if, is_refusal, say, shown_by}
 use Rattle.dg_machine.specs.MachineState.{MachineState, elements, stands_at, history_in}
 use Rattle.dg_machine.specs.Needs.{earliest, is_base, needs, when}
 use Rattle.dg_machine.specs.Planning.{no_plan}
@@ -52,16 +53,20 @@ abbrev pub is_unknown : ℕ → Parts → Bool
 is_unknown handle p = not (is_some (stands_at handle p.table))
 
 -- The command asks something of the handle's graph: it needs the handle alone, or, where `overlay`, that it stands for
--- an instant, and this is its answer.
-pub record Asks (c : Command) (handle : ℕ) (overlay : Bool) (answer : List Element → Reply) : Type 0 where
+-- an instant, and this is its answer, by the columns of the handle and by its graph.
+pub record Asks (c : Command) (handle : ℕ) (overlay : Bool) (answer : Columns → List Element → Reply) : Type 0 where
   pub unplanned : IsUnplanned c
   pub needed : (p : Parts) → refused_by p 0 (needs c) ≡ earliest (when (is_unknown handle p) (refusal.UnknownHandle handle) ++ (when (overlay && is_base (stands_at handle p.table)) (refusal.NotAnOverlay handle) ++ []))
-  pub due : (m : MachineState) → accepted m c [] no_plan ≡ say m (answer (shown_by m handle))
-  pub accepts : (graph : List Element) → is_refusal (answer graph).head ≡ false
-  pub fits : (graph : List Element) → IsHeadOf c (answer graph).head
-  pub names : (n : ℕ) (graph : List Element) → NamesAreThere n graph → ReplyNamesAreThere n (answer graph)
+  pub due : (m : MachineState) → accepted m c [] no_plan ≡ say m (answer (columns_by m handle) (shown_by m handle))
+  pub accepts : (cols : Columns) (graph : List Element) → is_refusal (answer cols graph).head ≡ false
+  pub fits : (cols : Columns) (graph : List Element) → IsHeadOf c (answer cols graph).head
+  pub names : (n : ℕ) (cols : Columns) (graph : List Element) → NamesAreThere n graph → ReplyNamesAreThere n (answer cols graph)
 
-module _ (c : Command) (handle : ℕ) (overlay : Bool) (answer : List Element → Reply) (asks : Asks c handle overlay answer) (p : Parts) where
+module _ (c : Command) (handle : ℕ) (overlay : Bool) (answer : Columns → List Element → Reply) (asks : Asks c handle overlay answer) (p : Parts) where
+  -- the columns of what the handle stands for
+  abbrev pub asked_columns : Columns
+  asked_columns = columns_if (stands_at handle p.table)
+
   pub ask_refused : is_some (stands_at handle p.table) ≡ false → refused_by p 0 (needs c) ≡ Some (refusal.UnknownHandle handle)
   ask_refused none = asks.needed p ∙ hit (is_unknown handle p) (refusal.UnknownHandle handle) _ (ap not none)
 
@@ -77,22 +82,23 @@ module _ (c : Command) (handle : ℕ) (overlay : Bool) (answer : List Element �
       ∙ miss (overlay && is_base (stands_at handle p.table)) (refusal.NotAnOverlay handle) [] served
 
   pub ask_answers : (graph : List Element) (image : Option (List ℕ)) (reply : Reply) → is_some (stands_at handle p.table) ≡ true → (overlay && is_base (stands_at handle p.table)) ≡ false
-      → graph_among handle p.table p.graphs ≡ Some graph → reply ≡ answer graph → All (NamesAreThere (length p.names)) p.graphs → Accepts c [] p image p image reply
+      → graph_among handle p.table p.graphs ≡ Some graph → reply ≡ answer asked_columns graph → All (NamesAreThere (length p.names)) p.graphs → Accepts c [] p image p image reply
   ask_answers graph image reply live served found reply_is there = record {
     moves =
         moved c [] p p image image reply asks.unplanned (ask_free live served)
         (λ m x y a b s free. (
           m,
-          asks.due m ∙ ap (λ g. say m (answer g)) (shown_are p x m handle graph s found) ∙ ap (say m) (sym reply_is),
+          asks.due m ∙ ap (λ g. say m (answer (columns_by m handle) g)) (shown_are p x m handle graph s found)
+              ∙ ap (λ t. say m (answer (columns_if (stands_at handle t)) graph)) (sym s.table) ∙ ap (say m) (sym reply_is),
           stands_on p p x y m refl (one_image image image x y refl a b) s,
         ));
-    accepted = ap (λ (r : Reply). is_refusal r.head) reply_is ∙ asks.accepts graph;
+    accepted = ap (λ (r : Reply). is_refusal r.head) reply_is ∙ asks.accepts asked_columns graph;
     free = ask_free live served;
-    fits = subst (λ (r : Reply). IsHeadOf c r.head) (sym reply_is) (asks.fits graph);
+    fits = subst (λ (r : Reply). IsHeadOf c r.head) (sym reply_is) (asks.fits asked_columns graph);
     held = λ h. h;
     no_index = λ h. (h, refl);
     quiet = λ h. refl;
-    named = subst (ReplyNamesAreThere (length p.names)) (sym reply_is) (asks.names (length p.names) graph (there_among (length p.names) handle p.table p.graphs graph there found));
+    named = subst (ReplyNamesAreThere (length p.names)) (sym reply_is) (asks.names (length p.names) asked_columns graph (there_among (length p.names) handle p.table p.graphs graph there found));
   }
 
   -- the handle is not live

@@ -1,9 +1,9 @@
 -- What a retrieval gives of the state that a session stands for, and how its answer is a step of the machine.
 use Rattle.std.proofs.Common.{◌≡◌, inl, inr, ⊎_elim, ℕ, suc, ◌+◌, ◌≤◌, ◌<◌, Bool, true, false, not, List, [], ◌∷◌, ◌++◌, Option, Some, None, Err, length, map, refl, sym, ◌∙◌, ap, subst, arith, nat_lt, append_assoc}
-use Rattle.std.specs.Prelude.{IfErr, IfOk, IfSome, Result, Ok, is_some, ◌||◌, ◌&&◌}
+use Rattle.std.specs.Prelude.{IfSome, is_some, ◌||◌, ◌&&◌}
 use Rattle.std.specs.List.{All, Contains, list_any}
 use Rattle.std.proofs.lemmas.Bool.{false≢true, not-false, and_right}
-use Rattle.std.proofs.lemmas.List.{append-nil, length-map}
+use Rattle.std.proofs.lemmas.List.{append-nil}
 use Rattle.std.proofs.lemmas.List.Elements.{All-cons, All-head, All-nil, All-tail}
 use borrow.Author.Tests.{le-ltb, lt-ltb, ltb-false}
 use Rattle.dg_fold.specs.BytesRead.{Takes, TakesAtMost}
@@ -12,10 +12,9 @@ use Rattle.dg_graph.specs.declared.element.Columns.{Columns}
 use Rattle.dg_graph.specs.declared.element.Element.{Element}
 use Rattle.dg_graph.specs.declared.event.Event.{Event}
 use Rattle.dg_text.specs.Lines.{ScriptLine}
-use Rattle.dg_handles.specs.Handles.{BeginsOn, HoldsNode, held_by, numbered, overlays_on}
+use Rattle.dg_handles.specs.Handles.{numbered, overlays_on}
 use Rattle.dg_history.specs.declared.node.Key.{Key}
 use Rattle.dg_history.specs.declared.node.NodeId.{NodeId}
-use Rattle.dg_history.specs.declared.node.NodeId.TheVariants.{Root}
 use Rattle.dg_history.specs.History.{History, events_of, in_range, span_of}
 use Rattle.dg_index.specs.OpenedIndex.{Opening, event_total}
 use Rattle.dg_machine.specs.declared.command.Command.{Command}
@@ -30,23 +29,14 @@ use Rattle.dg_machine.specs.declared.stands.Stands.TheVariants.{Overlay}
 use Rattle.dg_machine.specs.Answer.{Answered, IsPlannedBy, accepted, is_refusal, overlays, weight_told, with_handle, with_handles}
 use Rattle.dg_machine.specs.MachineState.{MachineState, elements, history_in}
 use Rattle.dg_machine.specs.Needs.{earliest, needs, refused, when}
-use Rattle.dg_machine.specs.Planning.{IsPlanned, Planned, bases_in, edges_in, point_for, points_for}
-use Rattle.dg_plan.specs.declared.edge.Edge.{Edge}
-use Rattle.dg_plan.specs.IndexGraph.{arcs_of}
+use Rattle.dg_machine.specs.Planning.{IsPlanned, Planned, point_for, points_for}
 use Rattle.dg_plan.specs.InstantPoint.{point}
-use Rattle.dg_plan.specs.Walks.{AreSingles}
 use Rattle.dg_file.specs.Index.{IndexState}
-use Rattle.dg_retrieval.specs.declared.retrieval.Retrieved.{Retrieved}
 use Rattle.dg_retrieval.specs.declared.fault.RetrievalFault.{RetrievalFault}
 use Rattle.dg_retrieval.specs.declared.fault.RetrievalFault.TheVariants as retrieval_fault
-use Rattle.dg_retrieval.specs.Beginnings.{GraphLead}
-use Rattle.dg_retrieval.specs.KeptGraph.{kept_edges, kept_ground, kept_nodes}
-use Rattle.dg_retrieval.specs.Beginnings.{base_handle, leads_in, led_to}
-use Rattle.dg_retrieval.specs.Calls.{IsRetrieval, RetrievesOver}
-use Rattle.dg_retrieval.specs.NamesThere.{EventNamesAreThere, NamesAreThere}
-use Rattle.dg_retrieval.specs.Retrieval.{AreHeld, ArePoints, IsNoDamage, IsOver, IsTreeOf, TakesAtMostTree, graphs_at}
-use Rattle.dg_session.proofs.HandleBases.{bases_are_held}
-use Rattle.dg_session.proofs.PlanStep.{edges_are, point_here, point_is}
+use Rattle.dg_retrieval.specs.KeptGraph.{kept_nodes}
+use Rattle.dg_retrieval.specs.Retrieval.{ArePoints, IsNoDamage, IsOver}
+use Rattle.dg_session.proofs.PlanStep.{point_here, point_is}
 use Rattle.dg_ask.proofs.PointNodes.{IsSoundIndex, point_there}
 use Rattle.dg_session.proofs.PartStates.{events_there, handle_taken, hit, instants_are, miss, is_of, last_passes, one_told, passes, refused_is}
 use Rattle.dg_session.proofs.SessionSteps.{AcceptedBehindReads, accepted_is, accepted_steps, failing_accepted, lacking_denies}
@@ -58,7 +48,7 @@ use Rattle.dg_session.specs.Decided.{IsHeadOf}
 use Rattle.dg_session.specs.Parts.{Parts}
 use Rattle.dg_session.specs.ReplyNames.{ReplyNamesAreThere}
 use Rattle.dg_session.specs.BatchReads.{is_early}
-use Rattle.dg_session.specs.Reads.{HasRetrieved, IsRetrieved, RetrievesFor, Reads, ReadsAsTold, ReadsBy, ReadsIn, bases_of, listed_by, with_new_handles}
+use Rattle.dg_session.specs.Reads.{IsRetrieved, Reads, ReadsAsTold, ReadsBy, ReadsIn, with_new_handles}
 use Rattle.dg_start.specs.StoredHistory.{IsHeldBy, index_opening}
 use Rattle.dg_session.specs.Session.{Accepts, ComesTo, Moves, StandsFor, WhereBothTold, is_reached, refused_by, retrieval_needs}
 
@@ -165,7 +155,7 @@ module _ (p : Parts) (o : Opening) (image : List ℕ) (m : MachineState) (there 
   abbrev pub z_of : History
   z_of = (is_of p o image m there s).0
 
-  points_are : (times : List ℕ) → list_any (is_out (span_held (Some o))) times ≡ false → points_over o p.recent times ≡ points_for m times
+  pub points_are : (times : List ℕ) → list_any (is_out (span_held (Some o))) times ≡ false → points_over o p.recent times ≡ points_for m times
   points_are times =
       each_same (is_out (span_held (Some o))) (point_over o p.recent) (point_for m) times
       (λ t h. point_is p o image m there s t (not-false (in_range (span_held (Some o)) t) h))
@@ -184,28 +174,6 @@ module _ (p : Parts) (o : Opening) (image : List ℕ) (m : MachineState) (there 
   at_points times =
       each_same (is_out (span_held (Some o))) (point_over o p.recent) (point z_of.params (events_of z_of)) times
       (λ t h. point_here p o image m there s t (not-false (in_range (span_held (Some o)) t) h))
-
-  mapped : (times : List ℕ) (bases : List (Option ℕ)) (cols : Columns) → length bases ≡ length times → graphs_at z_of times cols ≡ map (elements z_of) (overlays_on cols times bases)
-  mapped [] bases cols many = refl
-  mapped (t ∷ times) [] cols many = absurd (omega arith)
-  mapped (t ∷ times) (b ∷ bases) cols many = λ i. elements z_of (Overlay t cols b) ∷ mapped times bases cols (omega arith) i
-
-  -- the graphs as of the instants are those that new handles list
-  listed : (times : List ℕ) (bases : List (Option ℕ)) (cols : Columns) → length bases ≡ length times → graphs_at z_of times cols ≡ map (elements (history_in m.index)) (overlays_on cols times bases)
-  listed times bases cols many =
-      mapped times bases cols many ∙ sym (ap (λ (i : Option History). map (elements (history_in i)) (overlays_on cols times bases)) (is_of p o image m there s).1.index)
-
-  pub is_retrieved : (times : List ℕ) (cols : Columns) (weight : ℕ) (singles : List ℕ) (bases : List (Option ℕ)) (graphs : List (List Element)) → list_any (is_out (span_held (Some o))) times ≡ false
-      → IsTreeOf (kept_edges o (event_total o.batches) cols (bases_in cols p.table)) (points_over o p.recent times) weight bases
-      → AreSingles (arcs_of (kept_edges o (event_total o.batches) cols (bases_in cols p.table))) (Root ∷ []) (points_over o p.recent times) singles
-      → length bases ≡ length times → graphs ≡ graphs_at z_of times cols → IsRetrieved m times cols weight singles bases graphs
-  is_retrieved times cols weight singles bases graphs inside tree plans many graphs_are = record {
-    tree = subst (λ (ns : List NodeId). IsTreeOf (edges_in m cols) ns weight bases) (points_are times inside) (subst (λ (es : List Edge). IsTreeOf es (points_over o p.recent times) weight bases) (edges_are p o image m there s cols) tree);
-    single_plans =
-        subst (λ (ns : List NodeId). AreSingles (arcs_of (edges_in m cols)) (Root ∷ []) ns singles) (points_are times inside)
-        (subst (λ (es : List Edge). AreSingles (arcs_of es) (Root ∷ []) (points_over o p.recent times) singles) (edges_are p o image m there s cols) plans);
-    listed = graphs_are ∙ listed times bases cols many;
-  }
 
 -- ---- new handles
 
@@ -384,90 +352,3 @@ is_session p s index names recent view there count all = record {
   count = count ∙ ap (λ (x : Parts). length x.names) view;
   all = all ∙ ap (λ (x : Parts). x.recent) view;
 }
-
-module _ (p : Parts) (o : Opening) (times : List ℕ) (cols : Columns) (told : Option (List ℕ)) (names : ℕ) (recent : List Event) (is : IsSession p o names recent)
-    (inside : list_any (is_out (span_held (Some o))) times ≡ false)
-    (edges : List Edge) (edges_is : edges ≡ kept_edges o (event_total o.batches) cols (bases_in cols p.table)) (hold : All (HoldsNode p.table cols) (bases_in cols p.table)) where
-  over_session : (image : List ℕ) (m : MachineState) (s : StandsFor p image m) → IsOver (z_of p o image m is.there s) image o names p.graph recent
-  over_session image m s =
-      subst (λ es. IsOver (z_of p o image m is.there s) image o names p.graph es) (sym is.all)
-      (subst (λ n. IsOver (z_of p o image m is.there s) image o n p.graph p.recent) (sym is.count) (is_over p o image m is.there s))
-
-  points_of_session : (image : List ℕ) (m : MachineState) (s : StandsFor p image m) → ArePoints (z_of p o image m is.there s) (points_over o recent times) times
-  points_of_session image m s = ap (λ es. points_over o es times) is.all ∙ at_points p o image m is.there s times inside
-
-  -- the handles that can serve list what is shown of their nodes
-  held_there : (image : List ℕ) (m : MachineState) (s : StandsFor p image m) → AreHeld (z_of p o image m is.there s) edges cols (listed_by p)
-  held_there image m s =
-      let z : History = z_of p o image m is.there s in
-      let graphs : p.graphs ≡ map (λ (e : ℕ × Stands). elements z e.1) p.table =
-      s.graphs ∙ (λ i. map (λ (e : ℕ × Stands). elements (history_in ((is_of p o image m is.there s).1.index i)) e.1) (sym s.table i)) in
-      subst (λ (gs : List (List Element)). AreHeld z edges cols (held_by p.table gs)) (sym graphs)
-      (subst (λ (es : List Edge). AreHeld z es cols (held_by p.table (map (λ (e : ℕ × Stands). elements z e.1) p.table))) (sym edges_is)
-      (bases_are_held z p.table cols (kept_ground o (event_total o.batches) cols (bases_in cols p.table)) hold))
-
-  -- what a retrieval over a history is, is that of each state that the session stands for
-  pub retrieves_for : (r : Result Retrieved RetrievalFault) (before after : ℕ) → IfOk r (IsRetrieval names recent edges (points_over o recent times))
-      → IfSome told (λ image. (z : History) (now : List Element) → IsOver z image o names now recent → RetrievesOver z now edges cols (points_over o recent times) times before after r)
-      → IfSome told (λ image. (m : MachineState) → StandsFor p image m → RetrievesFor m p times cols before after r)
-  retrieves_for r before after done over =
-      if_some told (λ image. (z : History) (now : List Element) → IsOver z image o names now recent → RetrievesOver z now edges cols (points_over o recent times) times before after r)
-      (λ image. (m : MachineState) → StandsFor p image m → RetrievesFor m p times cols before after r)
-      (λ image f m s.
-      let z : History = z_of p o image m is.there s in
-      let x : RetrievesOver z p.graph edges cols (points_over o recent times) times before after r = f z p.graph (over_session image m s) in
-      record {
-        retrieved = retrieved_over r image m s done x.graphs;
-        takes = x.takes;
-        most = subst (λ (ns : List NodeId). TakesAtMostTree (edges_in m cols) ns before after) (points_are p o image m is.there s times inside)
-            (subst (λ (es : List Edge). TakesAtMostTree es (points_over o p.recent times) before after) (edges_is ∙ edges_are p o image m is.there s cols)
-            (subst (λ es. TakesAtMostTree edges (points_over o es times) before after) is.all x.most));
-        never = no_damage_here r image m s x.never;
-      }) over
-    where
-      retrieved_over : (r : Result Retrieved RetrievalFault) (image : List ℕ) (m : MachineState) (s : StandsFor p image m) → IfOk r (IsRetrieval names recent edges (points_over o recent times))
-          → IfOk r (λ x. (held : ℕ → List Element) → AreHeld (z_of p o image m is.there s) edges cols held → ArePoints (z_of p o image m is.there s) (points_over o recent times) times
-          → map (led_to p.graph held cols) (leads_in x.leads) ≡ graphs_at (z_of p o image m is.there s) times cols)
-          → IfOk r (λ x. IsRetrieved m times cols x.weight x.singles.items (bases_of (leads_in x.leads)) (map (led_to p.graph (listed_by p) cols) (leads_in x.leads)))
-      retrieved_over (Err f) image m s done graphs = tt
-      retrieved_over (Ok x) image m s done graphs =
-          is_retrieved p o image m is.there s times cols x.weight x.singles.items (bases_of (leads_in x.leads)) (map (led_to p.graph (listed_by p) cols) (leads_in x.leads)) inside
-          (subst (λ es. IsTreeOf es (points_over o p.recent times) x.weight (bases_of (leads_in x.leads))) edges_is (subst (λ es. IsTreeOf edges (points_over o es times) x.weight (bases_of (leads_in x.leads))) is.all done.tree))
-          (subst (λ es. AreSingles (arcs_of es) (Root ∷ []) (points_over o p.recent times) x.singles.items) edges_is (subst (λ es. AreSingles (arcs_of edges) (Root ∷ []) (points_over o es times) x.singles.items) is.all done.singles))
-          (length-map (leads_in x.leads) (λ (l : GraphLead). base_handle l.begins) ∙ done.count ∙ length-map times (point_over o recent))
-          (graphs (listed_by p) (held_there image m s) (points_of_session image m s))
-
-      no_damage_here : (r : Result Retrieved RetrievalFault) (image : List ℕ) (m : MachineState) (s : StandsFor p image m)
-          → IfErr r (λ f. ArePoints (z_of p o image m is.there s) (points_over o recent times) times → IsNoDamage f) → IfErr r IsNoDamage
-      no_damage_here (Ok x) image m s never = tt
-      no_damage_here (Err f) image m s never = never (points_of_session image m s)
-
-  -- whatever the image is, there is a lead for each instant
-  pub has_retrieved : (r : Result Retrieved RetrievalFault) → EventNamesAreThere names recent → IfOk r (λ x. All (BeginsOn p.table cols) (leads_in x.leads))
-      → IfOk r (IsRetrieval names recent edges (points_over o recent times)) → IfOk r (HasRetrieved p times cols)
-  has_retrieved (Err f) there bases done = tt
-  has_retrieved (Ok x) there bases done = record {
-    bases = bases;
-    count = done.count ∙ length-map times (point_over o recent);
-    sum = done.sum;
-    named = subst (λ n. All (λ (l : GraphLead). NamesAreThere n l.delta.plus) (leads_in x.leads)) is.count (done.named there);
-  }
-
--- ---- what a retrieval is said to be for each state
-
-module _ (p : Parts) (times : List ℕ) (cols : Columns) (told : Option (List ℕ)) (before after : ℕ) where
-  abbrev pub For : Result Retrieved RetrievalFault → Type 0
-  For r = IfSome told (λ image. (m : MachineState) → StandsFor p image m → RetrievesFor m p times cols before after r)
-
-  pub retrieved_of : (x : Retrieved) → For (Ok x)
-      → IfSome told (λ image. (m : MachineState) → StandsFor p image m → IsRetrieved m times cols x.weight x.singles.items (bases_of (leads_in x.leads)) (map (led_to p.graph (listed_by p) cols) (leads_in x.leads)))
-  retrieved_of x over = if_some told (λ image. (m : MachineState) → StandsFor p image m → RetrievesFor m p times cols before after (Ok x)) _ (λ image f m s. (f m s).retrieved) over
-
-  pub taken_of : (x : Retrieved) → For (Ok x) → IfSome told (λ image. (m : MachineState) → StandsFor p image m → Takes x.weight before after)
-  taken_of x over = if_some told (λ image. (m : MachineState) → StandsFor p image m → RetrievesFor m p times cols before after (Ok x)) _ (λ image f m s. (f m s).takes) over
-
-  pub most_of : (r : Result Retrieved RetrievalFault) → For r → IfSome told (λ image. (m : MachineState) → StandsFor p image m → TakesAtMostTree (edges_in m cols) (points_for m times) before after)
-  most_of r over = if_some told (λ image. (m : MachineState) → StandsFor p image m → RetrievesFor m p times cols before after r) _ (λ image f m s. (f m s).most) over
-
-  pub never_of : (f : RetrievalFault) → For (Err f) → IfSome told (λ image. (m : MachineState) → StandsFor p image m → IsNoDamage f)
-  never_of f over = if_some told (λ image. (m : MachineState) → StandsFor p image m → RetrievesFor m p times cols before after (Err f)) _ (λ image h m s. (h m s).never) over

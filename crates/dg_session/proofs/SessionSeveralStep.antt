@@ -1,5 +1,5 @@
 -- The answer to the retrieval of several instants.
-use Rattle.std.proofs.Common.{◌≡◌, ℕ, true, false, ◌≤◌, List, [], Option, None, length, map, take, refl, sym, ◌∙◌, ap, subst}
+use Rattle.std.proofs.Common.{◌≡◌, ℕ, ◌+◌, true, false, ◌≤◌, List, [], Option, None, length, map, take, refl, sym, ◌∙◌, ap, subst}
 use Rattle.std.specs.Prelude.{IfSome}
 use Rattle.std.specs.List.{sum}
 use Rattle.dg_fold.specs.BytesRead.{TakesAtMost}
@@ -12,7 +12,7 @@ use Rattle.dg_machine.specs.declared.reply.BodyLine.{BodyLine}
 use Rattle.dg_machine.specs.declared.reply.Head.{Head}
 use Rattle.dg_machine.specs.declared.reply.Head.TheVariants as head
 use Rattle.dg_machine.specs.declared.reply.Reply.{Reply}
-use Rattle.dg_machine.specs.Answer.{accepted, base_for, handle_lines, is_refusal, overlays, several_reply, weight_told, with_handles}
+use Rattle.dg_machine.specs.Answer.{accepted, base_for, handle_lines, heard_for, is_refusal, overlays, several_reply, weight_told, with_handles, with_heard}
 use Rattle.dg_machine.specs.MachineState.{MachineState}
 use Rattle.dg_machine.specs.Needs.{needs}
 use Rattle.dg_machine.specs.Planning.{IsPlanned, Planned, edges_in, no_plan, point_for, points_for}
@@ -20,7 +20,6 @@ use Rattle.dg_plan.specs.IndexGraph.{arcs_of}
 use Rattle.dg_history.specs.declared.node.NodeId.{NodeId}
 use Rattle.dg_plan.specs.TreePaths.{base_under}
 use Rattle.dg_plan.specs.Walks.{Graft, steps_of, tree_weight}
-use Rattle.dg_retrieval.specs.Retrieval.{TakesAtMostTree}
 use Rattle.dg_session.proofs.ReplyNames.{handle_names}
 use Rattle.dg_session.specs.ReplyNames.{LineNamesAreThere, ReplyNamesAreThere}
 use Rattle.std.specs.List.{All}
@@ -29,7 +28,7 @@ use Rattle.dg_session.proofs.PartStates.{one_image, one_told}
 use Rattle.dg_session.specs.Decided.{IsHeadOf}
 use Rattle.dg_session.specs.Parts.{Parts}
 use Rattle.dg_session.specs.BatchReads.{is_early}
-use Rattle.dg_session.specs.Reads.{IsRetrieved, Reads, with_new_handles}
+use Rattle.dg_session.specs.Reads.{IsRetrieved, Reads, TakesAtMostRetrieval, with_new_handles}
 use Rattle.dg_session.specs.Session.{Accepts, StandsFor, refused_by, retrieval_needs}
 
 module _ (p : Parts) (cols : Columns) (times : List ℕ) (count : ℕ) (number : length (take count times) ≡ count) (some : 1 ≤ count) where
@@ -55,13 +54,19 @@ module _ (p : Parts) (cols : Columns) (times : List ℕ) (count : ℕ) (number :
         (λ m x y a b s.
         let r = one_told before (λ image. (k : MachineState) → StandsFor p image k → IsRetrieved k (take count times) cols weight singles bases graphs) x got a m s in
         let due : several_reply p.next weight (take count times) singles ≡ reply =
-        (λ i. let d : Reply = record { head = head.Several weight (sym total_is i); body = sym lines_are i } in d) ∙ sym reply_is in (
-          record no_plan { grafts = r.tree.0; singles = singles },
+        (λ i. let d : Reply = record { head = head.Several weight (sym total_is i); body = sym lines_are i } in d) ∙ sym reply_is in
+        let heard : ℕ = heard_for m cols (take count times) in
+        let tree : ℕ = tree_weight (arcs_of (edges_in m cols)) r.tree.1.0 in
+        let weighs : weight ≡ tree + heard = r.tree.2 ∙ ap (λ w. w + heard) r.tree.1.2 in
+        let plans : List ℕ = with_heard m cols (take count times) r.single_plans.0 in (
+          record no_plan { grafts = r.tree.1.0; singles = r.single_plans.0 },
           with_handles m (overlays_on cols (take count times) bases),
-          (r.tree.1, r.single_plans),
+          (r.tree.1.1, r.single_plans.1),
           (λ i. record {
-            reply = (ap (λ n. several_reply n (tree_weight (arcs_of (edges_in m cols)) r.tree.0) (take count times) singles) (sym s.next) ∙ ap (λ w. several_reply p.next w (take count times) singles) (sym r.tree.2) ∙ due) i;
-            state = with_handles m (sym (overlays_are m r.tree.0 bases r.tree.3) i);
+            reply =
+                (ap (λ n. several_reply n (tree + heard) (take count times) plans) (sym s.next) ∙ ap (λ w. several_reply p.next w (take count times) plans) (sym weighs)
+                ∙ ap (several_reply p.next weight (take count times)) (sym r.single_plans.2) ∙ due) i;
+            state = with_handles m (sym (overlays_are m r.tree.1.0 bases r.tree.1.3) i);
           }),
           handles_stand p q x y m (take count times) cols weight singles bases graphs s (one_image before after x y same a b) (subst (λ n. 1 ≤ n) (sym number) some) free r is,
         )))
@@ -71,11 +76,11 @@ module _ (p : Parts) (cols : Columns) (times : List ℕ) (count : ℕ) (number :
 
     -- where it fails, the bytes read are at most what its reply would tell
     pub several_fails : (image : Option (List ℕ)) (h : Head) (before after : ℕ) → is_refusal h ≡ true → is_early h ≡ false
-        → IfSome image (λ bytes. (m : MachineState) → StandsFor p bytes m → TakesAtMostTree (edges_in m cols) (points_for m (take count times)) before after)
+        → IfSome image (λ bytes. (m : MachineState) → StandsFor p bytes m → TakesAtMostRetrieval m (take count times) cols before after)
         → Reads (command.Several cols times count) p image h before after
     several_fails image h before after refuses late most =
         reads_failed (command.Several cols times count) p image h before after refl refuses late (λ m got reads. reads) (λ got. needed ∙ free)
-        (if_some image (λ bytes. (m : MachineState) → StandsFor p bytes m → TakesAtMostTree (edges_in m cols) (points_for m (take count times)) before after)
+        (if_some image (λ bytes. (m : MachineState) → StandsFor p bytes m → TakesAtMostRetrieval m (take count times) cols before after)
         (λ bytes. (m : MachineState) → StandsFor p bytes m → (got : List ScriptLine) (plan : Planned) → IsPlanned m (command.Several cols times count) plan
         → TakesAtMost (weight_told (accepted m (command.Several cols times count) got plan).reply.head) before after)
         (λ x f m s got plan planned. f m s plan.grafts planned.0) most)

@@ -22,4 +22,5 @@ is_early (head.Refused refusal.AlreadyLoaded) = true
 is_early (head.Refused (refusal.ShortBatch read asked)) = true
 is_early (head.Refused (refusal.HistoryFull held asked)) = true
 is_early (head.Refused (refusal.BadChange number reason)) = true
+is_early (head.Refused refusal.OldFormat) = true
 is_early h = false

@@ -5,6 +5,7 @@ use Rattle.dg_graph.specs.declared.function.Function.TheVariants as function
 use Rattle.dg_history.specs.declared.params.Params.{Params}
 use Rattle.dg_machine.specs.declared.command.Command.{Command}
 use Rattle.dg_machine.specs.declared.command.Command.TheVariants as command
+use Rattle.dg_machine.specs.Needs.{share_of}
 use Rattle.dg_session.specs.declared.creation_command.AskedFunction.{AskedFunction}
 use Rattle.dg_session.specs.declared.creation_command.AskedFunction.TheVariants.{Named, Share}
 
@@ -13,9 +14,9 @@ abbrev pub making : ℕ → ℕ → AskedFunction → Command
 making l k (Named f) = command.Create l k f
 making l k (Share r) = command.CreateSkewed l k r
 
--- the share that is tested: that of a named function is not
+-- the share that is tested
 abbrev pub share_asked : AskedFunction → ℕ
-share_asked (Named f) = 0
+share_asked (Named f) = share_of f
 share_asked (Share r) = r
 
 abbrev pub function_asked : AskedFunction → Function

@@ -1,5 +1,5 @@
 -- Which damage a refusal names, and where there is none.
-use Rattle.std.specs.Prelude.{◌≡◌, ℕ, false, List, [], ◌∷◌, Option, Some, None, Result, Ok, Err, IfSome, length, take}
+use Rattle.std.specs.Prelude.{◌≡◌, ◌⊎◌, ℕ, true, false, List, [], ◌∷◌, Option, Some, None, Result, Ok, Err, IfSome, length, take}
 use Rattle.dg_append.specs.OlderGroups.{AreUndamaged, IsBatchDamage, in_groups, older_children}
 use Rattle.dg_graph.specs.declared.element.Column.{Column}
 use Rattle.dg_graph.specs.declared.element.Columns.{Columns}
@@ -13,6 +13,8 @@ use Rattle.dg_machine.specs.Answer.{refusal_of}
 use Rattle.dg_machine.specs.declared.reply.Head.{Head}
 use Rattle.dg_machine.specs.declared.reply.Refusal.{Refusal}
 use Rattle.dg_machine.specs.declared.reply.Reply.{Reply}
+use Rattle.dg_messages.specs.Calls.{AreHeard, IsFirstMessageDamage}
+use Rattle.dg_plan.specs.declared.edge.Edge.{Edge}
 use Rattle.dg_retrieval.specs.declared.fault.RetrievalFault.{RetrievalFault}
 use Rattle.dg_retrieval.specs.declared.fault.RetrievalFault.TheVariants as fault
 use Rattle.dg_retrieval.specs.KeptGraph.{index_edges, kept_edges}
@@ -41,12 +43,22 @@ reads_for (command.Append count) = Batch_of count
 reads_for (command.Workload seed count) = Batch_of count
 reads_for c = Nothing_read
 
+-- the graph in which the tree of a retrieval in these columns is planned, over the index that the session keeps
+abbrev pub edges_for : Parts → Opening → Columns → List Edge
+edges_for old o cols = kept_edges o (event_total o.batches) cols (bases_in cols old.table)
+
+-- no column is damaged that the tree of the instants enters
+abbrev pub IsTreeUndamaged : Parts → Opening → List ℕ → Columns → List ℕ → Type 0
+IsTreeUndamaged old o times cols bytes = IsUndamaged (length old.names) (edges_for old o cols) o cols (points_over o old.recent times) bytes
+
 -- Of a retrieval that fails so: a damage that the fault names is the first among the columns that the tree of its
--- instants enters over the index that the session keeps, in the order of its steps and of the columns.
+-- instants enters over the index that the session keeps, in the order of its steps and of the columns; or none of these
+-- is damaged, and it is the first among the columns of messages that are asked for, in the order of the lists.
 abbrev pub NamesDamage : Parts → Option (List ℕ) → List ℕ × Columns → RetrievalFault → Type 0
 NamesDamage old image asked f =
     (o : Opening) × (old.index ≡ Some o)
-    × IfSome image (λ bytes. IsFirstDamage (length old.names) (kept_edges o (event_total o.batches) asked.1 (bases_in asked.1 old.table)) o asked.1 (points_over o old.recent asked.0) bytes f)
+    × IfSome image (λ bytes. IsFirstDamage (length old.names) (edges_for old o asked.1) o asked.1 (points_over o old.recent asked.0) bytes f
+    ⊎ ((asked.1.transient ≡ true) × IsTreeUndamaged old o asked.0 asked.1 bytes × IsFirstMessageDamage (length old.names) bytes o asked.0 f))
 
 -- Of the set of a node that is not read so: the first damage among the columns that its plan enters, over the records
 -- alone.
@@ -72,7 +84,7 @@ IsMetBy Nothing_read old image key col = ⊥
 abbrev pub MeetsNone : ReadsFor → Parts → Option (List ℕ) → Type 0
 MeetsNone (Graphs times cols) old image =
     (o : Opening) × (old.index ≡ Some o)
-    × IfSome image (λ bytes. IsUndamaged (length old.names) (kept_edges o (event_total o.batches) cols (bases_in cols old.table)) o cols (points_over o old.recent times) bytes)
+    × IfSome image (λ bytes. IsTreeUndamaged old o times cols bytes × (cols.transient ≡ true → AreHeard (length old.names) bytes o times))
 MeetsNone (Node_set node cols) old image =
     (o : Opening) × (old.index ≡ Some o)
     × IfSome image (λ bytes. IsUndamaged (length old.names) (index_edges o cols false []) o cols (node ∷ []) bytes)

@@ -15,6 +15,7 @@ use Rattle.dg_machine.specs.Needs.{Needs}
 -- added, of the file where it grows, of records where they are read, and of memory where it is taken.
 abbrev pub is_late : Needs → Refusal → Bool
 is_late n (refusal.BadChange line reason) = n.reads && n.writes
+is_late n refusal.OldFormat = n.reads && n.writes
 is_late n (refusal.FileFull needed limit) = n.index && n.writes
 is_late n refusal.StoreRead = n.reads
 is_late n (refusal.Damaged key column) = n.reads
@@ -24,7 +25,7 @@ is_late n r = false
 -- the first line of a reply to what is asked of this handle
 abbrev pub IsHeadOfQuery : Query → ℕ → Head → Type 0
 IsHeadOfQuery query.List handle (head.List h lines) = h ≡ handle
-IsHeadOfQuery query.Counts handle (head.Counts h counts) = h ≡ handle
+IsHeadOfQuery query.Counts handle (head.Counts h counts with_messages) = h ≡ handle
 IsHeadOfQuery (query.Node id) handle (head.NodeThere h node degree) = (h ≡ handle) × (node ≡ id)
 IsHeadOfQuery (query.Node id) handle (head.NodeAbsent h node) = (h ≡ handle) × (node ≡ id)
 IsHeadOfQuery (query.Neighbours id) handle (head.Neighbours h node lines) = (h ≡ handle) × (node ≡ id)

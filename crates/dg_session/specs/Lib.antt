@@ -11,6 +11,7 @@ pub mod BatchCommand
 pub mod CreationCommand
 pub mod Upgrade
 pub mod BatchReads
+pub mod Retrievals
 pub mod Reads
 pub mod Damage
 pub mod Calls

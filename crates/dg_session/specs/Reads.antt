@@ -17,19 +17,19 @@ use Rattle.dg_machine.specs.declared.reply.Head.TheVariants as head
 use Rattle.dg_machine.specs.declared.reply.Reply.{Reply}
 use Rattle.dg_machine.specs.declared.stands.Stands.{Stands}
 use Rattle.dg_machine.specs.declared.stands.Stands.TheVariants.{Base}
-use Rattle.dg_machine.specs.Answer.{IsPlannedBy, answer, is_refusal, weight_told}
+use Rattle.dg_machine.specs.Answer.{IsPlannedBy, answer, heard_for, is_refusal, weight_told, with_heard}
 use Rattle.dg_machine.specs.MachineState.{MachineState, elements, history_in}
 use Rattle.dg_machine.specs.Needs.{needs, refused}
 use Rattle.dg_machine.specs.Planning.{Planned, edges_in, points_for, record_edges_in}
 use Rattle.dg_plan.specs.HistoryGraph.{all_columns}
 use Rattle.dg_plan.specs.IndexGraph.{arcs_of}
-use Rattle.dg_plan.specs.Walks.{AreSingles, IsPlan, weight_of}
+use Rattle.dg_plan.specs.Walks.{AreSingles, Graft, IsPlan, IsTree, tree_weight, weight_of}
 use Rattle.dg_retrieval.specs.declared.fault.RetrievalFault.{RetrievalFault}
 use Rattle.dg_retrieval.specs.declared.node_lead.NodeLead.{NodeLead}
 use Rattle.dg_retrieval.specs.declared.retrieval.Retrieved.{Retrieved}
 use Rattle.dg_retrieval.specs.Beginnings.{GraphLead, base_handle, leads_in, led_to}
 use Rattle.dg_retrieval.specs.NamesThere.{NamesAreThere}
-use Rattle.dg_retrieval.specs.Retrieval.{IsNoDamage, IsTreeOf, TakesAtMostTree}
+use Rattle.dg_retrieval.specs.Retrieval.{IsNoDamage, IsTreeOf}
 use Rattle.dg_batch.specs.declared.halt.Halt.{Halt}
 use Rattle.dg_batch.specs.declared.halt.Halt.TheVariants as halt
 use Rattle.dg_batch.specs.declared.stop.Stop.{Stop}
@@ -54,11 +54,12 @@ bases_of leads = map (λ (l : GraphLead). base_handle l.begins) leads
 abbrev pub listed_by : Parts → ℕ → List Element
 listed_by p handle = held_by p.table p.graphs handle
 
--- These graphs are those as of the instants, on these bases, by a tree over the index of this state that weighs so
--- much, beside the weights of the single plans.
+-- These graphs are those as of the instants, on these bases, by a tree over the index of this state, with the messages
+-- that are asked for: tree and messages weigh so much together, beside the weights of the single plans, each with its
+-- messages.
 pub record IsRetrieved (m : MachineState) (times : List ℕ) (cols : Columns) (weight : ℕ) (singles : List ℕ) (bases : List (Option ℕ)) (graphs : List (List Element)) : Type 0 where
-  pub tree : IsTreeOf (edges_in m cols) (points_for m times) weight bases
-  pub single_plans : AreSingles (arcs_of (edges_in m cols)) (Root ∷ []) (points_for m times) singles
+  pub tree : (tree : ℕ) × IsTreeOf (edges_in m cols) (points_for m times) tree bases × (weight ≡ tree + heard_for m cols times)
+  pub single_plans : (plans : List ℕ) × AreSingles (arcs_of (edges_in m cols)) (Root ∷ []) (points_for m times) plans × (singles ≡ with_heard m cols times plans)
   pub listed : graphs ≡ map (elements (history_in m.index)) (overlays_on cols times bases)
 
 -- This is what the node has in these columns, by its least plan over the records of the index of this state, which
@@ -67,12 +68,18 @@ pub record IsNodeHeld (m : MachineState) (node : NodeId) (cols : Columns) (weigh
   pub plan : (steps : List ℕ) × IsPlan (arcs_of (record_edges_in m cols)) (Root ∷ []) node steps × (weight ≡ weight_of (arcs_of (record_edges_in m cols)) steps)
   pub listed : graph ≡ elements (history_in m.index) (Base node cols)
 
--- Over an image that stands for the state: what is retrieved is that, as many bytes are read as the tree weighs, never
--- more than it would, and no damage is met.
+-- the bytes read are at most what the tree of the instants weighs, with the messages that are asked for
+abbrev pub TakesAtMostRetrieval : MachineState → List ℕ → Columns → ℕ → ℕ → Type 0
+TakesAtMostRetrieval m times cols before after =
+    (grafts : List (Graft NodeId)) → IsTree (arcs_of (edges_in m cols)) (Root ∷ []) (points_for m times) grafts
+    → TakesAtMost (tree_weight (arcs_of (edges_in m cols)) grafts + heard_for m cols times) before after
+
+-- Over an image that stands for the state: what is retrieved is that, as many bytes are read as it weighs, never more
+-- than it would, and no damage is met.
 pub record RetrievesFor (m : MachineState) (p : Parts) (times : List ℕ) (cols : Columns) (before after : ℕ) (r : Result Retrieved RetrievalFault) : Type 0 where
   pub retrieved : IfOk r (λ x. IsRetrieved m times cols x.weight x.singles.items (bases_of (leads_in x.leads)) (map (led_to p.graph (listed_by p) cols) (leads_in x.leads)))
   pub takes : IfOk r (λ x. Takes x.weight before after)
-  pub most : TakesAtMostTree (edges_in m cols) (points_for m times) before after
+  pub most : TakesAtMostRetrieval m times cols before after
   pub never : IfErr r IsNoDamage
 
 -- Over any image: there is a lead for each instant, which begins on what the session has and puts in names that it has.

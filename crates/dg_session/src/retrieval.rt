@@ -15,6 +15,7 @@ ghost use Rattle.dg_retrieval.specs.Calls.{IsRetrieval, LeadsToNode, LeadsToNode
 ghost use Rattle.dg_retrieval.specs.KeptGraph.{IsKeptGraph, index_edges, kept_nodes};
 ghost use Rattle.dg_retrieval.specs.NodeSets.{IsIndexOver};
 ghost use Rattle.dg_retrieval.specs.Retrieval.{IsOver};
+ghost use Rattle.dg_session.specs.Retrievals.{LeadsOver, LeadsToInstants, TellsLeadDamage};
 
 use dg_ask::{point_of, record_planner};
 use dg_disk::Disk;
@@ -22,6 +23,7 @@ use dg_file::Index;
 use dg_graph::{Columns, Event};
 use dg_history::NodeId;
 use dg_machine::BodyLine;
+use dg_messages::hear;
 use dg_planner::{Planner, law_nodes_are_listed};
 use dg_retrieval::{NodeLead, RetrievalFault, Retrieved, retrieve, retrieve_node};
 use std::alloc::{AllocError, Global};
@@ -43,9 +45,9 @@ fn points_of(
     Ok(points)
 }
 
-/// What leads to the graphs as of the instants in these columns, by one tree through the graph of the planner. The
-/// history has so many names; its current graph and its recent events are in memory, and the instants are in it.
-pub fn leads_at<R: Threads, D: Disk>(
+// What leads to the graphs as of the instants in these columns without their messages, by one tree through the graph of
+// the planner.
+fn tree_leads<R: Threads, D: Disk>(
     rt: &R,
     alloc: Global,
     index: &mut Index,
@@ -73,6 +75,52 @@ pub fn leads_at<R: Threads, D: Disk>(
     retrieve(
         rt, alloc, index, disk, name_count, recent, planner, &targets, times, cols,
     )
+}
+
+/// What leads to the graphs as of the instants in these columns, by one tree through the graph of the planner, and, where
+/// messages are asked for, to the messages of exactly each of them. The history has so many names; its current graph and
+/// its recent events are in memory, and the instants are in it. The records of the tree are read first.
+pub fn leads_at<R: Threads, D: Disk>(
+    rt: &R,
+    alloc: Global,
+    index: &mut Index,
+    disk: &mut D,
+    name_count: u32,
+    recent: &[Event],
+    planner: &Planner,
+    times: &[u64],
+    cols: Columns,
+) -> Result<Retrieved, RetrievalFault>
+    requires image { IfSome (D.image disk.old) (λ image. IsOpenedAs image index.old.opening) }
+    requires edges { IsKeptGraph index.old.opening cols planner.now.edges }
+    requires nodes { planner.now.nodes ≡ kept_nodes index.old.opening (event_total index.old.opening.batches) cols }
+    requires few { length times.now ≤ TIMES_MAX }
+    requires there { list_any (λ t. not (in_range (span_held (Some index.old.opening)) t)) times.now ≡ false }
+
+    // what it gives, of which the second holds over an image of a history
+    ensures done { IfOk result (LeadsToInstants name_count recent.now planner.now.edges index.old.opening
+        (points_over index.old.opening recent.now times.now) times.now cols) }
+    ensures over { IfSome (D.image disk.old) (λ image. (z : History) (now : List Element) → IsOver z image index.old.opening name_count now recent.now
+        → LeadsOver z now planner.now.edges index.old.opening (points_over index.old.opening recent.now times.now) times.now cols
+        (D.taken disk.old) (D.taken disk.new) result) }
+
+    // where columns are damaged
+    ensures damage { IfSome (D.image disk.old) (λ image. TellsLeadDamage name_count planner.now.edges index.old.opening
+        (points_over index.old.opening recent.now times.now) times.now cols image result) }
+
+    // what it leaves, and why a read failed
+    ensures reads { ReadsRecords D.Disk index.old index.new disk.old disk.new result }
+{
+    let retrieved = match tree_leads(
+        rt, alloc, index, disk, name_count, recent, planner, times, cols,
+    ) {
+        Ok(retrieved) => retrieved,
+        Err(fault) => return Err(fault),
+    };
+    if !cols.transient {
+        return Ok(retrieved);
+    }
+    hear(alloc, index, disk, name_count, recent, times, retrieved)
 }
 
 /// What leads from nothing to the set of a leaf or an interior node of the index, in these columns, by its least plan

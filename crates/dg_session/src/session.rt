@@ -167,9 +167,10 @@ impl Session {
     /// Carries out the command, and answers it. A load and an append read the lines that follow them,
     /// whatever the answer is. A reply that is a refusal leaves what the session keeps, the graphs of its
     /// handles among it, and the disk's image as they were. Only what reads records is refused for damage: a retrieval
-    /// for the first column that its tree enters and that is in no spelling, a node that is to be held for the first that
-    /// its plan enters, a batch for the first that the trees of the older children of the interior nodes that it completes
-    /// enter. One of these that is not refused has met no such column. Each name in a reply is in the list of names.
+    /// for the first column that its tree enters and that is in no spelling, or where there is none for the first column
+    /// of messages that are asked for, a node that is to be held for the first that its plan enters, a batch for the first
+    /// that the trees of the older children of the interior nodes that it completes enter. One of these that is not
+    /// refused has met no such column. Each name in a reply is in the list of names.
     ///
     /// `Stop::Read` where a read of the source failed, `Stop::Limit` where another byte is needed and
     /// as many as the limit allows were taken: the session is then as it was. `Stop::Store` where the

@@ -23,7 +23,7 @@ use dg_ask::span;
 use dg_batch::{Halt, Stop, add_changes, generated_batch, read_batch};
 use dg_disk::Disk;
 use dg_file::Index;
-use dg_history::{Form, Params, are_parameters, is_function};
+use dg_history::{Form, Params, are_parameters};
 use dg_io::{Lines, Source};
 use dg_machine::{Command, Head, Refusal, Reply};
 use dg_text::NAMES_MAX;
@@ -78,10 +78,6 @@ impl Session {
             return Err(Halt::Refusal(refusal));
         }
         let function = asked.function();
-        // No line names such a function.
-        if !is_function(function) {
-            return Err(Halt::Refusal(Refusal::OutOfMemory));
-        }
         let params = Params { l, k, function };
         let index = Index::create(self.alloc, disk, Form::Two, params)?;
         self.planner.forget();

@@ -2,7 +2,7 @@
 
 ghost use Rattle.std.specs.Prelude.{◌≡◌, ℕ, ◌<◌, IfErr, OnOk, List, [], Ok, Option, None, Some, is_some, true, false, IfOk};
 ghost use Rattle.dg_handles.specs.Handles.{IsTied, graph_among, slot_graphs};
-ghost use Rattle.dg_machine.specs.Answer.{headed};
+ghost use Rattle.dg_machine.specs.Answer.{columns_if, headed};
 ghost use Rattle.dg_machine.specs.declared.stands.Stands.TheVariants as Stands;
 ghost use Rattle.dg_machine.specs.Needs.{is_base, needs};
 ghost use Rattle.dg_machine.specs.MachineState.{stands_at};
@@ -66,7 +66,15 @@ impl Session {
         ensures no_stop { (stop : Stop) → result ≡ Err (Halt.Stop stop) → ⊥ }
     {
         let counts = self.graph_of(handle)?.counts();
-        Ok(headed(self.alloc, Head::Counts { handle, counts }))
+        let with_messages = has_messages(self.held.handles.stands(handle));
+        Ok(headed(
+            self.alloc,
+            Head::Counts {
+                handle,
+                counts,
+                with_messages,
+            },
+        ))
     }
 
     // A node of a handle's graph, with its degree and its attributes.
@@ -90,6 +98,16 @@ impl Session {
             .adjacency
             .neighbours(self.alloc, handle, &graph, id)?;
         Ok(neighbours_reply(self.alloc, handle, id, &neighbours)?)
+    }
+}
+
+// Whether the columns of what a handle stands for have messages; none has, where it is not live.
+fn has_messages(stands: Option<Stands>) -> bool
+    ensures { result ≡ (columns_if stands).transient }
+{
+    match stands {
+        Some(Stands::Overlay { cols, .. } | Stands::Base { cols, .. }) => cols.transient,
+        None => false,
     }
 }
 

@@ -24,6 +24,7 @@ use dg_ask::span;
 use dg_batch::{Halt, Stop};
 use dg_disk::Disk;
 use dg_graph::Columns;
+use dg_heard::law_heard_bytes_are_the_historys;
 use dg_machine::{
     BodyLines, Command, HANDLE_MAX, Head, LIVE_HANDLES_MAX, Refusal, Reply, TIMES_MAX,
 };
@@ -55,7 +56,8 @@ impl Session {
         None
     }
 
-    // What leads to the graphs as of the instants in these columns, by one tree.
+    // What leads to the graphs as of the instants in these columns, by one tree, and to their messages, where these are
+    // asked for.
     pub(super) fn retrieve<R: Threads, D: Disk>(
         &mut self,
         rt: &R,
@@ -81,6 +83,7 @@ impl Session {
         ensures same { self.new ≡ self.old }
         ensures disk { ReadsDisk D.Disk disk.old disk.new }
     {
+        law_heard_bytes_are_the_historys();
         let Some(index) = &mut self.held.live.history.index else {
             unreachable!()
         };

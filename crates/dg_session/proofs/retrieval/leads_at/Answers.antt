@@ -1,36 +1,68 @@
-use Rattle.std.proofs.Common.{List, sym, ◌∙◌, subst}
+use Rattle.std.proofs.Common.{ℕ, List, Option, subst}
 use Rattle.std.specs.Prelude.{IfOk, IfSome}
-use Rattle.std.specs.List.{All, Contains}
+use Rattle.std.proofs.lemmas.Bool.{not-false, not-true}
+use Rattle.std.proofs.lemmas.Option.{IfSome_then}
+use Rattle.std.proofs.lemmas.List.{length-map}
+use Rattle.dg_ask.specs.HeldIndex.{point_over, points_over}
+use Rattle.dg_file.specs.Index.{IndexState}
 use Rattle.dg_graph.specs.declared.element.Element.{Element}
-use Rattle.dg_history.specs.declared.node.NodeId.{NodeId}
 use Rattle.dg_history.specs.History.{History}
-use Rattle.dg_index.specs.OpenedIndex.{Opening, event_total}
-use Rattle.dg_retrieval.specs.Calls.{IsRetrieval, RetrievesOver, TellsDamage}
-use Rattle.dg_retrieval.specs.KeptGraph.{kept_nodes}
+use Rattle.dg_index.specs.OpenedIndex.{Opening}
+use Rattle.dg_messages.specs.Calls.{HasMessages, HearsOver, TakesHeard, TellsMessageDamage}
+use Rattle.dg_retrieval.proofs.CallRecords.{of_both, of_three}
 use Rattle.dg_retrieval.specs.Retrieval.{IsOver}
-use Rattle.dg_session.proofs.SessionRetrievals.{points_there}
+use Rattle.dg_session.proofs.MessageLeads.{heard_damage, heard_leads, heard_over, plain_leads, plain_over, tree_fails}
 use Rattle.dg_session.proofs.retrieval.leads_at.Goals as goal
 
-pub retrieve-requires-clause-targets : goal.retrieve-requires-clause-targets
-retrieve-requires-clause-targets g c =
+pub returns-in-Err-clause-over : goal.returns-in-Err-clause-over
+returns-in-Err-clause-over g c =
     let o : Opening = c.args.index.now.opening in
-    subst (λ (ns : List NodeId). All (Contains ns) c.deref.result.now) (sym c.requires.nodes)
-    (subst (λ (ts : List NodeId). All (Contains (kept_nodes o (event_total o.batches) c.args.cols)) ts) (sym (c.deref.ensures.value ∙ c.in_ok-targets.ensures))
-    (points_there o c.args.recent.now c.args.cols c.args.times.now (record { parameters = c.facts.ensures.parameters; kept = c.facts.ensures.kept; few = c.facts.ensures.few }) c.requires.there))
+    IfSome_then (g.D.Disk.image c.args.disk.now) c.in-Err.ensures.over
+    (λ image over z now is. tree_fails c.args.name_count c.args.recent.now c.args.planner.now.edges o (points_over o c.args.recent.now c.args.times.now) c.args.times.now c.args.cols
+    z now (g.D.Disk.taken c.args.disk.now) (g.D.Disk.taken c.tree_leads.new.disk) c.in-Err.fault (over z now is))
+
+pub returns-then-not-cols-clause-done : goal.returns-then-not-cols-clause-done
+returns-then-not-cols-clause-done g c =
+    let o : Opening = c.args.index.now.opening in
+    plain_leads c.args.name_count c.args.recent.now c.args.planner.now.edges o (points_over o c.args.recent.now c.args.times.now) c.args.times.now c.args.cols (not-true c.args.cols.transient c.if-not-cols.true)
+    c.in-Ok.retrieved (length-map c.args.times.now (point_over o c.args.recent.now)) c.in-Ok.ensures.done
+
+pub returns-then-not-cols-clause-over : goal.returns-then-not-cols-clause-over
+returns-then-not-cols-clause-over g c =
+    let o : Opening = c.args.index.now.opening in
+    IfSome_then (g.D.Disk.image c.args.disk.now) c.in-Ok.ensures.over
+    (λ image over z now is. plain_over c.args.name_count c.args.recent.now c.args.planner.now.edges o (points_over o c.args.recent.now c.args.times.now) c.args.times.now c.args.cols (not-true c.args.cols.transient c.if-not-cols.true)
+    z now (g.D.Disk.taken c.args.disk.now) (g.D.Disk.taken c.tree_leads.new.disk) c.in-Ok.retrieved (over z now is))
 
 pub returns-clause-done : goal.returns-clause-done
 returns-clause-done g c =
-    subst (λ (targets : List NodeId). IfOk c.retrieve.result (IsRetrieval c.args.name_count c.args.recent.now c.args.planner.now.edges targets)) (c.deref.ensures.value ∙ c.in_ok-targets.ensures) c.retrieve.ensures.done
+    let o : Opening = c.args.index.now.opening in
+    heard_leads c.args.name_count c.args.recent.now c.args.planner.now.edges o (points_over o c.args.recent.now c.args.times.now) c.args.times.now c.args.cols (not-false c.args.cols.transient c.if-not-cols.false) c.in-Ok.retrieved c.in-Ok.ensures.done
+    (g.D.Disk.image c.tree_leads.new.disk) c.hear.result
+    (subst (λ (x : IndexState). IfOk c.hear.result (HasMessages c.args.name_count x.opening (g.D.Disk.image c.tree_leads.new.disk) c.args.recent.now c.args.times.now c.in-Ok.retrieved)) c.tree_leads.ensures.reads.same c.hear.ensures.done)
 
 pub returns-clause-over : goal.returns-clause-over
 returns-clause-over g c =
-    let Over : List NodeId → Type 0 = λ targets. IfSome (g.D.Disk.image c.args.disk.now) (λ image. (z : History) (now : List Element)
-    → IsOver z image c.args.index.now.opening c.args.name_count now c.args.recent.now
-    → RetrievesOver z now c.args.planner.now.edges c.args.cols targets c.args.times.now (g.D.Disk.taken c.args.disk.now) (g.D.Disk.taken c.retrieve.new.disk) c.retrieve.result) in
-    subst Over (c.deref.ensures.value ∙ c.in_ok-targets.ensures) c.retrieve.ensures.over
+    let o : Opening = c.args.index.now.opening in
+    let same = c.tree_leads.ensures.reads.same in
+    let same_image = c.tree_leads.ensures.reads.disk.same_image in
+    let done = subst (λ (x : IndexState). IfOk c.hear.result (HasMessages c.args.name_count x.opening (g.D.Disk.image c.tree_leads.new.disk) c.args.recent.now c.args.times.now c.in-Ok.retrieved)) same c.hear.ensures.done in
+    let Hears : Option (List ℕ) → IndexState → Type 0 = λ told x. IfSome told (λ image. (z : History) (now : List Element) → IsOver z image x.opening c.args.name_count now c.args.recent.now
+    → HearsOver z c.args.times.now c.in-Ok.retrieved c.hear.result) in
+    let Taking : Option (List ℕ) → IndexState → Type 0 = λ told x. IfSome told (λ image. TakesHeard x.opening c.args.times.now (g.D.Disk.taken c.tree_leads.new.disk) (g.D.Disk.taken c.hear.new.disk) c.hear.result) in
+    let hears : Hears (g.D.Disk.image c.args.disk.now) c.args.index.now = subst (Hears (g.D.Disk.image c.args.disk.now)) same (subst (λ told. Hears told c.tree_leads.new.index) same_image c.hear.ensures.over) in
+    let taking : Taking (g.D.Disk.image c.args.disk.now) c.args.index.now = subst (Taking (g.D.Disk.image c.args.disk.now)) same (subst (λ told. Taking told c.tree_leads.new.index) same_image c.hear.ensures.takes) in
+    of_three (g.D.Disk.image c.args.disk.now) c.in-Ok.ensures.over hears taking
+    (λ image over hears takes z now is. heard_over c.args.name_count c.args.recent.now c.args.planner.now.edges o (points_over o c.args.recent.now c.args.times.now) c.args.times.now c.args.cols (not-false c.args.cols.transient c.if-not-cols.false)
+    c.in-Ok.retrieved c.in-Ok.ensures.done z image now (g.D.Disk.image c.tree_leads.new.disk) (g.D.Disk.taken c.args.disk.now) (g.D.Disk.taken c.tree_leads.new.disk) (g.D.Disk.taken c.hear.new.disk) c.hear.result is
+    (over z now is) done (hears z now is) takes)
 
 pub returns-clause-damage : goal.returns-clause-damage
 returns-clause-damage g c =
-    let Damage : List NodeId → Type 0 = λ targets. IfSome (g.D.Disk.image c.args.disk.now)
-    (λ image. TellsDamage c.args.name_count c.args.planner.now.edges c.args.index.now.opening c.args.cols targets image c.retrieve.result) in
-    subst Damage (c.deref.ensures.value ∙ c.in_ok-targets.ensures) c.retrieve.ensures.damage
+    let o : Opening = c.args.index.now.opening in
+    let Tells : Option (List ℕ) → IndexState → Type 0 = λ told x. IfSome told (λ image. TellsMessageDamage c.args.name_count x.opening c.args.times.now image c.hear.result) in
+    let tells : Tells (g.D.Disk.image c.args.disk.now) c.args.index.now =
+    subst (Tells (g.D.Disk.image c.args.disk.now)) c.tree_leads.ensures.reads.same (subst (λ told. Tells told c.tree_leads.new.index) c.tree_leads.ensures.reads.disk.same_image c.hear.ensures.damage) in
+    of_both (g.D.Disk.image c.args.disk.now) c.in-Ok.ensures.damage tells
+    (λ image undamaged tells. heard_damage c.args.name_count c.args.recent.now c.args.planner.now.edges o (points_over o c.args.recent.now c.args.times.now) c.args.times.now c.args.cols (not-false c.args.cols.transient c.if-not-cols.false)
+    c.in-Ok.retrieved c.in-Ok.ensures.done image c.hear.result undamaged tells)

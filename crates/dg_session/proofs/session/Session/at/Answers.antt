@@ -15,8 +15,9 @@ use Rattle.dg_session.specs.Parts.{Parts}
 use Rattle.dg_session.specs.Reads.{ReadsIn, bases_of, listed_by, with_new_handles, Reads}
 use Rattle.dg_session.specs.Session.{ComesTo}
 use Rattle.dg_session.proofs.SessionInstantStep.{at_answers, at_fails}
+use Rattle.dg_session.proofs.SessionLeads.{most_of, never_of, retrieved_of, taken_of}
 use Rattle.dg_session.proofs.DamageStep.{damage_in, tells_no_damage, none_met}
-use Rattle.dg_session.proofs.SessionRetrievals.{most_of, never_of, reads_failing, retrieval_failed, retrieved_of, reads_exactly, reads_unasked, taken_of}
+use Rattle.dg_session.proofs.SessionRetrievals.{reads_failing, retrieval_failed, reads_exactly, reads_unasked}
 use Rattle.dg_session.proofs.SessionSteps.{handed_out, lacking_denies, refused_denies, refused_not_read}
 use Rattle.dg_session.proofs.session.Session.at.Goals as goal
 

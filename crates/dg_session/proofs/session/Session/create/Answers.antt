@@ -1,7 +1,6 @@
 use Rattle.std.proofs.Common.{◌≡◌, [], Some, None, Ok, Err, false, length, refl, sym, ◌∙◌, ap, arith}
 use Rattle.dg_session.specs.SessionState.{SessionState}
 use Rattle.dg_batch.specs.declared.halt.Halt.TheVariants as halt
-use Rattle.dg_machine.specs.declared.reply.Refusal.TheVariants as refusal
 use Rattle.std.specs.Prelude.{is_some}
 use Rattle.dg_machine.specs.Needs.{needs}
 use Rattle.dg_batch.specs.Halt.{creation_halt}
@@ -17,7 +16,7 @@ use Rattle.dg_session.proofs.CommandCrashes.{reading_left}
 use Rattle.dg_session.proofs.CreationCrashes.{created_left, uncreated_left}
 use Rattle.dg_session.proofs.CommandDisks.{made_treats, unmade_treats, reading_treats}
 use Rattle.dg_session.specs.Calls.{TreatsDisk}
-use Rattle.dg_session.proofs.SessionCreationStep.{create_answers, create_fails, create_lacks, creation_free, no_names, reads_no_record}
+use Rattle.dg_session.proofs.SessionCreationStep.{create_answers, create_fails, creation_free, no_names, reads_no_record}
 use Rattle.dg_session.proofs.HeldIndexes.{held_made}
 use Rattle.dg_session.proofs.ReadsStep.{reads_nothing}
 use Rattle.dg_session.proofs.SessionSteps.{handed_out, refused_denies}
@@ -28,14 +27,10 @@ returns-in-Some-clause-comes g c =
     refused_denies (making c.args.l c.args.k c.args.asked) [] c.args.self.now.parts c.args.self.now.parts (g.D.Disk.image c.args.disk.now) (g.D.Disk.image c.args.disk.now) c.in-Some.refusal refl refl
     (sym c.refused_creation.ensures.first ∙ c.in-Some.is)
 
-pub returns-then-not-is_function-clause-comes : goal.returns-then-not-is_function-clause-comes
-returns-then-not-is_function-clause-comes g c =
-    create_lacks c.args.self.now.parts c.args.self.now.parts c.args.l c.args.k c.args.asked (g.D.Disk.image c.args.disk.now) (sym c.refused_creation.ensures.first ∙ c.in_default.is) refl
-
 pub returns-in_err-index-clause-comes : goal.returns-in_err-index-clause-comes
 returns-in_err-index-clause-comes g c =
     handed_out c.from_residual.result (creation_halt c.in_err-index.field-0.0) (ComesTo (making c.args.l c.args.k c.args.asked) [] c.args.self.now.parts (g.D.Disk.image c.args.disk.now) c.args.self.now.parts (g.D.Disk.image c.create.new.disk)) c.from_residual.ensures
-    (create_fails c.args.l c.args.k c.args.asked (record { l = c.args.l; k = c.args.k; function = c.function-function.result }) (λ i. record { l = c.args.l; k = c.args.k; function = c.function-function.ensures i }) c.args.self.now.parts c.args.self.now.parts (g.D.Disk.image c.args.disk.now) (g.D.Disk.image c.create.new.disk) c.in_err-index.field-0.0
+    (create_fails c.args.l c.args.k c.args.asked (record { l = c.args.l; k = c.args.k; function = c.function-function.result }) (λ i. record { l = c.args.l; k = c.args.k; function = c.function-function.ensures.function i }) c.args.self.now.parts c.args.self.now.parts (g.D.Disk.image c.args.disk.now) (g.D.Disk.image c.create.new.disk) c.in_err-index.field-0.0
     (sym c.refused_creation.ensures.first ∙ c.in_default.is) refl
     (λ h. ap (g.D.Disk.image) (c.create.ensures.memory (c.in_err-index.was ∙ ap (λ f. Err f) h))) (λ h. c.create.ensures.part (c.in_err-index.was ∙ ap (λ f. Err f) h)))
 
@@ -57,17 +52,12 @@ returns-clause-comes g c =
     ap (λ (p : Parts). p.names) (sym (ap (λ (x : SessionState). x.parts) c.self.view_is))
     ∙ no_names (index_opening c.self.inside.held.live.history.index) c.self.inside.held.live.history.names c.self.inside.held.live.history.now.graph c.self.inside.held.live.history.recent.items c.self.invariant.1.live.sound.counted
     (ap (λ (p : Parts). is_some p.index) (ap (λ (x : SessionState). x.parts) c.self.view_is) ∙ (creation_free c.args.self.now.parts c.args.l c.args.k c.args.asked none).0) in
-    create_answers c.args.l c.args.k c.args.asked (record { l = c.args.l; k = c.args.k; function = c.function-function.result }) (λ i. record { l = c.args.l; k = c.args.k; function = c.function-function.ensures i }) c.args.self.now.parts new (g.D.Disk.image c.args.disk.now) (g.D.Disk.image c.create.new.disk) c.in_ok-index.index.opening c.headed.result none
+    create_answers c.args.l c.args.k c.args.asked (record { l = c.args.l; k = c.args.k; function = c.function-function.result }) (λ i. record { l = c.args.l; k = c.args.k; function = c.function-function.ensures.function i }) c.args.self.now.parts new (g.D.Disk.image c.args.disk.now) (g.D.Disk.image c.create.new.disk) c.in_ok-index.index.opening c.headed.result none
     c.in_ok-index.ensures.image c.in_ok-index.ensures.opened c.in_ok-index.ensures.made names (ap (λ (p : Parts). let x : Parts = record p { index = Some c.in_ok-index.index.opening } in x) (ap (λ (x : SessionState). x.parts) c.self.view_is)) c.headed.ensures
 
 pub returns-in-Some-clause-reads : goal.returns-in-Some-clause-reads
 returns-in-Some-clause-reads g c =
     reads_nothing (making c.args.l c.args.k c.args.asked) c.args.self.now.parts (g.D.Disk.image c.args.disk.now) (Err (halt.Refusal c.in-Some.refusal)) (g.D.Disk.taken c.args.disk.now) (g.D.Disk.taken c.args.disk.now)
-    (reads_no_record c.args.l c.args.k c.args.asked) refl
-
-pub returns-then-not-is_function-clause-reads : goal.returns-then-not-is_function-clause-reads
-returns-then-not-is_function-clause-reads g c =
-    reads_nothing (making c.args.l c.args.k c.args.asked) c.args.self.now.parts (g.D.Disk.image c.args.disk.now) (Err (halt.Refusal refusal.OutOfMemory)) (g.D.Disk.taken c.args.disk.now) (g.D.Disk.taken c.args.disk.now)
     (reads_no_record c.args.l c.args.k c.args.asked) refl
 
 pub returns-in_err-index-clause-reads : goal.returns-in_err-index-clause-reads
@@ -84,9 +74,6 @@ returns-clause-reads g c =
 pub returns-in-Some-clause-disk : goal.returns-in-Some-clause-disk
 returns-in-Some-clause-disk g c = reading_treats g.D.Disk c.args.disk.now c.args.disk.now (Err (halt.Refusal c.in-Some.refusal)) reads_none
 
-pub returns-then-not-is_function-clause-disk : goal.returns-then-not-is_function-clause-disk
-returns-then-not-is_function-clause-disk g c = reading_treats g.D.Disk c.args.disk.now c.args.disk.now (Err (halt.Refusal refusal.OutOfMemory)) reads_none
-
 pub returns-in_err-index-clause-disk : goal.returns-in_err-index-clause-disk
 returns-in_err-index-clause-disk g c =
     handed_out c.from_residual.result (creation_halt c.in_err-index.field-0.0) (TreatsDisk g.D.Disk c.args.disk.now c.create.new.disk) c.from_residual.ensures
@@ -100,16 +87,12 @@ pub returns-in-Some-clause-crash : goal.returns-in-Some-clause-crash
 returns-in-Some-clause-crash g c =
     reading_left g.D.Disk g.met.D.Disk.only_now c.args.disk.now c.args.disk.now reads_none (making c.args.l c.args.k c.args.asked) [] c.args.self.now.parts (Err (halt.Refusal c.in-Some.refusal)) (λ e. cc)
 
-pub returns-then-not-is_function-clause-crash : goal.returns-then-not-is_function-clause-crash
-returns-then-not-is_function-clause-crash g c =
-    reading_left g.D.Disk g.met.D.Disk.only_now c.args.disk.now c.args.disk.now reads_none (making c.args.l c.args.k c.args.asked) [] c.args.self.now.parts (Err (halt.Refusal refusal.OutOfMemory)) (λ e. cc)
-
 pub returns-in_err-index-clause-crash : goal.returns-in_err-index-clause-crash
 returns-in_err-index-clause-crash g c =
     handed_out c.from_residual.result (creation_halt c.in_err-index.field-0.0) (λ r. LeftByCrash g.D.Disk c.args.disk.now c.create.new.disk (LeavesCommand (making c.args.l c.args.k c.args.asked) [] c.args.self.now.parts r)) c.from_residual.ensures
-    (uncreated_left c.args.l c.args.k c.args.asked (record { l = c.args.l; k = c.args.k; function = c.function-function.result }) (λ i. record { l = c.args.l; k = c.args.k; function = c.function-function.ensures i }) c.args.self.now.parts (sym c.refused_creation.ensures.first ∙ c.in_default.is) g.D.Disk c.args.disk.now c.create.new.disk c.create.ensures.crash g.met.D.Disk.only_now c.in_err-index.field-0.0
+    (uncreated_left c.args.l c.args.k c.args.asked (record { l = c.args.l; k = c.args.k; function = c.function-function.result }) (λ i. record { l = c.args.l; k = c.args.k; function = c.function-function.ensures.function i }) c.args.self.now.parts (sym c.refused_creation.ensures.first ∙ c.in_default.is) g.D.Disk c.args.disk.now c.create.new.disk c.create.ensures.crash g.met.D.Disk.only_now c.in_err-index.field-0.0
     (λ h. c.create.ensures.memory (c.in_err-index.was ∙ ap (λ f. Err f) h)))
 
 pub returns-clause-crash : goal.returns-clause-crash
 returns-clause-crash g c =
-    created_left c.args.l c.args.k c.args.asked (record { l = c.args.l; k = c.args.k; function = c.function-function.result }) (λ i. record { l = c.args.l; k = c.args.k; function = c.function-function.ensures i }) c.args.self.now.parts (sym c.refused_creation.ensures.first ∙ c.in_default.is) g.D.Disk c.args.disk.now c.create.new.disk c.create.ensures.crash c.headed.result c.headed.ensures
+    created_left c.args.l c.args.k c.args.asked (record { l = c.args.l; k = c.args.k; function = c.function-function.result }) (λ i. record { l = c.args.l; k = c.args.k; function = c.function-function.ensures.function i }) c.args.self.now.parts (sym c.refused_creation.ensures.first ∙ c.in_default.is) g.D.Disk c.args.disk.now c.create.new.disk c.create.ensures.crash c.headed.result c.headed.ensures

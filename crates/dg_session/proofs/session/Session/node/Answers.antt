@@ -41,7 +41,7 @@ returns-in_err-node-clause-comes c image =
     let live = ap (λ (x : SessionState). is_some (stands_at h x.parts.table)) (sym c.self.view_is) ∙ c.in_ok-graph.ensures.live in
     let overlay = ap (λ (x : SessionState). is_base (stands_at h x.parts.table)) (sym c.self.view_is) ∙ c.in_ok-graph.ensures.overlay in
     subst (λ (x : Parts). ComesTo (command.Ask h (query.Node id)) [] p image x image r.result) (sym (ap (λ (x : SessionState). x.parts) c.self.view_is))
-    (ask_lacks (command.Ask h (query.Node id)) h true (node_reply h id) (node_asks h id) p r.result image refl r.ensures live overlay)
+    (ask_lacks (command.Ask h (query.Node id)) h true (λ cols. node_reply h id) (node_asks h id) p r.result image refl r.ensures live overlay)
 
 pub returns-in_err-node_reply-clause-comes : goal.returns-in_err-node_reply-clause-comes
 returns-in_err-node_reply-clause-comes c image =
@@ -52,7 +52,7 @@ returns-in_err-node_reply-clause-comes c image =
     let live = ap (λ (x : SessionState). is_some (stands_at h x.parts.table)) (sym c.self.view_is) ∙ c.in_ok-graph.ensures.live in
     let overlay = ap (λ (x : SessionState). is_base (stands_at h x.parts.table)) (sym c.self.view_is) ∙ c.in_ok-graph.ensures.overlay in
     subst (λ (x : Parts). ComesTo (command.Ask h (query.Node id)) [] p image x image r.result) (sym (ap (λ (x : SessionState). x.parts) c.self.view_is))
-    (ask_lacks (command.Ask h (query.Node id)) h true (node_reply h id) (node_asks h id) p r.result image refl r.ensures live overlay)
+    (ask_lacks (command.Ask h (query.Node id)) h true (λ cols. node_reply h id) (node_asks h id) p r.result image refl r.ensures live overlay)
 
 pub returns-clause-comes : goal.returns-clause-comes
 returns-clause-comes c image =
@@ -66,7 +66,7 @@ returns-clause-comes c image =
     let found = ap (λ (x : SessionState). graph_among h x.parts.table x.parts.graphs) (sym c.self.view_is)
     ∙ ap (λ p. graph_among h c.self.inside.held.handles.table (slot_graphs p c.self.inside.held.handles.slots)) (sym c.deref.ensures) ∙ c.in_ok-graph.ensures.graph in
     subst (λ (x : Parts). Accepts (command.Ask h (query.Node id)) [] p image x image reply) (sym (ap (λ (x : SessionState). x.parts) c.self.view_is))
-    (ask_answers (command.Ask h (query.Node id)) h true (node_reply h id) (node_asks h id) p graph image reply live overlay found
+    (ask_answers (command.Ask h (query.Node id)) h true (λ cols. node_reply h id) (node_asks h id) p graph image reply live overlay found
     (c.in_ok-node_reply.ensures graph c.in_ok-node.ensures.node)
     (subst (λ (x : SessionState). All (NamesAreThere (length x.parts.names)) x.parts.graphs) c.self.view_is c.self.invariant.1.handles.named))
 

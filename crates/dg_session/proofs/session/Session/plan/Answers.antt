@@ -14,6 +14,10 @@ use Rattle.dg_session.proofs.PlanStep.{free_at, plan_answers}
 use Rattle.dg_session.proofs.SessionSteps.{handed_out, lacking_denies, refused_denies}
 use Rattle.dg_session.proofs.session.Session.plan.Goals as goal
 
+pub plan_reply-requires-clause-nodes : goal.plan_reply-requires-clause-nodes
+plan_reply-requires-clause-nodes c =
+    (graph_for c.in_ok-index.index.now.opening c.self.inside.held.handles.table c.args.cols c.keep.new.self c.planner-planner.result.now c.keep.ensures.kept c.planner-planner.ensures.planner).nodes
+
 pub returns-in_err-index-clause-comes : goal.returns-in_err-index-clause-comes
 returns-in_err-index-clause-comes c image =
     let p : Parts = c.args.self.now.parts in

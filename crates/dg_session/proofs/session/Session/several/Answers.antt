@@ -7,19 +7,18 @@ use Rattle.dg_handles.specs.Handles.{overlays_on}
 use Rattle.dg_machine.specs.Answer.{handle_lines}
 use Rattle.dg_machine.specs.MachineState.{MachineState}
 use Rattle.dg_machine.specs.Needs.{needs}
-use Rattle.dg_machine.specs.Planning.{edges_in, points_for}
-use Rattle.dg_retrieval.specs.Retrieval.{TakesAtMostTree}
 use Rattle.dg_retrieval.specs.Beginnings.{leads_in, led_to}
 use Rattle.dg_session.specs.SessionState.{SessionState}
 use Rattle.dg_batch.specs.declared.halt.Halt.TheVariants as halt
 use Rattle.dg_session.specs.Damage.{DamageIn, Graphs, MeetsNone, NamesDamage, reads_for}
 use Rattle.dg_batch.specs.Halt.{retrieval_halt}
 use Rattle.dg_session.specs.Parts.{Parts}
-use Rattle.dg_session.specs.Reads.{IsRetrieved, ReadsIn, bases_of, listed_by, with_new_handles}
+use Rattle.dg_session.specs.Reads.{IsRetrieved, ReadsIn, TakesAtMostRetrieval, bases_of, listed_by, with_new_handles}
 use Rattle.dg_session.specs.Session.{ComesTo, StandsFor, refused_by, retrieval_needs}
 use Rattle.dg_session.proofs.SessionSeveralStep.{needed, several_answers, several_fails}
+use Rattle.dg_session.proofs.SessionLeads.{most_of, never_of, retrieved_of, taken_of}
 use Rattle.dg_session.proofs.DamageStep.{damage_in, tells_no_damage, none_met}
-use Rattle.dg_session.proofs.SessionRetrievals.{most_of, never_of, reads_failing, retrieval_failed, retrieved_of, reads_exactly, reads_unasked, taken_of}
+use Rattle.dg_session.proofs.SessionRetrievals.{reads_failing, retrieval_failed, reads_exactly, reads_unasked}
 use Rattle.dg_session.proofs.SessionSteps.{handed_out, lacking_denies, refused_denies, refused_not_read}
 use Rattle.dg_session.proofs.session.Session.several.Goals as goal
 
@@ -114,7 +113,7 @@ returns-in_err-retrieved-clause-file g c = record {
       (λ r. ReadsIn (command.Several c.args.cols c.args.times c.args.count) p (g.D.Disk.image c.args.disk.now) r (g.D.Disk.taken c.args.disk.now) (g.D.Disk.taken c.retrieve.new.disk)) c.from_residual.ensures
       (reads_failing (command.Several c.args.cols c.args.times c.args.count) p (g.D.Disk.image c.args.disk.now) c.in_err-retrieved.field-0.0 (g.D.Disk.taken c.args.disk.now) (g.D.Disk.taken c.retrieve.new.disk)
       (λ h refuses late. several_fails p c.args.cols c.args.times c.args.count number c.requires.some none (g.D.Disk.image c.args.disk.now) h (g.D.Disk.taken c.args.disk.now) (g.D.Disk.taken c.retrieve.new.disk) refuses late
-      (subst (λ ts. IfSome (g.D.Disk.image c.args.disk.now) (λ image. (m : MachineState) → StandsFor p image m → TakesAtMostTree (edges_in m c.args.cols) (points_for m ts) (g.D.Disk.taken c.args.disk.now) (g.D.Disk.taken c.retrieve.new.disk))) asked (most_of c.args.self.now.parts c.first_of-asked.result.now c.args.cols (g.D.Disk.image c.args.disk.now) (g.D.Disk.taken c.args.disk.now) (g.D.Disk.taken c.retrieve.new.disk) c.retrieve.result c.retrieve.ensures.over))));
+      (subst (λ ts. IfSome (g.D.Disk.image c.args.disk.now) (λ image. (m : MachineState) → StandsFor p image m → TakesAtMostRetrieval m ts c.args.cols (g.D.Disk.taken c.args.disk.now) (g.D.Disk.taken c.retrieve.new.disk))) asked (most_of c.args.self.now.parts c.first_of-asked.result.now c.args.cols (g.D.Disk.image c.args.disk.now) (g.D.Disk.taken c.args.disk.now) (g.D.Disk.taken c.retrieve.new.disk) c.retrieve.result c.retrieve.ensures.over))));
 }
 
 pub returns-in_err-lines-clause-file : goal.returns-in_err-lines-clause-file
@@ -129,7 +128,7 @@ returns-in_err-lines-clause-file g c = record {
       handed_out c.from_residual-in_err-lines.result (halt.Refusal refusal.OutOfMemory)
       (λ r. ReadsIn (command.Several c.args.cols c.args.times c.args.count) p (g.D.Disk.image c.args.disk.now) r (g.D.Disk.taken c.args.disk.now) (g.D.Disk.taken c.retrieve.new.disk)) c.from_residual-in_err-lines.ensures
       (several_fails p c.args.cols c.args.times c.args.count number c.requires.some none (g.D.Disk.image c.args.disk.now) (head.Refused refusal.OutOfMemory) (g.D.Disk.taken c.args.disk.now) (g.D.Disk.taken c.retrieve.new.disk) refl refl
-      (subst (λ ts. IfSome (g.D.Disk.image c.args.disk.now) (λ image. (m : MachineState) → StandsFor p image m → TakesAtMostTree (edges_in m c.args.cols) (points_for m ts) (g.D.Disk.taken c.args.disk.now) (g.D.Disk.taken c.retrieve.new.disk))) asked (most_of c.args.self.now.parts c.first_of-asked.result.now c.args.cols (g.D.Disk.image c.args.disk.now) (g.D.Disk.taken c.args.disk.now) (g.D.Disk.taken c.retrieve.new.disk) c.retrieve.result c.retrieve.ensures.over)));
+      (subst (λ ts. IfSome (g.D.Disk.image c.args.disk.now) (λ image. (m : MachineState) → StandsFor p image m → TakesAtMostRetrieval m ts c.args.cols (g.D.Disk.taken c.args.disk.now) (g.D.Disk.taken c.retrieve.new.disk))) asked (most_of c.args.self.now.parts c.first_of-asked.result.now c.args.cols (g.D.Disk.image c.args.disk.now) (g.D.Disk.taken c.args.disk.now) (g.D.Disk.taken c.retrieve.new.disk) c.retrieve.result c.retrieve.ensures.over)));
 }
 
 pub returns-in_err-add_handles-clause-file : goal.returns-in_err-add_handles-clause-file
@@ -144,7 +143,7 @@ returns-in_err-add_handles-clause-file g c = record {
       handed_out c.from_residual-in_err-add_handles.result (halt.Refusal refusal.OutOfMemory)
       (λ r. ReadsIn (command.Several c.args.cols c.args.times c.args.count) p (g.D.Disk.image c.args.disk.now) r (g.D.Disk.taken c.args.disk.now) (g.D.Disk.taken c.retrieve.new.disk)) c.from_residual-in_err-add_handles.ensures
       (several_fails p c.args.cols c.args.times c.args.count number c.requires.some none (g.D.Disk.image c.args.disk.now) (head.Refused refusal.OutOfMemory) (g.D.Disk.taken c.args.disk.now) (g.D.Disk.taken c.retrieve.new.disk) refl refl
-      (subst (λ ts. IfSome (g.D.Disk.image c.args.disk.now) (λ image. (m : MachineState) → StandsFor p image m → TakesAtMostTree (edges_in m c.args.cols) (points_for m ts) (g.D.Disk.taken c.args.disk.now) (g.D.Disk.taken c.retrieve.new.disk))) asked (most_of c.args.self.now.parts c.first_of-asked.result.now c.args.cols (g.D.Disk.image c.args.disk.now) (g.D.Disk.taken c.args.disk.now) (g.D.Disk.taken c.retrieve.new.disk) c.retrieve.result c.retrieve.ensures.over)));
+      (subst (λ ts. IfSome (g.D.Disk.image c.args.disk.now) (λ image. (m : MachineState) → StandsFor p image m → TakesAtMostRetrieval m ts c.args.cols (g.D.Disk.taken c.args.disk.now) (g.D.Disk.taken c.retrieve.new.disk))) asked (most_of c.args.self.now.parts c.first_of-asked.result.now c.args.cols (g.D.Disk.image c.args.disk.now) (g.D.Disk.taken c.args.disk.now) (g.D.Disk.taken c.retrieve.new.disk) c.retrieve.result c.retrieve.ensures.over)));
 }
 
 pub returns-clause-file : goal.returns-clause-file
