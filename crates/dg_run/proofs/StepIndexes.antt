@@ -1,18 +1,20 @@
 -- A reply tells the index of the state that the machine goes to with it.
 use Rattle.std.proofs.Common.{◌≡◌, ℕ, Bool, true, false, List, [], ◌∷◌, Option, None, Some, Result, Ok, Err, refl, sym, ◌∙◌, ap}
-use Rattle.std.specs.Prelude.{if◌then◌else◌, nat_lt, take}
+use Rattle.std.specs.Prelude.{◌&&◌, if◌then◌else◌, nat_lt, not, take}
 use Rattle.std.specs.List.{flat_map}
 use Rattle.std.proofs.lemmas.Bool.{false≢true}
 use Rattle.dg_text.specs.Lines.{ScriptLine}
 use Rattle.dg_changes.specs.Batch.{batch_of}
 use Rattle.dg_changes.specs.GeneratedChanges.{batch_of_changes, generated}
-use Rattle.dg_history.specs.History.{Batch, History, with_batch, with_upgrade}
+use Rattle.dg_history.specs.History.{Batch, History, is_wide, with_batch, with_upgrade}
+use Rattle.dg_history.specs.LegalHistory.{are_silent}
 use Rattle.dg_index.specs.FileOfHistory.{size}
 use Rattle.dg_machine.specs.declared.command.Command.{Command}
 use Rattle.dg_machine.specs.declared.command.Command.TheVariants as command
 use Rattle.dg_machine.specs.declared.reply.Head.{Head}
 use Rattle.dg_machine.specs.declared.reply.Head.TheVariants as head
 use Rattle.dg_machine.specs.declared.reply.Refusal.{Refusal}
+use Rattle.dg_machine.specs.declared.reply.Refusal.TheVariants as refusal
 use Rattle.dg_machine.specs.declared.reply.Reply.{Reply}
 use Rattle.dg_machine.specs.declared.stands.Stands.{Stands}
 use Rattle.dg_machine.specs.Answer.{Answered, accepted, answer_by, is_refusal, base_for, overlays, refuse, upgrading, with_handle, with_handles, with_new, with_workload}
@@ -47,17 +49,26 @@ either_index : (m : MachineState) (full : Bool) (x y : Answered) → x.state.ind
 either_index m true x y stays accepts e = stays
 either_index m false x y stays accepts e = absurd (false≢true (sym accepts ∙ e))
 
+-- of a refusal and another answer, where the other leaves the index if it is a refusal
+refusal_or : (m : MachineState) (b : Bool) (r : Refusal) (y : Answered) → (is_refusal y.reply.head ≡ true → y.state.index ≡ m.index)
+    → is_refusal (if b then refuse m r else y).reply.head ≡ true → (if b then refuse m r else y).state.index ≡ m.index
+refusal_or m true r y stays e = refl
+refusal_or m false r y stays e = stays e
+
 -- a batch that is refused is not kept
 refused_batch : (m : MachineState) (z : History) (make : ℕ → ℕ → ℕ → Head) (due : Result Batch (ℕ × ℕ)) → ((a b c : ℕ) → is_refusal (make a b c) ≡ false)
     → is_refusal (with_new m z make due).reply.head ≡ true → (with_new m z make due).state.index ≡ m.index
 refused_batch m z make (Err fault) accepts e = refl
 refused_batch m z make (Ok b) accepts e =
-    either_index m (nat_lt m.limits.file_bytes (size (with_batch z b))) (refuse m _) (record { reply = _; state = _ }) refl (accepts _ _ _) e
+    refusal_or m (not (is_wide z.form) && not (are_silent b.events)) refusal.OldFormat _
+    (either_index m (nat_lt m.limits.file_bytes (size (with_batch z b))) (refuse m _) (record { reply = _; state = _ }) refl (accepts _ _ _)) e
 
 refused_workload : (m : MachineState) (due : Result Batch (ℕ × ℕ)) → is_refusal (with_workload m due).reply.head ≡ true → (with_workload m due).state.index ≡ m.index
 refused_workload m (Err fault) e = refl
 refused_workload m (Ok b) e =
-    either_index m (nat_lt m.limits.file_bytes (size (with_batch (history_in m.index) b))) (refuse m _) (record { reply = _; state = _ }) refl refl e
+    let z : History = history_in m.index in
+    refusal_or m (not (is_wide z.form) && not (are_silent b.events)) refusal.OldFormat _
+    (either_index m (nat_lt m.limits.file_bytes (size (with_batch z b))) (refuse m _) (record { reply = _; state = _ }) refl refl) e
 
 -- nor is the file upgraded by a refusal
 refused_upgrade : (m : MachineState) (z : History) → is_refusal (upgrading m z).reply.head ≡ true → (upgrading m z).state.index ≡ m.index

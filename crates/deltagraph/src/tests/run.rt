@@ -329,27 +329,38 @@ const CALLS_OF_BATCH: u64 = CALLS_OF_FIRST - 1;
 const REPLIES_UNREAD: &str =
     "ok create\nend\nok load 2 2 20\nend\nrefused 14 store-read\nend\nrefused 8 unknown-handle 1\nend\n";
 
+// The same with messages, which are all that its retrieval reads, since it begins with the current graph.
+const HEARING: &str =
+    "create 4 2 union\nload 4\n10 +node 1\n20 +node 2\n20 msg 1 2 hi\n20 msg 1 2 yo\nat 20 st\nlist 1\n";
+
+const HEARING_REPLIES: &str =
+    "ok create\nend\nok load 4 4 20\nend\nok at 1 64\nend\nok list 1 4\nnode 1\nnode 2\nmsg 1 2 hi\nmsg 1 2 yo\nend\n";
+
+const HEARING_REPLIES_UNREAD: &str =
+    "ok create\nend\nok load 4 4 20\nend\nrefused 14 store-read\nend\nrefused 8 unknown-handle 1\nend\n";
+
 #[test]
 fn a_read_that_fails_refuses_its_command_alone(rt: HostRuntime) -> Result<(), Fail> {
-    let rows: [(Range<u64>, Status, &[u8]); 3] = [
-        (
-            CALLS_OF_CREATE..CALLS_OF_BATCH,
-            Status::DiskFault,
-            REPLY_OF_CREATE,
-        ),
-        (
-            CALLS_OF_BATCH..CALLS_OF_BATCH + 1,
-            Status::Done,
-            REPLIES_UNREAD.as_bytes(),
-        ),
-        (
-            CALLS_OF_BATCH + 1..CALLS_END,
-            Status::Done,
-            REPLIES.as_bytes(),
-        ),
-    ];
-    for (calls, status, replies) in rows {
-        ends_where_the_disk_fails(&rt, rt.alloc(), SCRIPT.as_bytes(), calls, status, replies)?;
+    for (script, read, unread) in [
+        (SCRIPT, REPLIES, REPLIES_UNREAD),
+        (HEARING, HEARING_REPLIES, HEARING_REPLIES_UNREAD),
+    ] {
+        let rows: [(Range<u64>, Status, &[u8]); 3] = [
+            (
+                CALLS_OF_CREATE..CALLS_OF_BATCH,
+                Status::DiskFault,
+                REPLY_OF_CREATE,
+            ),
+            (
+                CALLS_OF_BATCH..CALLS_OF_BATCH + 1,
+                Status::Done,
+                unread.as_bytes(),
+            ),
+            (CALLS_OF_BATCH + 1..CALLS_END, Status::Done, read.as_bytes()),
+        ];
+        for (calls, status, replies) in rows {
+            ends_where_the_disk_fails(&rt, rt.alloc(), script.as_bytes(), calls, status, replies)?;
+        }
     }
     Ok(())
 }
@@ -618,7 +629,7 @@ struct Upgrade {
     bytes: usize,
 }
 
-const UPGRADES: [Upgrade; 4] = [
+const UPGRADES: [Upgrade; 6] = [
     Upgrade {
         shows: "a batch in the first form",
         script: SIXTH,
@@ -646,6 +657,20 @@ const UPGRADES: [Upgrade; 4] = [
         limit: 713,
         replies: b"ok upgrade\nend\nrefused 21 new-format\nend\nok append 1 6 60\nend\nok verify sound 6\nend\n",
         bytes: 713,
+    },
+    Upgrade {
+        shows: "a message in the first form",
+        script: b"append 1\n60 msg 1 2 x\n",
+        limit: 496,
+        replies: b"refused 22 old-format\nend\n",
+        bytes: 496,
+    },
+    Upgrade {
+        shows: "a message behind the marker",
+        script: b"upgrade\nappend 1\n60 msg 1 2 x\nat 60 st\nlist 1\nverify\n",
+        limit: 731,
+        replies: b"ok upgrade\nend\nok append 1 6 60\nend\nok at 1 34\nend\nok list 1 3\nnode 1\nnode 2\nmsg 1 2 x\nend\nok verify sound 6\nend\n",
+        bytes: 731,
     },
 ];
 
