@@ -29,8 +29,9 @@ REFUSED, INDEX = b"deltagraph: the index is refused\n", "index"
 
 KEY = r"(?:list \d+|piece \d+|top \d+|down \d+ \d+)"
 NODE = r"(?:root|now|recent|leaf \d+|list \d+|inner \d+ \d+)"
-ELEMENT = r"node \d+|edge \d+ \d+ \d+ (?:dir|undir)|[ne]attr \d+ .*"
+ELEMENT = r"node \d+|edge \d+ \d+ \d+ (?:dir|undir)|[ne]attr \d+ .*|msg \d+ \d+ .*"
 VALUE = r"(?:[ne]attr \d+|attr) (.*)"
+TOLD = r"msg \d+ \d+ (.*)"
 KEY_TEXT = r"[^\0- ]{1,64}"
 # The head and a line of the body of each command's reply.
 REPLIES = {
@@ -40,7 +41,7 @@ REPLIES = {
     "several": (r"ok several \d+ \d+", r"handle \d+ \d+ \d+"),
     "materialise": (r"ok materialise \d+ \d+", None),
     "list": (r"ok list \d+ (\d+)", ELEMENT),
-    "counts": (r"ok counts \d+ \d+ \d+ \d+ \d+", None),
+    "counts": (r"ok counts \d+ \d+ \d+ \d+ \d+(?: \d+)?", None),
     "node": (r"ok node \d+ \d+ (?:yes \d+|no)", r"attr .*"),
     "neighbours": (r"ok neighbours \d+ \d+ (\d+)", r"(?:out|in|both) \d+ \d+"),
     "release": (r"ok release \d+", None),
@@ -49,7 +50,7 @@ REPLIES = {
     "plan": (r"ok plan \d+ \d+", rf"step \d+ {NODE} \d+|potential {NODE} \d+"),
     "certify": (rf"ok certify (?:line \d+|step \d+|potential {NODE}|not-tight|valid)", None),
     "verify": (rf"ok verify (?:sound \d+|unsound {KEY} [snet])", None),
-    "tree": (r"ok tree \d+ \d+ (?:intersection|union|balanced|skewed \d+) \d+ \d+ (\d+)", rf"record {KEY} \d+ \d+ \d+"),
+    "tree": (r"ok tree \d+ \d+ (?:intersection|union|balanced|skewed \d+) \d+ \d+ (\d+)", rf"record {KEY} \d+ \d+ \d+ \d+"),
 }
 # The refusals that a file can meet: never that a read fails, and never want of memory.
 REFUSALS = {
@@ -85,8 +86,8 @@ def questions(times, leaves):
     asked = [first, last, *(draw.choice(times) for _ in range(3))]
     script = ["verify", "tree"]
     for handle, time in enumerate(asked, 1):
-        script += [f"at {time} {draw.choice(['s', 'sn', 'se', 'sne'])}", f"list {handle}"]
-    script += [f"several sne {' '.join(map(str, asked))}", f"plan {asked[2]} sne", f"plan {first} s"]
+        script += [f"at {time} {draw.choice(['st', 'sn', 'set', 'sne'])}", f"list {handle}"]
+    script += [f"several snet {' '.join(map(str, asked))}", "list 6", "list 8", f"plan {asked[2]} sne", f"plan {first} s"]
     script += ["counts 2", "node 2 5", "neighbours 3 5", f"materialise leaf {max(1, leaves // 2)} sne"]
     script += [f"materialise inner 1 {max(1, leaves // 8)} s", "pool", "clean all"]
     batch = [f"{last + 2 + i} +node {7000 + i}" for i in range(ADDED)]
@@ -99,18 +100,21 @@ class Model:
     def __init__(self, judgement):
         self.history, self.names = judgement.history, judgement.opened.names
         self.handles, self.bases, self.graphs, self.next = {}, {}, {}, 1
+        self.hearing = set()
         self.total = len(self.history.events)
         self.last = self.history.events[-1][0] if self.history.events else None
 
     def index(self, columns):
         """The graph of the index, with the handles that serve for these columns."""
-        usable = tuple((handle, node) for handle, (node, held) in sorted(self.bases.items()) if set(columns) <= set(held))
+        usable = tuple((handle, node) for handle, (node, held) in sorted(self.bases.items()) if set(columns) - {"t"} <= set(held))
         if (columns, usable) not in self.graphs:
             self.graphs[columns, usable] = model.Graph(self.history, columns, bases=usable)
         return self.graphs[columns, usable]
 
-    def give(self, graph):
+    def give(self, graph, columns):
         self.handles[self.next] = graph
+        if "t" in columns:
+            self.hearing.add(self.next)
         self.next += 1
         return self.next - 1
 
@@ -122,7 +126,8 @@ class Model:
         return [f"refused 7 out-of-range {ends}"]
 
     def graph_at(self, time, columns):
-        return model.cut(model.replay(e for e in self.history.events if e[0] <= time), columns)
+        graph = model.cut(model.replay(e for e in self.history.events if e[0] <= time), columns)
+        return graph | model.messages_at(self.history.events, time) if "t" in columns else graph
 
     def reply(self, command):
         line, *changes = command.split("\n")
@@ -142,7 +147,7 @@ class Model:
 
     def tree(self):
         history, sizes = self.history, self.history.sizes
-        records = [f"record {key} {s} {n} {e}" for key, (s, n, e, _) in sorted(sizes.items(), key=model.key_order)]
+        records = [f"record {key} {' '.join(map(str, four))}" for key, four in sorted(sizes.items(), key=model.key_order)]
         events = len(history.events)
         head = f"{history.size} {history.arity} {history.function} {events} {events // history.size} {len(sizes)}"
         return [f"ok tree {head}", *records]
@@ -150,18 +155,22 @@ class Model:
     def at(self, time, columns):
         if not self.is_in_range(int(time)):
             return self.out_of_range()
-        weight = self.index(columns).costs[model.point(self.history, int(time))][0]
-        return [f"ok at {self.give(self.graph_at(int(time), columns))} {weight}"]
+        weight = self.index(columns).costs[model.point(self.history, int(time))][0] + self.heard(columns, [int(time)])
+        return [f"ok at {self.give(self.graph_at(int(time), columns), columns)} {weight}"]
 
     def several(self, columns, *times):
         times = [int(time) for time in times]
         if not all(map(self.is_in_range, times)):
             return self.out_of_range()
         graph, targets = self.index(columns), [model.point(self.history, time) for time in times]
-        singles = [graph.costs[target][0] for target in targets]
-        given = [self.give(self.graph_at(time, columns)) for time in times]
+        singles = [graph.costs[target][0] + self.heard(columns, [time]) for target, time in zip(targets, times)]
+        given = [self.give(self.graph_at(time, columns), columns) for time in times]
         rows = [f"handle {handle} {time} {single}" for handle, time, single in zip(given, times, singles)]
-        return [f"ok several {graph.tree_weight(targets)} {sum(singles)}", *rows]
+        return [f"ok several {graph.tree_weight(targets) + self.heard(columns, times)} {sum(singles)}", *rows]
+
+    def heard(self, columns, times):
+        """The bytes of the messages that are read for these instants."""
+        return self.history.heard(times)[1] if "t" in columns else 0
 
     def plan(self, time, columns):
         if not self.is_in_range(int(time)):
@@ -177,7 +186,7 @@ class Model:
         node = f"inner {height} {index}" if height else f"leaf {index}"
         weight = model.Graph(self.history, columns, memory=False).costs[node][0]
         self.bases[self.next] = node, columns
-        return [f"ok materialise {self.give(model.cut(self.history.node(height, index, {}), columns))} {weight}"]
+        return [f"ok materialise {self.give(model.cut(self.history.node(height, index, {}), columns), columns)} {weight}"]
 
     def list(self, handle):
         graph = self.handles.get(int(handle))
@@ -189,7 +198,8 @@ class Model:
         graph = self.handles.get(int(handle))
         if graph is None:
             return [f"refused 8 unknown-handle {handle}"]
-        return [f"ok counts {handle} " + " ".join(str(sum(x[0] == kind for x in graph)) for kind in range(4))]
+        kinds = range(5 if int(handle) in self.hearing else 4)
+        return [f"ok counts {handle} " + " ".join(str(sum(x[0] == kind for x in graph)) for kind in kinds)]
 
     def node(self, handle, node):
         graph, number = self.handles.get(int(handle)), int(node)
@@ -332,10 +342,13 @@ class Damage:
         keyed = {f"{key} {value}" for key in names for value in names if re.fullmatch(KEY_TEXT, key)}
         for command, reply in zip(script, replies):
             said = [found.group(1) for found in (re.fullmatch(VALUE, line, re.DOTALL) for line in reply) if found]
+            told = [found.group(1) for found in (re.fullmatch(TOLD, line, re.DOTALL) for line in reply) if found]
+            if not set(names).issuperset(told):
+                return f"{command}: {told}, which are no names"
             if not values.issuperset(said):
                 return f"{command}: {said}, which are no names"
             self.counted("lines with a name that is no key", sum(value not in keyed for value in said))
-            found = re.fullmatch(rf"refused 15 damaged ({KEY}) ([sne])", reply[0])
+            found = re.fullmatch(rf"refused 15 damaged ({KEY}) ([snet])", reply[0])
             if found and not due.is_damaged(found.group(1), judge.LETTERS.index(found.group(2))):
                 return f"{command}: {reply[0]}, and it is spelled"
         return None
@@ -362,6 +375,7 @@ class File:
             names = []
             if batch == upgrade:
                 history.upgrade()
+            changes.has_messages = history.is_wide
             history.add([changes.next(names)[1] for _ in range(size)], names)
             at.append(history.file())
         self.image, self.earlier = history.file() + behind, at[:-1]

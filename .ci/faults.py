@@ -42,6 +42,7 @@ SCRIPTS = {
     "sweeps": ["at 20 s", "at 40 s", "pool", "release 2", "clean 1", "at 30 s", "clean all", "pool"]
     + ["release 3", "release 1", "clean all"],
     "reads": ["at 10 s", "plan 20 s", "tree", "verify", "neighbours 1 1", "counts 1", "workload 7 5", "at 51 s", "list 2"],
+    "messages": ["append 3\n60 msg 1 2 hi\n60 msg 2 1 hi\n61 +node 3", "at 60 st", "list 1", "several snet 60 61 30", "counts 2", "list 2"],
     "plans": ["at 20 sn", "node 1 1", "certify 20 s 2\nstep 2 list 0 42\nstep 4 leaf 1 0", "certify 30 sne 1\nhello"]
     + ["counts 1", "no"],
 }
@@ -59,7 +60,7 @@ LONGER = [
     "verify",
 ]
 # Over a file of the first form.
-UPGRADE = ["append 1\n60 +node 9", "upgrade", "upgrade", "append 2\n70 +node 3\n70 +node 4", "at 60 s", "verify"]
+UPGRADE = ["append 1\n60 +node 9", "append 1\n61 msg 1 9 hello", "upgrade", "upgrade", "append 2\n70 +node 3\n70 +node 4", "at 60 s", "verify"]
 PROBE = lines(["tree", "verify", "at 40 sn", "list 1"])
 
 

@@ -318,8 +318,8 @@ ASK = [
     "release 1",
     "clean all",
     "pool",
-    "append 1\n100000 +node 1000001",
-    "at 100000 s",
+    "append 2\n100000 +node 1000001\n100000 msg 1000000 1000001 hello",
+    "at 100000 st",
     "counts 7",
 ]
 

@@ -10,10 +10,12 @@ import random
 import subprocess
 import sys
 
-NODE, EDGE, NODE_ATTR, EDGE_ATTR = range(4)
+NODE, EDGE, NODE_ATTR, EDGE_ATTR, MESSAGE = range(5)
 STRUCTURE, NODES, EDGES, MESSAGES = range(4)
 COLUMNS = range(4)
+LETTERS = "snet"
 COLUMN_OF = {NODE: STRUCTURE, EDGE: STRUCTURE, NODE_ATTR: NODES, EDGE_ATTR: EDGES}
+ASKED = ["s", "sn", "se", "sne"]  # the columns of graphs that a command may ask for
 FUNCTIONS = ["intersection", "union", "balanced"]
 SHARES = [0, 1, 64, 128, 200, 255, 256]  # of 256, of a skewed function
 
@@ -87,6 +89,11 @@ def replay(events):
     return graph
 
 
+def messages_at(events, time):
+    """The messages of exactly an instant."""
+    return {(MESSAGE, *event[2:]) for event in events if event[0] == time and event[1] == "msg"}
+
+
 def column_of(event):
     if event[1] == "msg":
         return MESSAGES
@@ -146,6 +153,15 @@ class History:
         """Adds the marker behind which segments have the second form."""
         self.text += b"\1" + number(8, 8) + number(0, 8) + number(0, 8)
         self.is_wide = True
+
+    def heard(self, times):
+        """The lists between whose times one of the instants lies, and the bytes of their columns of messages."""
+        keys = []
+        for i in range(len(self.events) // self.size):
+            of_list = self.events[i * self.size : (i + 1) * self.size]
+            if any(of_list[0][0] <= time <= of_list[-1][0] for time in times):
+                keys.append(f"list {i}")
+        return keys, sum(self.sizes[key][MESSAGES] for key in keys)
 
     def node(self, height, index, made):
         """The set of a leaf, of height 0, or of an interior node."""
@@ -403,6 +419,7 @@ class Changes:
     def __init__(self, rng):
         self.rng, self.time, self.names = rng, 0, []
         self.nodes, self.edges = set(), {}
+        self.has_messages = True
         self.values = {NODE_ATTR: {}, EDGE_ATTR: {}}
 
     def name(self, text, new):
@@ -422,7 +439,8 @@ class Changes:
     def attempt(self, new):
         rng = self.rng
         time = self.time + rng.choice([0, 0, 1, 1, 2])
-        kind = rng.choice(["+node"] * 3 + ["-node", "+edge", "+edge", "-edge", "nset", "ndel", "eset", "edel"])
+        kinds = ["+node"] * 3 + ["-node", "+edge", "+edge", "-edge", "nset", "ndel", "eset", "edel"]
+        kind = rng.choice(kinds + ["msg", "msg"] * self.has_messages)
         if kind == "+node":
             node = rng.randrange(30)
             if node in self.nodes:
@@ -448,7 +466,16 @@ class Changes:
             if self.has_value(EDGE_ATTR, edge):
                 return None
             return time, f"-edge {edge}", (time, "-", (EDGE, edge) + self.edges.pop(edge))
+        if kind == "msg":
+            return self.message(time, new)
         return self.value_change(time, kind, new)
+
+    def message(self, time, new):
+        if not self.nodes:
+            return None
+        source, target = (self.rng.choice(sorted(self.nodes)) for _ in range(2))
+        text = self.rng.choice([b"x", b"hi", b"", b"a b  "])
+        return time, f"msg {source} {target} {text.decode()}", (time, "msg", source, target, self.name(text, new))
 
     def has_value(self, kind, owner):
         return any(key[0] == owner for key in self.values[kind])
@@ -482,6 +509,8 @@ def listing(graph, names):
             lines.append(f"node {x[1]}")
         elif x[0] == EDGE:
             lines.append(f"edge {x[1]} {x[2]} {x[3]} {'dir' if x[4] else 'undir'}")
+        elif x[0] == MESSAGE:
+            lines.append(f"msg {x[1]} {x[2]} {names[x[3]].decode()}")
         else:
             word = "nattr" if x[0] == NODE_ATTR else "eattr"
             lines.append(f"{word} {x[1]} {names[x[2]].decode()} {names[x[3]].decode()}")
@@ -516,6 +545,7 @@ class Case:
         self.script, self.due = [], []
         self.handles, self.next = {}, 1  # the graphs of this run's live handles, and the number of the next one
         self.bases, self.rests = {}, {}  # the nodes that handles hold, with their columns; and what each handle rests on
+        self.hearing = set()  # the handles whose columns have messages
 
     def reply(self, *lines):
         self.due += list(lines) + ["end"]
@@ -531,16 +561,19 @@ class Case:
         if ran.returncode != status or ran.stdout.decode() != due or not same:
             sys.exit(f"seed {self.seed}: status {ran.returncode}, replies {ran.stdout.decode() == due}, file {same}")
         self.script, self.due, self.handles, self.next, self.bases, self.rests = [], [], {}, 1, {}, {}
+        self.hearing = set()
 
-    def give(self, graphs, rests):
+    def give(self, graphs, rests, columns="s"):
         """Gives each of these graphs a handle, which rests on what stands beside it."""
         for graph, on in zip(graphs, rests):
             self.handles[self.next], self.rests[self.next] = graph, on
+            if "t" in columns:
+                self.hearing.add(self.next)
             self.next += 1
 
     def usable(self, columns):
-        """The handles that hold a node in all of these columns, with their nodes."""
-        return [(handle, node) for handle, (node, held) in sorted(self.bases.items()) if set(columns) <= set(held)]
+        """The handles that hold a node in all of these columns, messages aside, with their nodes."""
+        return [(handle, node) for handle, (node, held) in sorted(self.bases.items()) if set(columns) - {"t"} <= set(held)]
 
     def graph(self, history, columns):
         """The graph of the index with the handles that can serve."""
@@ -554,16 +587,21 @@ class Case:
 def ask_graphs(rng, history, changes, case):
     """Retrieves graphs, one at a time or several at once."""
     for _ in range(rng.choice([0, 1, 1, 2])):
-        columns = rng.choice(["s", "sn", "se", "sne"])
+        columns = rng.choice(ASKED) + rng.choice(["", "t"])
         graph = case.graph(history, columns)
         first, last = history.events[0][0], history.events[-1][0]
         times = [rng.randrange(first, last + 1) for _ in range(rng.choice([1, 1, 2, 3, 7]))]
+        told = sorted({event[0] for event in history.events if event[1] == "msg"})
+        if told and rng.random() < 0.5:
+            times[rng.randrange(len(times))] = rng.choice(told)
         if len(case.handles) + len(times) > 127:
             case.script.append(f"several {columns} {' '.join(map(str, times))}")
             case.reply(f"refused 9 pool-full {len(case.handles)} {len(times)}")
             return
         targets = [point(history, time) for time in times]
-        singles = [graph.costs[target][0] for target in targets]
+        graph_rests = graph.rests(targets)
+        heard = [history.heard([time])[1] if "t" in columns else 0 for time in times]
+        singles = [graph.costs[target][0] + more for target, more in zip(targets, heard)]
         handle = case.next
         if len(times) == 1 and rng.random() < 0.7:
             case.script.append(f"at {times[0]} {columns}")
@@ -571,14 +609,18 @@ def ask_graphs(rng, history, changes, case):
         else:
             case.script.append(f"several {columns} {' '.join(map(str, times))}")
             lines = [f"handle {handle + i} {time} {single}" for i, (time, single) in enumerate(zip(times, singles))]
-            case.reply(f"ok several {graph.tree_weight(targets)} {sum(singles)}", *lines)
-        case.give([cut(replay(e for e in history.events if e[0] <= time), columns) for time in times], graph.rests(targets))
+            weight = graph.tree_weight(targets) + ("t" in columns) * history.heard(times)[1]
+            case.reply(f"ok several {weight} {sum(singles)}", *lines)
+        graphs = [cut(replay(e for e in history.events if e[0] <= time), columns) for time in times]
+        if "t" in columns:
+            graphs = [graph | messages_at(history.events, time) for graph, time in zip(graphs, times)]
+        case.give(graphs, graph_rests, columns)
 
 
 def hold_nodes(rng, history, case):
     """Holds leaves and interior nodes, some of which the index does not have."""
     for _ in range(rng.choice([0, 0, 1, 2])):
-        columns, handle = rng.choice(["s", "sn", "se", "sne"]), case.next
+        columns, handle = rng.choice(ASKED), case.next
         leaves = len(history.events) // history.size
         height = rng.choice([0, 0, 1, 1, 2, 40])
         index = rng.randrange(leaves // history.arity**height + 2)
@@ -621,7 +663,8 @@ def ask_handles(rng, history, changes, case):
             elif asked == "list":
                 case.reply(f"ok list {handle} {len(graph)}", *listing(graph, changes.names))
             elif asked == "counts":
-                counts = " ".join(str(sum(x[0] == kind for x in graph)) for kind in (NODE, EDGE, NODE_ATTR, EDGE_ATTR))
+                kinds = [NODE, EDGE, NODE_ATTR, EDGE_ATTR] + [MESSAGE] * (handle in case.hearing)
+                counts = " ".join(str(sum(x[0] == kind for x in graph)) for kind in kinds)
                 case.reply(f"ok counts {handle} {counts}")
             elif asked == "neighbours":
                 lines = neighbours(graph, node)
@@ -629,6 +672,7 @@ def ask_handles(rng, history, changes, case):
             elif asked == "release":
                 case.reply(f"ok release {handle}")
                 del case.handles[handle], case.rests[handle]
+                case.hearing.discard(handle)
                 case.bases.pop(handle, None)
             elif (NODE, node) in graph:
                 lines = attributes(graph, node, changes.names)
@@ -650,14 +694,14 @@ def ask_upgrade(history, case):
 def ask_plans(rng, history, case):
     """Asks for plans, certificates and records."""
     if rng.random() < 0.4:
-        records = [f"record {key} {s} {n} {e}" for key, (s, n, e, _) in sorted(history.sizes.items(), key=key_order)]
+        records = [f"record {key} {' '.join(map(str, sizes))}" for key, sizes in sorted(history.sizes.items(), key=key_order)]
         leaves = len(history.events) // history.size
         head = f"{history.size} {history.arity} {history.function} {len(history.events)} {leaves} {len(records)}"
         case.script.append("tree")
         case.reply(f"ok tree {head}", *records)
     for _ in range(rng.choice([0, 0, 1, 2])):
         time = rng.randrange(history.events[0][0], history.events[-1][0] + 1)
-        columns = rng.choice(["s", "sn", "se", "sne"])
+        columns = rng.choice(ASKED)
         graph, target = case.graph(history, columns), point(history, time)
         lines, weight, steps = graph.plan(target)
         case.script.append(f"plan {time} {columns}")
@@ -668,6 +712,17 @@ def ask_plans(rng, history, case):
         lines = altered(rng, lines)
         case.script += [f"certify {time} {columns} {len(lines)}"] + lines
         case.reply(f"ok certify {graph.judged(target, lines)}")
+
+
+def ask_old_format(rng, history, changes, case):
+    """Sends a message over a file of the first form, which has none."""
+    if history.is_wide or not changes.nodes:
+        return
+    node, time = rng.choice(sorted(changes.nodes)), changes.time + 1
+    free = next(n for n in range(31) if n not in changes.nodes)
+    lines = [f"{time} +node {free}", f"{time} msg {node} {free} hello"] if rng.randrange(2) else [f"{time} msg {node} {node} "]
+    case.script += [f"append {len(lines)}", *lines]
+    case.reply("refused 22 old-format")
 
 
 def any_history(rng, size, arity):
@@ -705,6 +760,9 @@ def check(program, index, seed):
             count = rng.randrange(66, 72)
         if rng.randrange(5) == 0:
             ask_upgrade(history, case)
+        if batch and rng.randrange(2) == 0:
+            ask_old_format(rng, history, changes, case)
+        changes.has_messages = history.is_wide
         word = "append" if batch else "load"
         changes.time += 1 if batch else 0
         names, lines, events = [], [], []
@@ -728,7 +786,7 @@ def check(program, index, seed):
 
 
 # Seeds of files whose damage no start meets and a batch does: few files are such.
-MET_BY_A_BATCH = [1910, 3667]
+MET_BY_A_BATCH = [1424, 3167]
 
 
 def older_children(history, count):
@@ -759,16 +817,21 @@ def check_damage(program, index, seed):
     for _ in range(rng.randrange(1, 6)):
         if not history.is_wide and rng.randrange(3) == 0:
             history.upgrade()
+        changes.has_messages = history.is_wide
         names, _, events = batch(rng.choice([1, 2, 5, 9, rng.randrange(1, 60)]))
         history.add(events, names)
     records, leaves = Graph(history, "sne", memory=False), len(history.events) // size
-    starts = history.recent + records.entered([f"leaf {leaves}"] if leaves else [])
+    entered = records.entered([f"leaf {leaves}"] if leaves else [])
+    # No plan enters a column of messages.
+    starts = {(key, c) for key in history.recent for c in COLUMNS} | {(key, c) for key in entered for c in COLUMNS if c != MESSAGES}
     names, lines, events = batch(rng.choice([1, 2, 5, 9, rng.randrange(1, 60)]))
     children = older_children(history, len(events))
     met = {key for i in range(0, len(children), 32) for key in records.entered(children[i : i + 32])}
     held = [(key, c) for key, four in history.places.items() for c in COLUMNS if four[c][1] > 0]
-    by_batch = [(key, c) for key, c in held if key in met and key not in starts]
-    damaged, column = rng.choice(by_batch if by_batch and rng.random() < 0.7 else held)
+    by_batch = [(key, c) for key, c in held if key in met and c != MESSAGES and (key, c) not in starts]
+    told = [(key, c) for key, c in held if key.startswith("list") and c == MESSAGES]
+    chosen = rng.random()
+    damaged, column = rng.choice(by_batch if by_batch and chosen < 0.5 else told if told and chosen < 0.8 else held)
     place = history.places[damaged][column][0]
 
     def with_damage():
@@ -781,39 +844,45 @@ def check_damage(program, index, seed):
     case = Case(program, index, seed)
     case.script.append("tree")
     case.run(with_damage(), 7, checked=True)
-    if damaged in starts:
+    if (damaged, column) in starts:
         case.script.append("tree")
         case.run(with_damage(), 7)
         return
-    told = f"refused 15 damaged {damaged} {'sne'[column]}"
+    said = f"refused 15 damaged {damaged} {LETTERS[column]}"
     for _ in range(rng.randrange(1, 5)):
-        columns, leaves = rng.choice(["s", "sn", "se", "sne"]), len(history.events) // history.size
+        columns, leaves = rng.choice(ASKED), len(history.events) // history.size
         if leaves and rng.random() < 0.3:
             node, graph = f"leaf {rng.randrange(1, leaves + 1)}", Graph(history, columns, memory=False)
             case.script.append(f"materialise {node} {columns}")
-            if damaged in graph.entered([node]) and "sne"[column] in columns:
-                case.reply(told)
+            if damaged in graph.entered([node]) and LETTERS[column] in columns:
+                case.reply(said)
             else:
                 case.reply(f"ok materialise {case.next} {graph.costs[node][0]}")
                 case.bases[case.next] = node, columns
                 case.give([set()], [None])
+        columns += rng.choice(["", "t"])
         graph = case.graph(history, columns)
         first, last = history.events[0][0], history.events[-1][0]
         times = [rng.randrange(first, last + 1) for _ in range(rng.choice([1, 2, 3]))]
+        if column == MESSAGES and rng.random() < 0.5:
+            of_list = history.events[int(damaged.split(" ")[1]) * size :][:size]
+            times[0] = rng.choice([of_list[0][0], of_list[-1][0], rng.randrange(of_list[0][0], of_list[-1][0] + 1)])
         targets = [point(history, time) for time in times]
         case.script.append(f"several {columns} {' '.join(map(str, times))}")
-        if damaged in graph.entered(targets) and "sne"[column] in columns:
-            case.reply(told)
+        if damaged in (history.heard(times)[0] if column == MESSAGES else graph.entered(targets)) and LETTERS[column] in columns:
+            case.reply(said)
             continue
-        handle, singles = case.next, [graph.costs[target][0] for target in targets]
+        heard = [history.heard([time])[1] if "t" in columns else 0 for time in times]
+        handle, singles = case.next, [graph.costs[target][0] + more for target, more in zip(targets, heard)]
         listed = [f"handle {handle + i} {time} {single}" for i, (time, single) in enumerate(zip(times, singles))]
-        case.reply(f"ok several {graph.tree_weight(targets)} {sum(singles)}", *listed)
+        weight = graph.tree_weight(targets) + ("t" in columns) * history.heard(times)[1]
+        case.reply(f"ok several {weight} {sum(singles)}", *listed)
         case.give([set() for _ in times], [None for _ in times])
     case.script.append("verify")
-    case.reply(f"ok verify unsound {damaged} {'sne'[column]}")
+    case.reply(f"ok verify unsound {damaged} {LETTERS[column]}")
     case.script += [f"append {len(lines)}"] + lines
-    if damaged in met:
-        case.reply(told)
+    if damaged in met and column != MESSAGES:
+        case.reply(said)
     else:
         history.add(events, names)
         case.reply(f"ok append {len(lines)} {len(history.events)} {events[-1][0]}")
@@ -822,17 +891,22 @@ def check_damage(program, index, seed):
 
 def damaged_pairs(history, keys):
     """Each two of these records, of which the earlier one is damaged in a later column than the other."""
-    held = [[column for column in COLUMNS if history.places[key][column][1] > 0] for key in keys]
+    held = [[column for column in COLUMNS if column != MESSAGES and history.places[key][column][1] > 0] for key in keys]
     places = [(i, j) for i in range(len(keys)) for j in range(i + 1, len(keys)) if held[i] and held[j]]
     return [((keys[i], held[i][-1]), (keys[j], held[j][0])) for i, j in places if held[i][-1] > held[j][0]]
 
 
 def check_first_damage(program, index, seed):
     """A file with damage in two of the records of one plan of four or more: the earlier record is named, wherever the work
-    is cut for threads. Says of how many plans this was tried: that of an instant, and that of a start."""
+    is cut for threads. And one with damage in a record and in messages that are asked for behind it: the record is named. Says
+    of how many plans each was tried: that of an instant, that of a start, and one with messages."""
     rng = random.Random(seed)
-    history, changes, names = any_history(rng, 2, 2), Changes(rng), []
+    history, changes, names, more = any_history(rng, 2, 2), Changes(rng), [], []
+    changes.has_messages = history.is_wide
     history.add([changes.next(names)[1] for _ in range(rng.randrange(40, 80))], names)
+    history.is_wide or history.upgrade()
+    changes.time, changes.has_messages = changes.time + 1, True
+    history.add([changes.next(more)[1] for _ in range(rng.randrange(1, 20))], more)
     records, graph = Graph(history, "sne", memory=False), Graph(history, "sne")
     start = records.entered([f"leaf {len(history.events) // 2}"])
 
@@ -842,7 +916,7 @@ def check_first_damage(program, index, seed):
             text[history.places[key][column][0]] = 255
         with open(index, "wb") as made:
             made.write(text)
-        return bytes(text), pair[0][0], "sne"[pair[0][1]]
+        return bytes(text), pair[0][0], LETTERS[pair[0][1]]
 
     plans = {time: graph.entered([point(history, time)]) for time in sorted({event[0] for event in history.events})}
     met = [(time, keys) for time, keys in plans.items() if len(keys) >= 4]
@@ -854,6 +928,16 @@ def check_first_damage(program, index, seed):
         case.script.append(f"at {time} sne")
         case.reply(f"refused 15 damaged {key} {column}")
         case.run(text)
+    heard = [(time, key, key_heard) for time, keys in plans.items() for key in keys if key not in start
+             for key_heard in history.heard([time])[0] if history.sizes[key_heard][MESSAGES] and any(history.sizes[key][:MESSAGES])]
+    if heard:
+        time, key, key_heard = rng.choice(heard)
+        column = next(c for c in COLUMNS if history.sizes[key][c])
+        text, key, column = with_damage([(key, column), (key_heard, MESSAGES)])
+        case = Case(program, index, seed)
+        case.script.append(f"at {time} snet")
+        case.reply(f"refused 15 damaged {key} {column}")
+        case.run(text)
     met = damaged_pairs(history, start) if len(start) >= 4 else []
     if met:
         _, key, column = with_damage(rng.choice(met))
@@ -861,7 +945,7 @@ def check_first_damage(program, index, seed):
         due = f"deltagraph: the index is refused\ndeltagraph: {index}: damaged in record {key}, column {column}\n"
         if ran.returncode != 7 or ran.stderr.decode() != due:
             sys.exit(f"seed {seed}: status {ran.returncode}, {ran.stderr.decode()}")
-    return bool(found), bool(met)
+    return bool(found), bool(met), bool(heard)
 
 
 if __name__ == "__main__":
@@ -871,6 +955,6 @@ if __name__ == "__main__":
     for seed in [*range(first, last), *MET_BY_A_BATCH]:
         check_damage(program, os.path.join(folder, "damaged"), seed)
     found = [check_first_damage(program, os.path.join(folder, "damaged"), seed) for seed in range(first, last)]
-    for plan, tried in zip(("an instant", "a start"), zip(*found)):
+    for plan, tried in zip(("an instant", "a start", "an instant with messages"), zip(*found)):
         if sum(tried) < (last - first) // 4:
             sys.exit(f"only {sum(tried)} plans of {plan} have two records that can be damaged")

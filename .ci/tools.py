@@ -26,7 +26,7 @@ from collections import Counter
 from datetime import datetime, timezone
 from html.parser import HTMLParser
 from pathlib import Path
-from typing import Any, NamedTuple, Optional, Sequence, Union
+from typing import Any, Iterator, NamedTuple, Optional, Sequence, Union
 
 ROOT = Path(__file__).resolve().parent.parent
 sys.path.insert(0, str(ROOT / "tools"))
@@ -244,6 +244,14 @@ def loop_of(name: str) -> list[str]:
     return ["5 +node 1", f"5 nset 1 name {name}", "5 +edge 1 1 1 dir"]
 
 
+def sent(time: int, *values: str) -> list[str]:
+    """The messages with these values from the first node to the second one."""
+    return [f"{time} msg 1 2 {value}" for value in values]
+
+
+MAILS = ["--columns", "source,target,time,subject", "--messages", "subject"]
+
+
 SCRIPTS: list[tuple[str, list[str], Union[str, bytes], list[str]]] = [
     ("white space", [], "a b 5\n", at(5, A_TO_B)),
     ("tabs and spaces, with a byte order mark", [], "\ufeff a\t b  5\r\n", at(5, A_TO_B)),
@@ -361,6 +369,53 @@ SCRIPTS: list[tuple[str, list[str], Union[str, bytes], list[str]]] = [
     ),
     ("whole numbers with a point", [], "a,b,5.0\n", at(5, A_TO_B)),
     ("what is later", ["--after", "5"], "a b 5\nb c 7\n", ["7 +node 3", "7 nset 3 name c", "7 +edge 2 2 3 dir"]),
+    ("messages without a value", ["--messages"], "a b 5\n", at(5, A_TO_B[:4]) + sent(5, "")),
+    (
+        "messages, of which equal ones are written as they come",
+        MAILS,
+        'a,b,5,"x, y,  z"\nb,a,5,\na,b,5,"x, y,  z"\na,b,7," \'x\' "\n',
+        at(5, A_TO_B[:4]) + sent(5, "x, y,  z") + ["5 msg 2 1 "] + sent(5, "x, y,  z") + sent(7, " 'x' "),
+    ),
+    (
+        "messages in no order",
+        ["--columns", "time,source,target,size,text,source.team", "--messages", "text", "--batch", "3"],
+        "7 b c 1 x red\n5 a b 2 y blue\n",
+        at(5, A_TO_B[:2] + ["nset 1 team blue"] + A_TO_B[2:4])
+        + sent(5, "y")
+        + at(7, ["nset 2 team red", "+node 3", "nset 3 name c", "msg 2 3 x"]),
+    ),
+    (
+        "messages of a table with names of its own",
+        ["--source", "from", "--target", "to", "--time", "on", "--times", "iso", "--messages", "what was said"],
+        'from,to,on,what was said,size (KB)\na,b,1970-01-02,"Yes, no",4\n',
+        at(86400, A_TO_B[:4]) + sent(86400, "Yes, no"),
+    ),
+    (
+        "a header that a message's column asks for",
+        ["--messages", "x"],
+        "source,target,time,x\na,b,5,y\n",
+        at(5, A_TO_B[:4]) + sent(5, "y"),
+    ),
+    (
+        "SocioPatterns as messages",
+        ["--form", "sociopatterns", "--messages"],
+        "20 a b X Y\n40 a b X Y\n",
+        at(20, A_TO_B[:2] + ["nset 1 class X"] + A_TO_B[2:4] + ["nset 2 class Y"]) + sent(20, "") + sent(40, ""),
+    ),
+    ("payments", ["--form", "konect", "--messages", "weight"], "a b 2.5 5\n", at(5, A_TO_B[:4]) + sent(5, "2.5")),
+    ("a message to itself", ["--messages", "--keep-ids"], "7 7 5\n", ["5 +node 7", "5 msg 7 7 "]),
+    (
+        "messages that are later",
+        ["--after", "5", "--messages"],
+        "a b 5\nb c 7\n",
+        ["7 +node 3", "7 nset 3 name c", "7 msg 2 3 "],
+    ),
+    (
+        "messages of a time that is spread",
+        ["--spread", "3", "--messages"],
+        "a b 5\n",
+        at(15, noted("times of the file times 1 and 0 more, spread over 3")[:5]) + sent(15, ""),
+    ),
 ]
 
 TABLES: list[tuple[str, list[str], str, str, list[str]]] = [
@@ -406,6 +461,14 @@ TABLES: list[tuple[str, list[str], str, str, list[str]]] = [
         "id,time\nb,3\n",
         "a c\n",
         ["3 +node 1", "3 nset 1 name b"],
+    ),
+    (
+        "messages between nodes of a table, one of them without a time",
+        ["--columns", "source,target,time,subject", "--messages", "subject"],
+        "id,time,team\na,3,red\na,9,blue\nb,,green\n",
+        "a,b,,x\nb,a,5,y\n",
+        ["3 +node 1", "3 nset 1 name a", "3 nset 1 team red", "3 +node 2", "3 nset 2 name b", "3 nset 2 team green"]
+        + ["3 msg 1 2 x", "5 msg 2 1 y", "9 nset 1 team blue"],
     ),
     (
         "a table whose header is skipped",
@@ -530,6 +593,46 @@ WRONG: list[tuple[str, list[str], Union[str, bytes], str]] = [
     ("leaves that are too small", ["--create", "1", "4", "union"], "a b 5\n", "--create is 2 to 65536"),
     ("no function", ["--create", "4", "4", "foo"], "a b 5\n", "one of intersection, union, balanced"),
     ("no encoding", ["--encoding", "latin-99"], "a b 5\n", "is no encoding"),
+    (
+        "a message with a column end",
+        ["--columns", "source,target,time,end", "--messages="],
+        "a b 5 6\n",
+        "--columns: a message has no column end",
+    ),
+    (
+        "a message with an end",
+        ["--form", "jsonl", "--messages="],
+        '{"source":"a","target":"b","time":5,"end":6}\n',
+        "edges:1: a message has no end",
+    ),
+    ("a value that is too long", MAILS, f"a b 5 {'x' * 1025}\n", "edges:1: a text of more than 1024 bytes"),
+    ("a value with a line feed", MAILS, 'a,b,5,"x\ny"\n', "edges:1: a line feed within a text (--join-lines"),
+    ("a value with a carriage return", MAILS, "a,b,5,x\ry\n", "edges:1: a carriage return within a text"),
+    (
+        "a message's column that is not there",
+        ["--header", "--messages", "x"],
+        "source,target,time\n",
+        "edges:1: no column is named x",
+    ),
+    (
+        "a message's column that a form has with more fields",
+        ["--form", "snap", "--messages", "weight"],
+        "a b 5\n",
+        "edges:1: no column is named weight",
+    ),
+    (
+        "a message without a time",
+        ["--columns", "source,target", "--messages="],
+        "a b\n",
+        "edges:1: neither the message nor its ends have a time",
+    ),
+    ("a value of a message's own", ["--messages=", "--values", "w=kind"], "a b 5\n", "does not go with --values w"),
+    ("messages that are contacts", ["--messages=", "--contact", "20"], "a b 5\n", "does not go with --contact"),
+    ("messages that are counted", ["--messages=", "--repeat", "count"], "a b 5\n", "does not go with --repeat"),
+    ("messages without a direction", ["--messages=", "--undirected"], "a b 5\n", "does not go with --undirected"),
+    ("messages that last", ["--messages=", "--closed"], "a b 5\n", "does not go with --closed"),
+    ("messages that end", ["--messages=", "--end", "until"], "a b 5\n", "does not go with --end"),
+    ("messages with a weight", ["--messages=", "--weight", "w"], "a b 5\n", "does not go with --weight"),
 ]
 
 
@@ -545,6 +648,9 @@ def convert_forms(tests: Tests) -> None:
         ran = tests.run("tools/edges2script", *words, "edges")
         found = ran.returncode, ran.stdout, program.text_of(ran.stderr)
         tests.check(name, found[:2] == (2, b"") and reason in found[2], found)
+    for words in ([], ["--messages"]):
+        ran = tests.run("tools/edges2script", *words)
+        tests.check(f"no file {words}", ran.returncode == 2 and b"required: EDGES" in ran.stderr, ran)
     missing = tests.run("tools/edges2script", "nowhere")
     tests.check("a file that is not there", missing.returncode == 2 and b"nowhere: No such file" in missing.stderr)
     (tests.folder / "edges.gz").write_bytes(gzip.compress(b"a b 5\n"))
@@ -689,24 +795,29 @@ def read_by_networkx(tests: Tests, names: dict[int, str], edges: dict[int, tuple
 DOT_TOKEN = re.compile(r'\s*(?:"((?:[^"\\]|\\.)*)"|([\w.]+)|(->|--|[\[\]{}=,;]))', re.S)
 
 
-def dot_of(text: str) -> tuple[dict[str, str], list[tuple[str, ...]]]:
-    """The same of DOT, of which it reads what the tool writes. `label` of an edge is a value and stands apart."""
+def statements_of(text: str) -> Iterator[tuple[list[str], dict[str, str]]]:
+    """The statements of DOT, of which it reads what the tool writes: what stands before the values, and these."""
     tokens = [
         unquoted(found[1]) if found[1] is not None else found[2] or found[3] for found in DOT_TOKEN.finditer(text)
     ]
-    nodes, edges = {}, []
     statement: list[str] = []
     for token in tokens[2:-1]:
         if token != ";":
             statement.append(token)
             continue
         start = statement.index("[")
-        values = dict(zip(statement[start + 1 :: 4], statement[start + 3 :: 4]))
-        if start == 1:
-            nodes[statement[0]] = values["label"]
-        else:
-            edges.append((statement[0], statement[2], values["value_label"], values["weight"]))
+        yield statement[:start], dict(zip(statement[start + 1 :: 4], statement[start + 3 :: 4]))
         statement = []
+
+
+def dot_of(text: str) -> tuple[dict[str, str], list[tuple[str, ...]]]:
+    """The same of DOT. `label` of an edge is a value and stands apart."""
+    nodes, edges = {}, []
+    for head, values in statements_of(text):
+        if len(head) == 1:
+            nodes[head[0]] = values["label"]
+        else:
+            edges.append((head[0], head[2], values["value_label"], values["weight"]))
     return nodes, sorted(edges)
 
 
@@ -763,6 +874,209 @@ def drawn(tests: Tests, words: list[str], series: list[str], due: list[list[str]
         told = [f"{name}: {int(row[column]):,} at {row[0]}" for row in due]
         tests.check(f"an SVG has its points {words} {name}", across == sorted(across) and len(points) == 32, points)
         tests.same(f"an SVG tells its points {words} {name}", marks, told)
+
+
+# Messages.
+
+OF_EDGES = ["source", "target", "edge", "direction"]
+TEXTS = ["hello", "Re: hello", "a, b,  c", " two  spaces ", "", 'with "quotes"', "ü, 漢"]
+
+
+def due_messages(rows: Sequence[Row], time: int) -> list[tuple[str, str, str]]:
+    """The messages of exactly an instant, equal ones once, as (source, target, value)."""
+    return sorted({(row.source, row.target, row.values["subject"]) for row in rows if row.begin == time})
+
+
+def read_messages(graph: program.Graph) -> list[tuple[str, str, str]]:
+    return sorted((graph.name(source, "name"), graph.name(target, "name"), v) for source, target, v in graph.messages)
+
+
+def random_messages(tests: Tests, seed: int, count: int) -> list[Row]:
+    """Loads random messages into `index`, some of them more than once, and gives them."""
+    rng = random.Random(seed)
+    names = ["a", "b", "Ada", "x, y", "é"]
+    ends = [(rng.choice(names), rng.choice(names), rng.randrange(20)) for _ in range(count)]
+    rows = [Row(*of_one, None, {"subject": rng.choice(TEXTS)}) for of_one in ends]
+    rows += rng.sample(rows, count // 3)
+    out = io.StringIO()
+    table = csv.writer(out, quoting=csv.QUOTE_ALL, lineterminator="\n")
+    table.writerows([row.begin, row.source, row.values["subject"], row.target] for row in rows)
+    words = ["--columns", "time,source,subject,target", "--messages", "subject"]
+    words += ["--create", "4", "2", "balanced", "--batch", str(rng.choice([1, 7, 1000]))]
+    ran = tests.run("tools/edges2script", *words, tests.file("edges.csv", out.getvalue()))
+    replies = tests.load("index", ran.stdout)
+    tests.check(f"messages, seed {seed}", ran.returncode == 0 and b"refused" not in replies, (ran.stderr, replies))
+    return rows
+
+
+def messages_of_instants(tests: Tests, seed: int) -> None:
+    """At each instant those of exactly it are listed and counted, and only where they are asked for."""
+    rows = random_messages(tests, seed, [1, 6, 60][seed % 3])
+    with tests.reader("index") as reader:
+        first, last = reader.range()
+        for time in range(first, last + 1):
+            due = due_messages(rows, time)
+            handles = [*reader.several([time, time], "snt"), int(reader.session.ask(f"at {time} sn").head[2])]
+            graphs = [reader.graph(handle) for handle in handles]
+            nodes = {graphs[0].name(node, "name") for node in graphs[0].nodes}
+            counts = [reader.counts(handle).messages for handle in handles]
+            found = [read_messages(graph) for graph in graphs], counts, nodes, graphs[0].edges
+            due_found = [due, due, []], [len(due), len(due), None], due_nodes(rows, time), {}
+            if found != due_found:
+                tests.same(f"messages, seed {seed}, instant {time}", found, due_found)
+                return
+    tests.check(f"messages, seed {seed}", True)
+
+
+Link = tuple[str, str, str, dict[str, str]]  # source, target, direction and values
+
+
+def links_of(data: bytes) -> dict[str, Link]:
+    """The edges of GraphML or GEXF by their ids."""
+    parts: dict[str, list[xml.Element]] = {}
+    for element in xml.fromstring(data).iter():
+        parts.setdefault(element.tag.partition("}")[2], []).append(element)
+    named = parts.get("key", []) + parts.get("attribute", [])
+    titles = {key.get("id"): key.get("attr.name") or key.get("title") or "" for key in named}
+    default = parts["graph"][0].get("edgedefault") or parts["graph"][0].get("defaultedgetype") or ""
+    kinds = {"true": "directed", "false": "undirected", None: default}
+    found = {}
+    for edge in parts.get("edge", []):
+        values = {titles[value.get("key")]: value.text or "" for value in edge if value.get("key")}
+        values.update((titles[value.get("for")], value.get("value", "")) for value in edge.iter() if value.get("for"))
+        kind = edge.get("type") or kinds[edge.get("directed")]
+        found[edge.get("id", "")] = edge.get("source", "")[1:], edge.get("target", "")[1:], kind, values
+    return found
+
+
+def taken(tests: Tests, time: int, columns: str, form: str, *words: str) -> bytes:
+    """The graph of `index` as of an instant, with these columns and in this form."""
+    ran = tests.run("tools/snapshot", "index", str(time), "--columns", columns, "--format", form, *words)
+    tests.same(f"a snapshot of {columns} as {form}", (ran.returncode, ran.stderr), (0, b""))
+    return ran.stdout
+
+
+def messages_beside_edges(tests: Tests, kind: str) -> None:
+    """An edge whose own key is `message`, and messages with odd values, in each format and read back."""
+    lines = [f"5 +node {i}" for i in range(1, len(ODD) + 1)] + [f"5 +edge 10 1 2 {kind}", "5 eset 10 message own"]
+    lines += [f"6 msg {i} {i % len(ODD) + 1} {text}" for i, text in enumerate(ODD, 1)]
+    lines += ["6 msg 1 2 plain", "7 msg 1 1 later", "8 msg 2 1 latest"]
+    script = f"create 4 2 union\nload {len(lines)}\n" + "".join(line + "\n" for line in lines)
+    tests.load("index", script.encode())
+    due = {f"m{i}": (str(i), str(i % len(ODD) + 1), text) for i, text in enumerate(ODD, 1)}
+    direction = "undirected" if kind == "undir" else "directed"
+    for form in ("graphml", "gexf"):
+        links = links_of(taken(tests, 6, "set", form))
+        edge = links.pop("e10", None)
+        tests.same(f"{form} with messages, {kind}: the edge", edge, ("1", "2", direction, {"value_message": "own"}))
+        due_links = {name: (s, t, "directed", {"message": text}) for name, (s, t, text) in due.items()}
+        tests.same(f"{form} with messages, {kind}", links, due_links)
+        alone = links_of(taken(tests, 6, "se", form))
+        tests.same(f"{form} without messages, {kind}", alone, {"e10": ("1", "2", direction, {"message": "own"})})
+        kinds = Counter(link[2] for link in links_of(taken(tests, 6, "st", form, "--as", "undirected")).values())
+        tests.same(f"{form} with edges alone undirected, {kind}", kinds, {"undirected": 1, "directed": len(due)})
+    dot = program.text_of(taken(tests, 6, "set", "dot"))
+    drawn = {values.pop("id"): (*head, values) for head, values in statements_of(dot) if len(head) > 1}
+    of_edge = {"dir": "none", "message": "own"} if kind == "undir" else {"message": "own"}
+    due_drawn: dict[str, Any] = {"10": ("1", "->", "2", of_edge)}
+    due_drawn.update((n, (s, "->", t, {"style": "dashed", "label": text})) for n, (s, t, text) in due.items())
+    tests.same(f"DOT with messages, {kind}", drawn, due_drawn)
+    rows = list(csv.reader(io.StringIO(taken(tests, 6, "set", "edges").decode(), newline="")))
+    due_rows = [[*OF_EDGES, "message", "value_message"], ["1", "2", "10", kind, "", "own"]]
+    due_rows += [[s, t, name, "dir", text, ""] for name, (s, t, text) in due.items()]
+    tests.same(f"a table with messages, {kind}", rows, due_rows)
+    plain = list(csv.reader(io.StringIO(taken(tests, 6, "se", "edges").decode(), newline="")))
+    tests.same(f"a table without messages, {kind}", plain, [[*OF_EDGES, "message"], ["1", "2", "10", kind, "own"]])
+
+
+def messages_alone(tests: Tests) -> None:
+    """Messages without edges are a directed graph, and an end that is gone again at their instant is there for them."""
+    of_six = ["msg 1 2 7", "+node 9", "msg 9 2 8.5", "-node 2", "-node 9"]
+    lines = ["5 +node 1", "5 +node 2", *at(6, of_six), "7 +node 3"]
+    tests.load("index", f"create 4 2 union\nload {len(lines)}\n{chr(10).join(lines)}\n".encode())
+    due = [("1", "7"), ("9", "8.5")]
+    for form in ("graphml", "gexf"):
+        found = taken(tests, 6, "snt", form, "--numbers")
+        due_links = {f"m{i}": (s, "2", "directed", {"message": v}) for i, (s, v) in enumerate(due, 1)}
+        tests.same(f"{form} of messages alone", links_of(found), due_links)
+        tests.same(f"{form} of messages alone: nodes", found.count(b"<node "), 3)
+        tests.same(f"{form} of messages that are numbers", found.count(b'type="double"'), 1)
+        tests.same(f"{form} of an instant without messages", links_of(taken(tests, 5, "snt", form)), {})
+    tests.same("a table of nodes has no message", taken(tests, 6, "st", "nodes"), b"node\n1\n")
+    tests.same("a table without a message", taken(tests, 5, "st", "edges"), b"source,target,edge,direction,message\n")
+    spells = tests.run("tools/timeline", "index", "--messages", "--at", "5", "6", "7", "--format", "gexf").stdout
+    tests.same("spells of ends that are gone", (spells.count(b"<node "), spells.count(b"<edge ")), (4, 2))
+    try:
+        networkx: Any = importlib.import_module("networkx")
+    except ImportError:
+        return
+    for form in ("graphml", "gexf"):
+        taken(tests, 6, "snt", form, "--output", "then")
+        read = getattr(networkx, f"read_{form}")(tests.folder / "then")
+        told = sorted((s, t, values["message"]) for s, t, values in read.edges(data=True))
+        tests.same(f"{form} of messages by networkx", told, [(f"n{s}", "n2", v) for s, v in due])
+        tests.check(f"{form} of messages by networkx is directed", read.is_directed())
+
+
+def messages_that_grow(tests: Tests, rows: Sequence[Row], times: Sequence[int]) -> None:
+    """Growth counts the messages of exactly its instants, where they are asked for."""
+    words = ["index", "--points", str(len(times)), "--columns"]
+    table = list(csv.reader(io.StringIO(tests.run("tools/growth", *words, "st").stdout.decode())))
+    due = [[str(t), str(len(due_nodes(rows, t))), "0", "0", "0", str(len(due_messages(rows, t)))] for t in times]
+    tests.same("messages that grew", table, ["instant,nodes,edges,node_values,edge_values,messages".split(","), *due])
+    plain = tests.run("tools/growth", *words, "s").stdout.split(b"\n")[0]
+    tests.same("growth without messages", plain, b"instant,nodes,edges,node_values,edge_values")
+    tests.run("tools/growth", "--svg", "growth.svg", *words, "st")
+    groups = xml.parse(tests.folder / "growth.svg").getroot().iter(f"{SVG}g")
+    marks = {group.get("class"): [title.text for title in group.iter(f"{SVG}title")] for group in groups}
+    tests.same("an SVG has its messages", marks.get("messages"), [f"messages: {row[5]} at {row[0]}" for row in due])
+    chart = tests.run("tools/growth", "--text", *words, "st").stdout.decode()
+    tests.check("a chart has its messages", "m messages" in chart, chart)
+
+
+def messages_of_page(tests: Tests, rows: Sequence[Row], times: Sequence[int]) -> None:
+    """The page has an arrow for each two nodes with messages at an instant, and their count."""
+    words = ["tools/timeline", "index", "--points", str(len(times))]
+    of_times = [due_messages(rows, time) for time in times]
+    for most, more in ((3000, []), (2, ["--most", "2"])):
+        told = json.loads(script_of(tests.run(*words, "--messages", *more).stdout))
+        names = [name for name, _ in told["nodes"]]
+        found = [[count, sorted((names[s], names[t]) for s, t in arrows)] for count, arrows in told["messages"]]
+        drawn = [{(s, t) for s, t, _ in of_time if s in names and t in names} for of_time in of_times]
+        due = [[len(of_time), sorted(arrows)] for of_time, arrows in zip(of_times, drawn)]
+        tests.same(f"a page with messages, of up to {most} nodes", found, due)
+        tests.check(f"a page of up to {most} nodes", len(names) == min(most, len(due_nodes(rows, times[-1]))), names)
+    page = script_of(tests.run(*words).stdout)
+    tests.check("a page without messages", "messages" not in json.loads(page), page)
+    root = xml.fromstring(tests.run(*words, "--messages", "--format", "gexf").stdout)
+    parts = [element for element in root.iter() if element.tag.endswith(("}node", "}edge"))]
+    labels = {part.get("id"): part.get("label") for part in parts}
+    listed = []
+    for part in (part for part in parts if part.tag.endswith("}edge")):
+        bounds = [(spell.get("start"), spell.get("end")) for spell in part.iter() if spell.tag.endswith("}spell")]
+        listed.append((bounds, labels[part.get("source")], labels[part.get("target")], part.get("label")))
+    due_listed = [([(str(t), str(t))], *message) for t, of_time in zip(times, of_times) for message in of_time]
+    tests.same("spells of messages", sorted(listed), sorted(due_listed))
+    plain = tests.run(*words, "--format", "gexf").stdout
+    tests.same("spells without messages", plain.count(b"<edge "), 0)
+
+
+def messages_in_pictures(tests: Tests) -> None:
+    rows = random_messages(tests, 3, 40)
+    with tests.reader("index") as reader:
+        first, last = reader.range()
+    times = list(range(first, last + 1))
+    messages_that_grow(tests, rows, times)
+    messages_of_page(tests, rows, times)
+
+
+def messages(tests: Tests) -> None:
+    for seed in range(6):
+        messages_of_instants(tests, seed)
+    for kind in ("dir", "undir"):
+        messages_beside_edges(tests, kind)
+    messages_alone(tests)
+    messages_in_pictures(tests)
 
 
 # What goes wrong: a line and a status, and no more.
@@ -1055,11 +1369,30 @@ FORMS: list[tuple[str, str, list[str], str, list[str]]] = [
 ]
 
 
+MESSAGES_IN_GEXF = """\
+<gexf xmlns="http://gexf.net/1.3" version="1.3"><graph defaultedgetype="undirected">
+  <attributes class="edge"><attribute id="0" title="said" type="string"/></attributes>
+  <nodes><node id="7" label="a"/><node id="8" label="b"/></nodes>
+  <edges>
+    <edge id="0" source="7" target="8" weight="2.0" timestamps="&lt;[5.0, 7.0]&gt;">
+      <attvalues><attvalue for="0" value="x &amp; y"/></attvalues></edge>
+    <edge id="1" source="7" target="8"><spells><spell start="6" end="6"/></spells></edge>
+  </edges>
+</graph></gexf>
+"""
+
+
 def other_forms(tests: Tests) -> None:
     for name, file, words, text, due in FORMS:
         tests.same(name, changes_of(tests.run("tools/edges2script", *words, tests.file(file, text))), due)
     closed = tests.run("tools/edges2script", "--closed", "--form", "jsonl", tests.file("edges", JSON_LINES))
     tests.same("an end of JSON that belongs to it", changes_of(closed)[-1], "10 -edge 2")
+    ran = tests.run("tools/edges2script", "--messages", "said", tests.file("edges.gexf", MESSAGES_IN_GEXF))
+    due = at(5, A_TO_B[:4]) + sent(5, "x & y") + sent(6, "") + sent(7, "x & y")
+    tests.same("messages of GEXF", changes_of(ran), due)
+    tests.one_line("messages are counted", ran, 0, "messages: 3, changes: 7", "1 columns that messages have no place")
+    ran = tests.run("tools/edges2script", "--messages", "kind", "--form", "jsonl", "edges.jsonl")
+    tests.one_line("a message of JSON with an end", ran, 2, "edges.jsonl:2: a message has no end")
     text = "# x\na b 5\n# y\n"
     told = tests.run("tools/edges2script", "--comments", "#", tests.file("edges", text)).stderr
     tests.check("comments are counted", b"comments skipped: 2 lines" in told, told)
@@ -1255,6 +1588,8 @@ def words_are_told(tests: Tests) -> None:
         (["tools/growth", "--sv"], ["--svg"]),
         (["snapshot", "index", "la"], ["last"]),
         (["deltagraph", "--"], ["--cache", "--checked"]),
+        (["growth", "--columns", "sne"], ["sne", "snet"]),
+        (["edges2script", "--mes"], ["--messages"]),
     ):
         words = " ".join(f"'{word}'" for word in line)
         ask = f"COMP_WORDS=({words}); COMP_CWORD={len(line) - 1}; _deltagraph {line[0]} '{line[-1]}' '{line[-2]}'; "
@@ -1323,7 +1658,7 @@ def bench_of_a_liar(tests: Tests, word: str) -> None:
 def main() -> int:
     tests = Tests(sys.argv[1], sys.argv[2])
     parts = [convert_many, convert_forms, convert_batches, other_forms, large, spread_in_parts, dates]
-    parts += [snapshots, growth, timeline, failures, words_are_told, tutorial_as_written, bench]
+    parts += [snapshots, growth, timeline, messages, failures, words_are_told, tutorial_as_written, bench]
     for part in parts:
         try:
             part(tests)
