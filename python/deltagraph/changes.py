@@ -192,10 +192,32 @@ class UnsetEdge(_OfKey):
     __slots__ = ()
 
 
-Change = Union[AddNode, RemoveNode, AddEdge, RemoveEdge, SetNode, UnsetNode, SetEdge, UnsetEdge]
+class _Message(NamedTuple):
+    time: int
+    source: int
+    target: int
+    value: str
+
+
+class SendMessage(_Message):
+    """A message goes from one node that is there to another, or to itself, at one instant, and changes no graph."""
+
+    WORD: ClassVar[str] = "msg"
+    __slots__ = ()
+    __eq__, __ne__, __hash__ = _same, _other, tuple.__hash__
+
+    def line(self) -> str:
+        """The line of the script, without its line feed. Raises `InvalidChange` where there is none."""
+        time, source, target, value = self
+        if 0 <= time <= LAST_INSTANT and 0 <= source <= LARGEST_ID and 0 <= target <= LARGEST_ID:
+            return f"{time} msg {source} {target} {_value(value)}"
+        raise _outside(time, source, target)
+
+
+Change = Union[AddNode, RemoveNode, AddEdge, RemoveEdge, SetNode, UnsetNode, SetEdge, UnsetEdge, SendMessage]
 AnyChange = Union[Change, "tuple[object, ...]", str, bytes]
 CLASSES: frozenset[type[Change]] = frozenset(
-    (AddNode, RemoveNode, AddEdge, RemoveEdge, SetNode, UnsetNode, SetEdge, UnsetEdge)
+    (AddNode, RemoveNode, AddEdge, RemoveEdge, SetNode, UnsetNode, SetEdge, UnsetEdge, SendMessage)
 )
 OF_WORD: dict[str, type[Change]] = {kind.WORD: kind for kind in CLASSES}
 DIRECTIONS = {"dir": True, "undir": False}
@@ -208,11 +230,14 @@ def change_of(line: str) -> Optional[Change]:
     kind = OF_WORD.get(word)
     if kind is None:
         return None
-    fields: list[object] = list(rest.split(" ", 2 if issubclass(kind, _OfValue) else -1))
+    fields: list[object] = list(rest.split(" ", 2 if issubclass(kind, (_OfValue, SendMessage)) else -1))
     try:
         if issubclass(kind, AddEdge):
             *ids, direction = fields
             change: Change = kind(int(time), *map(int, ids), DIRECTIONS[direction])  # type: ignore
+        elif issubclass(kind, SendMessage):
+            source, target, value = fields
+            change = kind(int(time), int(source), int(target), value)  # type: ignore
         else:
             change = kind(int(time), int(fields[0]), *fields[1:])  # type: ignore
         return change if change.line() == line else None

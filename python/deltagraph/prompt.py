@@ -20,7 +20,8 @@ from .words import NUMBER, bytes_of, lines_after, text_of
 
 HELP = """\
 The commands are those of the script language (docs/SCRIPT.md), as
-  at TIME COLS    the graph as of an instant, as a handle; COLS is s, sn, se or sne
+  at TIME COLS    the graph as of an instant, as a handle; COLS is s, sn, se or sne, and with a t behind it, as st,
+                  the messages of the instant are there too
   several COLS TIMES    list HANDLE    counts HANDLE    node HANDLE ID    neighbours HANDLE ID    release HANDLE
   load COUNT, append COUNT    with the changes in the COUNT lines that follow
 TIME is an instant, first or last of the history, or a date where there is a calendar. HANDLE may be last, which is the

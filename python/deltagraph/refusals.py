@@ -292,6 +292,13 @@ class NewFormat(Refused):
         return "the file has the second form already"
 
 
+class OldFormat(Refused):
+    """22: a line of the batch is a message, and the file has the first form, which has none."""
+
+    def words(self) -> str:
+        return "the file has the first form, which has no messages; `upgrade` lets it go on in the second"
+
+
 OF_NUMBER: dict[int, type[Refused]] = {
     1: Syntax,
     2: NoIndex,
@@ -314,6 +321,7 @@ OF_NUMBER: dict[int, type[Refused]] = {
     19: HandlesSpent,
     20: AlreadyLoaded,
     21: NewFormat,
+    22: OldFormat,
 }
 
 

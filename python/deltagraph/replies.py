@@ -6,7 +6,7 @@ from typing import Iterator, NamedTuple, Optional, Union
 
 from .words import text_of
 
-KINDS = (b"node", b"edge", b"nattr", b"eattr")  # of elements, in the order in which they are listed
+KINDS = (b"node", b"edge", b"nattr", b"eattr", b"msg")  # of elements, in the order in which they are listed
 
 
 class Loaded(NamedTuple):
@@ -35,12 +35,14 @@ class Span(NamedTuple):
 
 
 class Counts(NamedTuple):
-    """How many elements of each kind a graph has; the last two are values at nodes and at edges."""
+    """How many elements of each kind a graph has, values at nodes and at edges among them; and how many messages, where
+    its columns have them."""
 
     nodes: int
     edges: int
     node_attributes: int
     edge_attributes: int
+    messages: Optional[int] = None
 
 
 class Node(NamedTuple):
@@ -81,6 +83,14 @@ class EdgeAttribute(NamedTuple):
 
     edge: int
     key: str
+    value: str
+
+
+class Message(NamedTuple):
+    """A message of the instant of a graph."""
+
+    source: int
+    target: int
     value: str
 
 
@@ -148,6 +158,7 @@ class Record(NamedTuple):
     structure: int
     node_attributes: int
     edge_attributes: int
+    messages: int
 
 
 class Tree(NamedTuple):
@@ -171,11 +182,11 @@ def step_or_potential(line: str) -> Union[Step, Potential]:
 
 def record_of(line: str) -> Record:
     """The record of a line of `tree`."""
-    _, *key, structure, nodes, edges = line.split(" ")
-    return Record(" ".join(key), int(structure), int(nodes), int(edges))
+    _, *key, structure, nodes, edges, messages = line.split(" ")
+    return Record(" ".join(key), int(structure), int(nodes), int(edges), int(messages))
 
 
-# A listing comes in pieces of whole lines, of the four kinds one after another. A piece is read at once, and its tuples
+# A listing comes in pieces of whole lines, of the five kinds one after another. A piece is read at once, and its tuples
 # are made without the call of their class, which would cost as much again.
 
 
@@ -208,6 +219,11 @@ def edge_columns(section: bytes) -> tuple[Iterator[int], Iterator[int], Iterator
 def node_attributes_in(section: bytes) -> Iterator[NodeAttribute]:
     lines = (line.split(" ", 3) for line in text_of(section[:-1]).split("\n"))
     return (tuple.__new__(NodeAttribute, (int(node), key, value)) for _, node, key, value in lines)
+
+
+def messages_in(section: bytes) -> Iterator[Message]:
+    lines = (line.split(" ", 3) for line in text_of(section[:-1]).split("\n"))
+    return (tuple.__new__(Message, (int(source), int(target), value)) for _, source, target, value in lines)
 
 
 def edge_attributes_in(section: bytes) -> Iterator[EdgeAttribute]:

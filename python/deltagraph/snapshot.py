@@ -5,7 +5,7 @@ from itertools import chain
 from typing import TYPE_CHECKING, Any, Callable, Iterator, NamedTuple, Optional, TypeVar, Union
 
 from . import replies
-from .replies import Counts, Edge, EdgeAttribute, Neighbour, Node, NodeAttribute
+from .replies import Counts, Edge, EdgeAttribute, Message, Neighbour, Node, NodeAttribute
 
 if TYPE_CHECKING:
     from .store import Store
@@ -25,9 +25,10 @@ class EdgeTable(NamedTuple):
 class Snapshot:
     """A graph that the program holds by a handle until it is released, or the store is closed.
 
-    `handle` is its number, `columns` what it has (`s`, and `n` or `e` with the attributes of nodes or edges), `weight`
-    the bytes of the plan that leads to it. `time` is its instant; of a node of the index, which `Store.materialise`
-    holds, it is None, and `held` is that node. Such a one may be no graph, so `node` and `neighbours` are refused.
+    `handle` is its number, `columns` what it has (`s`, with `n` or `e` the attributes of nodes or edges, and with `t` the
+    messages of exactly its instant), `weight` the bytes that lead to it. `time` is its instant; of a node of the index,
+    which `Store.materialise` holds, it is None, and `held` is that node. Such a one may be no graph, so `node` and
+    `neighbours` are refused.
 
     Elements come as the program writes them. Other calls may be made while they come: what is left of a listing is then
     kept as bytes. A listing that is not read to its end is read and dropped.
@@ -86,13 +87,18 @@ class Snapshot:
         """The values at edges, by the edges' ids."""
         return chain.from_iterable(self._of_kind(b"eattr", replies.edge_attributes_in))
 
-    def __iter__(self) -> Iterator[Union[int, Edge, NodeAttribute, EdgeAttribute]]:
+    def messages(self) -> Iterator[Message]:
+        """The messages of exactly its instant, by source, target and value; none where the columns have no `t`."""
+        return chain.from_iterable(self._of_kind(b"msg", replies.messages_in))
+
+    def __iter__(self) -> Iterator[Union[int, Edge, NodeAttribute, EdgeAttribute, Message]]:
         """All elements in element order, by one listing; a node is its id."""
         read: dict[bytes, Callable[[bytes], Iterator[Any]]] = {
             b"node": replies.nodes_in,
             b"edge": replies.edges_in,
             b"nattr": replies.node_attributes_in,
             b"eattr": replies.edge_attributes_in,
+            b"msg": replies.messages_in,
         }
         return chain.from_iterable(read[kind](section) for kind, section in self.sections())
 
@@ -114,12 +120,15 @@ class Snapshot:
         """A graph of networkx with the attributes of the columns. Raises ImportError where networkx is not there.
 
         It is a MultiGraph where no edge has a direction, else a MultiDiGraph; the key of an edge is its id. In a
-        MultiDiGraph an edge without a direction is two arcs of this key, both of them with its attributes.
+        MultiDiGraph an edge without a direction is two arcs of this key, both of them with its attributes. Messages are
+        arcs of a MultiDiGraph too, with the keys `msg 0`, `msg 1` and so on, and the value as their attribute `message`;
+        an end that was removed at that very instant, behind the message, is then a node without attributes.
         """
         import networkx
 
         nodes: dict[int, dict[str, str]] = {}
         edges: dict[int, tuple[Edge, dict[str, str]]] = {}
+        messages: list[Message] = []
         for element in self:
             if isinstance(element, int):
                 nodes[element] = {}
@@ -127,19 +136,23 @@ class Snapshot:
                 edges[element.id] = element, {}
             elif isinstance(element, NodeAttribute):
                 nodes[element.node][element.key] = element.value
+            elif isinstance(element, Message):
+                messages.append(element)
             else:
                 edges[element.edge][1][element.key] = element.value
-        directed = any(edge.directed for edge, _ in edges.values())
+        directed = bool(messages) or any(edge.directed for edge, _ in edges.values())
         graph = networkx.MultiDiGraph() if directed else networkx.MultiGraph()
         graph.add_nodes_from(nodes.items())
         graph.add_edges_from((edge.source, edge.target, edge.id, values) for edge, values in edges.values())
         if directed:
             back = ((edge, values) for edge, values in edges.values() if not edge.directed)
             graph.add_edges_from((edge.target, edge.source, edge.id, values) for edge, values in back)
+        for number, (source, target, value) in enumerate(messages):
+            graph.add_edge(source, target, f"msg {number}", message=value)
         return graph
 
     def to_pandas(self) -> tuple[Any, Any]:
-        """Two frames of pandas, of nodes and of edges, by their ids, with a column for each key.
+        """Two frames of pandas, of nodes and of edges, by their ids, with a column for each key; messages are left out.
 
         The frame of edges begins with `source`, `target` and `directed`; a key of one of these names stands there with
         `value_` before it. What has no value is missing. Raises ImportError where pandas is not there.
@@ -155,7 +168,7 @@ class Snapshot:
                 edges[element.id] = {name: getattr(element, name) for name in ("source", "target", "directed")}
             elif isinstance(element, NodeAttribute):
                 nodes[element.node][element.key] = element.value
-            else:
+            elif isinstance(element, EdgeAttribute):
                 own = element.key in ("source", "target", "directed")
                 edges[element.edge][f"value_{element.key}" if own else element.key] = element.value
         return tuple(

@@ -42,7 +42,8 @@ class Store:
     goes on. `index` is the path, and `calendar` tells which dates the instants are, where the index has one.
 
     A time is an instant, or with a calendar a date: text, a date or a datetime. `columns` is what is retrieved: `s`,
-    the nodes and edges, with `n` the attributes of nodes and with `e` those of edges (`s`, `sn`, `se`, `sne`).
+    the nodes and edges, with `n` the attributes of nodes and with `e` those of edges (`s`, `sn`, `se`, `sne`);
+    `at` and `several` take a `t` behind them for the messages of the instant.
 
     One thread at a time may use it.
     """
@@ -250,7 +251,7 @@ class Store:
     # Graphs.
 
     def at(self, time: Time, columns: str = "s") -> Snapshot:
-        """The graph as of a time."""
+        """The graph as of a time; with a `t` at the end of the columns, as `st`, with the messages of exactly that time."""
         instant = self.instant(time)
         _, _, handle, weight = self.ask(f"at {instant} {columns}").head()
         return Snapshot(self, int(handle), columns, int(weight), instant)

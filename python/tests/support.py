@@ -98,6 +98,7 @@ class Model:
         self.now = Graph()
         self.changes: list[Change] = []
         self.graphs: dict[int, Graph] = {}
+        self.messages: dict[int, set[tuple[int, int, str]]] = {}
 
     def grow(self, count: int) -> list[Change]:
         """More changes; their times go on where the last ones ended, and the first is later."""
@@ -125,7 +126,7 @@ class Model:
         bare = [e for e in edges if not graph.values[e]]
         moves: list[Callable[[], Change]] = [self._add_node]
         if nodes:
-            moves += [self._add_edge, self._add_edge, self._set_node, self._set_node]
+            moves += [self._add_edge, self._add_edge, self._set_node, self._set_node, self._send, self._send]
         if edges:
             moves += [self._set_edge]
         if free:
@@ -169,6 +170,12 @@ class Model:
         key, value = self.random.choice(KEYS), self.random.choice(VALUES)
         self.now.values[edge][key] = value
         return deltagraph.SetEdge(self.time, edge, key, value)
+
+    def _send(self) -> Change:
+        source, target = (self.random.choice(list(self.now.nodes)) for _ in range(2))
+        value = self.random.choice(VALUES)
+        self.messages.setdefault(self.time, set()).add((source, target, value))
+        return deltagraph.SendMessage(self.time, source, target, value)
 
     def _drop(self, held: dict[int, Any], number: int, kind: Callable[[int, int], Change]) -> Change:
         del held[number]

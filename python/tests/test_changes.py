@@ -6,7 +6,7 @@ import random
 import unittest
 
 from deltagraph import AddEdge, AddNode, InvalidChange, LargeInstant, RemoveEdge, RemoveNode, SetEdge, SetNode
-from deltagraph import UnsetEdge, UnsetNode
+from deltagraph import SendMessage, UnsetEdge, UnsetNode
 from deltagraph.changes import batches, change_of, check_instants, line_of
 from deltagraph.words import LARGEST_BATCH, LARGEST_ID, LAST_INSTANT, lines_after
 
@@ -21,6 +21,8 @@ LINES = [
     (UnsetNode(41, 1, "name"), "41 ndel 1 name"),
     (SetEdge(42, 5, "w", "1 2"), "42 eset 5 w 1 2"),
     (UnsetEdge(43, 5, "w"), "43 edel 5 w"),
+    (SendMessage(44, 1, 2, " hi  you "), "44 msg 1 2  hi  you "),
+    (SendMessage(44, 1, 1, ""), "44 msg 1 1 "),
 ]
 
 
@@ -47,6 +49,8 @@ class Changes(unittest.TestCase):
             AddNode(1, LARGEST_ID + 1),
             AddEdge(1, 1, 2, -1),
             AddNode("1", 1),  # type: ignore[arg-type]
+            SendMessage(1, 1, LARGEST_ID + 1, "v"),
+            SendMessage(1, 1, 2, "a\nb"),
             SetNode(1, 1, "", "v"),
             SetNode(1, 1, "a key", "v"),
             SetNode(1, 1, "k" * 65, "v"),

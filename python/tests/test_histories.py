@@ -2,10 +2,21 @@
 from __future__ import annotations
 
 import random
-from typing import Any
+from typing import Any, Optional
 
 import deltagraph
-from deltagraph import AddEdge, AddNode, BadChange, RemoveEdge, RemoveNode, SetEdge, SetNode, UnsetEdge, UnsetNode
+from deltagraph import (
+    AddEdge,
+    AddNode,
+    BadChange,
+    RemoveEdge,
+    RemoveNode,
+    SendMessage,
+    SetEdge,
+    SetNode,
+    UnsetEdge,
+    UnsetNode,
+)
 
 from .support import Case, Graph, Model, in_some_form
 
@@ -28,6 +39,7 @@ def first_bad(model: Model, time: int) -> list[tuple[Any, str]]:
         (RemoveEdge(time, free), "no-edge"),
         (SetEdge(time, free, "k", "v"), "no-edge"),
         (AddEdge(time, free, free, free), "no-end"),
+        (SendMessage(time, free, free, "v"), "no-end"),
         ("no change", "form"),
     ]
     if node is not None:
@@ -91,14 +103,16 @@ class Histories(Case):
         first, last = model.changes[0].time, model.time
         self.assertEqual(store.span(), (first, last))
         times = sorted(pick.choice([first, last, pick.randint(first, last)]) for _ in range(pick.randrange(1, 5)))
-        columns = pick.choice(["s", "sn", "se", "sne"])
-        with store.several(times, columns) as snapshots:
+        columns, heard = pick.choice(["s", "sn", "se", "sne"]), pick.choice(["", "t"])
+        if model.messages and heard:
+            times = sorted([*times, pick.choice(sorted(model.messages))])
+        with store.several(times, columns + heard) as snapshots:
             self.assertEqual([snapshot.time for snapshot in snapshots], times)
             self.assertEqual(snapshots.sum, sum(snapshot.weight for snapshot in snapshots))
             for snapshot, time in zip(snapshots, times):
-                self.same(snapshot, model.graph(time), columns, pick)
+                self.same(snapshot, model.graph(time), columns, pick, model.messages.get(time, set()) if heard else None)
         with store.at(times[0], columns) as snapshot:
-            self.same(snapshot, model.graph(times[0]), columns, pick)
+            self.same(snapshot, model.graph(times[0]), columns, pick, None)
             plan = store.plan(times[0], columns)
             self.assertEqual(plan.weight, snapshot.weight)
             self.assertEqual(sum(step.weight for step in plan.steps), plan.weight)
@@ -108,13 +122,24 @@ class Histories(Case):
         values = sum(map(len, now.nodes.values())) + sum(map(len, now.values.values()))
         self.assertEqual(store.clean(), len(now.nodes) + len(now.edges) + values)
 
-    def same(self, found: deltagraph.Snapshot, due: Graph, columns: str, pick: random.Random) -> None:
+    def same(
+        self,
+        found: deltagraph.Snapshot,
+        due: Graph,
+        columns: str,
+        pick: random.Random,
+        messages: Optional[set[tuple[int, int, str]]],
+    ) -> None:
         of_nodes = due.nodes if "n" in columns else {node: {} for node in due.nodes}
         of_edges = due.values if "e" in columns else {edge: {} for edge in due.edges}
         edges = [(edge, *ends) for edge, ends in sorted(due.edges.items())]
         node_values = [(node, key, value) for node in of_nodes for key, value in of_nodes[node].items()]
         edge_values = [(edge, key, value) for edge in of_edges for key, value in of_edges[edge].items()]
-        self.assertEqual(found.counts(), (len(due.nodes), len(edges), len(node_values), len(edge_values)))
+        told = None if messages is None else len(messages)
+        self.assertEqual(found.counts(), (len(due.nodes), len(edges), len(node_values), len(edge_values), told))
+        listed_messages = list(found.messages())
+        self.assertEqual((set(listed_messages), len(listed_messages)), (messages or set(), told or 0))
+        self.assertEqual([message[:2] for message in listed_messages], sorted(message[:2] for message in messages or ()))
         self.assertEqual(list(found.nodes()), sorted(due.nodes))
         self.assertEqual(list(found.edges()), edges)
         self.assertEqual(list(zip(*found.to_edges())), edges)
@@ -131,18 +156,30 @@ class Histories(Case):
         self.assertIsNone(found.node(41))
         self.assertEqual(found.neighbours(41), [])
         if networkx is not None:
-            self.in_networkx(found.to_networkx(), due, of_nodes, of_edges)
+            self.in_networkx(found.to_networkx(), due, of_nodes, of_edges, messages or set())
 
-    def in_networkx(self, graph: Any, due: Graph, of_nodes: dict[int, Any], of_edges: dict[int, Any]) -> None:
-        directed = any(ends[2] for ends in due.edges.values())
+    def in_networkx(
+        self,
+        graph: Any,
+        due: Graph,
+        of_nodes: dict[int, Any],
+        of_edges: dict[int, Any],
+        messages: set[tuple[int, int, str]],
+    ) -> None:
+        directed = bool(messages) or any(ends[2] for ends in due.edges.values())
         self.assertEqual((graph.is_directed(), graph.is_multigraph()), (directed, True))
-        self.assertEqual(dict(graph.nodes(data=True)), of_nodes)
+        ends = {end: {} for message in messages for end in message[:2]}
+        self.assertEqual(dict(graph.nodes(data=True)), {**ends, **of_nodes})
         arcs = {}
         for edge, (source, target, one_way) in due.edges.items():
             ends = (source, target)
             arcs[edge] = {ends, ends[::-1]} if directed and not one_way else {ends if directed else tuple(sorted(ends))}
         found: dict[int, set[Any]] = {}
+        sent = set()
         for source, target, edge, values in graph.edges(keys=True, data=True):
+            if isinstance(edge, str):
+                sent.add((source, target, values["message"]))
+                continue
             found.setdefault(edge, set()).add((source, target) if directed else tuple(sorted((source, target))))
             self.assertEqual(values, of_edges[edge])
-        self.assertEqual(found, arcs)
+        self.assertEqual((found, sent), (arcs, messages))

@@ -34,7 +34,7 @@ class LongReplies(Case):
         with self.by_rote({"list": ["list", LONG, 5, 5], "counts": "ok counts 1 2 3 4 5\nend\n"}) as store:
             snapshot = store.at(1, "sn")
             for node in itertools.islice(snapshot.nodes(), 3):
-                self.assertEqual(snapshot.counts(), (2, 3, 4, 5))
+                self.assertEqual(snapshot.counts(), (2, 3, 4, 5, None))
                 self.assertEqual(sum(1 for _ in snapshot.edges()), 5)
             together = zip(snapshot.nodes(), snapshot.nodes())
             self.assertEqual(sum(1 for one, other in together if one == other), LONG)

@@ -40,6 +40,7 @@ BY_ROTE = [
     (19, "handles-spent", "", deltagraph.HandlesSpent, {}),
     (20, "already-loaded", "", deltagraph.AlreadyLoaded, {}),
     (21, "new-format", "", deltagraph.NewFormat, {}),
+    (22, "old-format", "", deltagraph.OldFormat, {}),
     (99, "of-tomorrow", "5 x", deltagraph.Refused, {"rest": ["5", "x"]}),
 ]
 
