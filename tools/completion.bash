@@ -17,7 +17,7 @@ _deltagraph_offer() {
 _deltagraph_values() {
     case $1 in
         --as) echo mixed directed undirected ;;
-        --columns) [ "$2" = edges2script ] || echo s sn se sne ;;
+        --columns) [ "$2" = edges2script ] || echo s sn se sne st snt set snet ;;
         --encoding) echo utf-8 utf-16 latin-1 cp1252 bytes ;;
         --form) echo table snap konect network-repository sociopatterns jsonl graphml gexf ;;
         --format) [ "$2" = timeline ] && echo html gexf || echo graphml gexf dot edges nodes ;;
@@ -36,8 +36,8 @@ _deltagraph_options() {
         edges2script)
             echo --help --form --columns --header --source --target --time --end --weight --values --separator \
                 --no-quotes --join-lines --comments --encoding --nodes --node-columns --node-header --times --scale \
-                --shift --closed --contact --spread --no-clock --repeat --directed --undirected --keep-ids --name \
-                --skip-untimed --after --create --batch --progress
+                --shift --closed --contact --spread --no-clock --messages --repeat --directed --undirected --keep-ids \
+                --name --skip-untimed --after --create --batch --progress
             ;;
         snapshot) echo --help --format --columns --label --numbers --as --ids --output --program --progress ;;
         growth)
@@ -45,8 +45,8 @@ _deltagraph_options() {
                 --progress
             ;;
         timeline)
-            echo --help --from --to --points --at --format --start-at --most --label --title --dates --output --program \
-                --progress
+            echo --help --from --to --points --at --messages --format --start-at --most --label --title --dates --output \
+                --program --progress
             ;;
     esac
 }

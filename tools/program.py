@@ -25,6 +25,8 @@ LONGEST_KEY = 64  # bytes
 LONGEST_VALUE = 1024  # bytes
 LARGEST_BATCH = 1 << 20  # lines
 MOST_INSTANTS = 32  # of one `several`
+COLUMNS = ("s", "sn", "se", "sne")  # of a graph: structure, values of nodes, of edges
+TOLD_COLUMNS = (*COLUMNS, *(columns + "t" for columns in COLUMNS))  # with a `t` the messages of its instant
 
 STATUS_FAILED = 1
 STATUS_WRONG_INPUT = 2
@@ -69,6 +71,7 @@ class Counts:
     edges: int
     node_values: int
     edge_values: int
+    messages: Optional[int] = None  # none where the columns have none
 
 
 @dataclass
@@ -81,14 +84,23 @@ class Edge:
 
 @dataclass
 class Graph:
-    """A listed graph: the values of each node by their keys, and the edges, by their ids."""
+    """A listed graph: the values of each node by their keys, and the edges, by their ids.
+
+    The messages of its instant are there where its columns have a `t`: a source, a target and a value each.
+    """
 
     nodes: dict[int, dict[str, str]] = field(default_factory=dict)
     edges: dict[int, Edge] = field(default_factory=dict)
+    messages: list[tuple[int, int, str]] = field(default_factory=list)
 
     def name(self, node: int, key: str) -> str:
         """The node's value for the key, or its id where it has none."""
         return self.nodes[node].get(key, str(node))
+
+    def gone(self) -> list[int]:
+        """The ends of messages that are no nodes of the graph: they were removed at its instant, behind the message."""
+        ends = {end for source, target, _ in self.messages for end in (source, target)}
+        return sorted(ends - self.nodes.keys())
 
 
 def text_of(line: bytes) -> str:
@@ -288,7 +300,7 @@ class Reader:
         return self.live[:]
 
     def counts(self, handle: int) -> Counts:
-        """How many elements of each kind the graph has."""
+        """How many elements of each kind the graph has, and how many messages where its columns have them."""
         return Counts(*map(int, self.session.ask(f"counts {handle}").head[3:]))
 
     def neighbours(self, handle: int, node: int) -> list[tuple[str, int, int]]:
@@ -305,7 +317,9 @@ class Reader:
         for line in self.session.ask(f"list {handle}").lines():
             kind, number, *rest = line.split(" ", 3)
             owner = int(number)
-            if kind == "node":
+            if kind == "msg":
+                graph.messages.append((owner, int(rest[0]), rest[1]))
+            elif kind == "node":
                 graph.nodes[owner] = {}
             elif kind == "edge":
                 target, direction = rest[1].split(" ")
