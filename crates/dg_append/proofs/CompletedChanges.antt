@@ -26,7 +26,7 @@ value_found n p set there = by (find p set) refl
   where
     own : (x : Element) → HasNamesThere n x → IfSome (value_in x) (λ v. v < n)
     own (element.Node id) f = tt
-    own (element.Edge id src dst directed) f = tt
+    own (element.Edge directed id src dst) f = tt
     own (element.NodeAttr id key value) f = f.1
     own (element.EdgeAttr id key value) f = f.1
     own (element.Message src dst value) f = tt

@@ -90,7 +90,7 @@ known_few known names = omega (arith, length-append (take known names) (drop kno
 -- names that are there are so where there are more
 more_there : (n m : ℕ) (x : Element) → n ≤ m → HasNamesThere n x → HasNamesThere m x
 more_there n m (element.Node id) le f = tt
-more_there n m (element.Edge id src dst directed) le f = tt
+more_there n m (element.Edge directed id src dst) le f = tt
 more_there n m (element.NodeAttr id key value) le f = (omega (arith, le, f.0), omega (arith, le, f.1))
 more_there n m (element.EdgeAttr id key value) le f = (omega (arith, le, f.0), omega (arith, le, f.1))
 more_there n m (element.Message src dst value) le f = omega (arith, le, f)

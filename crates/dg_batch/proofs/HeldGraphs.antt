@@ -8,7 +8,7 @@ use Rattle.dg_retrieval.specs.NamesThere.{HasNamesThere, NamesAreThere}
 
 has_more : (n m : ℕ) → n ≤ m → (x : Element) → HasNamesThere n x → HasNamesThere m x
 has_more n m le (element.Node id) h = tt
-has_more n m le (element.Edge id src dst directed) h = tt
+has_more n m le (element.Edge directed id src dst) h = tt
 has_more n m le (element.NodeAttr id key value) h = (omega (arith, le, h.0), omega (arith, le, h.1))
 has_more n m le (element.EdgeAttr id key value) h = (omega (arith, le, h.0), omega (arith, le, h.1))
 has_more n m le (element.Message src dst value) h = omega (arith, le, h)

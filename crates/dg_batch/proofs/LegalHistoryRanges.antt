@@ -42,7 +42,7 @@ WhatFits I n (what.Message src dst value) = I src × I dst × (value < n)
 
 abbrev pub ElementFits : (ℕ → Type 0) → ℕ → Element → Type 0
 ElementFits I n (element.Node id) = Unit {0}
-ElementFits I n (element.Edge id src dst directed) = I id × I src × I dst
+ElementFits I n (element.Edge directed id src dst) = I id × I src × I dst
 ElementFits I n (element.NodeAttr id key value) = value < n
 ElementFits I n (element.EdgeAttr id key value) = value < n
 ElementFits I n (element.Message src dst value) = Unit {0}
@@ -117,7 +117,7 @@ replay_fits I n set (e ∷ events) h f =
 value_fits : (I : ℕ → Type 0) (n : ℕ) (o : Option Element) → ((x : Element) → o ≡ Some x → ElementFits I n x) → IfSome (option_and_then value_in o) (λ v. v < n)
 value_fits I n None h = tt
 value_fits I n (Some (element.Node id)) h = tt
-value_fits I n (Some (element.Edge id src dst directed)) h = tt
+value_fits I n (Some (element.Edge directed id src dst)) h = tt
 value_fits I n (Some (element.NodeAttr id key value)) h = h (element.NodeAttr id key value) refl
 value_fits I n (Some (element.EdgeAttr id key value)) h = h (element.EdgeAttr id key value) refl
 value_fits I n (Some (element.Message src dst value)) h = tt
@@ -139,7 +139,7 @@ body_fits I n w set b f all h = by w f (completion w set b h)
     by (what.RemoveNode id) f c = so (body.NodeRemoved id) c.0 f
     by (what.AddEdge id src dst directed) f c = so (body.EdgeAdded id src dst directed) c.0 f
     by (what.RemoveEdge id) f c =
-        so (body.EdgeRemoved c.id c.src c.dst c.directed) c.is (found_fits I n (is_edge id) set (element.Edge c.id c.src c.dst c.directed) all c.found_is)
+        so (body.EdgeRemoved c.id c.src c.dst c.directed) c.is (found_fits I n (is_edge id) set (element.Edge c.directed c.id c.src c.dst) all c.found_is)
     by (what.SetNode id key value) f c =
         so (body.NodeAttr id key (node_value set id key) (Some value)) c.0 (f.0, f.1, found (is_node_value id key), f.2)
     by (what.UnsetNode id key) f c =

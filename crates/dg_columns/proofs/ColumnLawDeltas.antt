@@ -36,10 +36,10 @@ element_again names bytes at (element.Node id) rest may few fits e =
     let f1 = byte_again (λ n. nat_le 1 n && nat_le n 2) bytes at 1 (at + 1) (eight id ++ rest) (omega arith) refl refl e in
     let f2 = eight_again any_number bytes (at + 1) id (at + 9) rest fits (omega arith) refl f1.1 in
     (and_then (one_byte (λ n. nat_le 1 n && nat_le n 2) bytes at) _ 1 (element.Node id) f1.0 (one_read (λ id. element.Node id) (eight_bytes any_number bytes (at + 1)) id f2.0), f2.1, f2.2)
-element_again names bytes at (element.Edge id src dst d) rest may few fits e =
+element_again names bytes at (element.Edge d id src dst) rest may few fits e =
     let f1 = byte_again (λ n. nat_le 1 n && nat_le n 2) bytes at 2 (at + 1) ((eight id ++ (eight src ++ (eight dst ++ bit d ∷ []))) ++ rest) (omega arith) refl refl e in
-    let f2 = edge_again (λ id src dst d. element.Edge id src dst d) bytes (at + 1) id src dst d (at + 26) rest fits (omega arith) f1.1 in
-    (and_then (one_byte (λ n. nat_le 1 n && nat_le n 2) bytes at) _ 2 (element.Edge id src dst d) f1.0 f2.0, f2.1, f2.2)
+    let f2 = edge_again (λ id src dst d. element.Edge d id src dst) bytes (at + 1) id src dst d (at + 26) rest fits (omega arith) f1.1 in
+    (and_then (one_byte (λ n. nat_le 1 n && nat_le n 2) bytes at) _ 2 (element.Edge d id src dst) f1.0 f2.0, f2.1, f2.2)
 element_again names bytes at (element.NodeAttr id key value) rest may few fits e =
     attr_again (λ id key value. element.NodeAttr id key value) names bytes at id key value rest few fits.0 fits.1 fits.2 e
 element_again names bytes at (element.EdgeAttr id key value) rest may few fits e =

@@ -258,7 +258,7 @@ abbrev ElementStands : List ℕ → ℕ → Element → Type 0
 ElementStands bytes at x = Stands bytes at (element_bytes x) (at + element_size x)
 
 structure_element_stands : (kind : ℕ) (bytes : List ℕ) (at : ℕ) (x : Element) → (nat_le 1 kind && nat_le kind 2) ≡ true → IsBytes bytes → Stands bytes at (one kind) (at + 1)
-    → cond (kind == 1) (and_read (eight_bytes any_number bytes (at + 1)) (λ id. Ok (element.Node id))) (edge_fields (λ id src dst directed. element.Edge id src dst directed) bytes (at + 1)) ≡ Ok x → ElementStands bytes at x
+    → cond (kind == 1) (and_read (eight_bytes any_number bytes (at + 1)) (λ id. Ok (element.Node id))) (edge_fields (λ id src dst directed. element.Edge directed id src dst) bytes (at + 1)) ≡ Ok x → ElementStands bytes at x
 structure_element_stands zero bytes at x right fits first e = absurd cc
 structure_element_stands (suc zero) bytes at x right fits first e =
     let a = bind_ok (eight_bytes any_number bytes (at + 1)) (λ id. Ok (element.Node id)) x e in
@@ -266,16 +266,16 @@ structure_element_stands (suc zero) bytes at x right fits first e =
     let whole : ElementStands bytes at (element.Node a.0) = behind_kind bytes at 1 (at + 9) (eight a.0) first s in
     subst (ElementStands bytes at) (ok_is (element.Node a.0) x a.2) whole
 structure_element_stands (suc (suc zero)) bytes at x right fits first e =
-    let r = edge_read (λ id src dst directed. element.Edge id src dst directed) bytes (at + 1) x fits e in
+    let r = edge_read (λ id src dst directed. element.Edge directed id src dst) bytes (at + 1) x fits e in
     let s : Stands bytes (at + 1) (edge_text r.id r.src r.dst r.directed) (at + 26) = r.stands ∙ ap (λ n. edge_text r.id r.src r.dst r.directed ++ drop n bytes) (omega arith) in
-    let whole : ElementStands bytes at (element.Edge r.id r.src r.dst r.directed) = behind_kind bytes at 2 (at + 26) (edge_text r.id r.src r.dst r.directed) first s in
+    let whole : ElementStands bytes at (element.Edge r.directed r.id r.src r.dst) = behind_kind bytes at 2 (at + 26) (edge_text r.id r.src r.dst r.directed) first s in
     subst (ElementStands bytes at) r.is whole
 structure_element_stands (suc (suc (suc k))) bytes at x right fits first e =
     absurd (omega (arith, leb-true _ 2 (and_second (nat_le 1 (suc (suc (suc k)))) (nat_le (suc (suc (suc k))) 2) right)))
 
 element_stands : (col : Column) (names : ℕ) (bytes : List ℕ) (at : ℕ) (x : Element) → IsBytes bytes → element_at col names bytes at ≡ Ok x → ElementStands bytes at x
 element_stands column.Structure names bytes at x fits e =
-    let a = bind_ok (one_byte (λ n. nat_le 1 n && nat_le n 2) bytes at) (λ kind. cond (kind == 1) (and_read (eight_bytes any_number bytes (at + 1)) (λ id. Ok (element.Node id))) (edge_fields (λ id src dst directed. element.Edge id src dst directed) bytes (at + 1))) x e in
+    let a = bind_ok (one_byte (λ n. nat_le 1 n && nat_le n 2) bytes at) (λ kind. cond (kind == 1) (and_read (eight_bytes any_number bytes (at + 1)) (λ id. Ok (element.Node id))) (edge_fields (λ id src dst directed. element.Edge directed id src dst) bytes (at + 1))) x e in
     let s = field_stands w8 1 256 one spelling8 (λ n. nat_le 1 n && nat_le n 2) bytes at a.0 (at + 1) fits refl a.1 in
     structure_element_stands a.0 bytes at x s.1 fits s.0 a.2
 element_stands column.NodeAttr names bytes at x fits e =

@@ -48,20 +48,20 @@ value_fits col make names bytes at x made fits e =
     subst (Fit col names) (ok_is (make a.0 b.0 c.0) x c.2)
     (made a.0 b.0 c.0 (id_bound bytes at a.0 fits a.1) (name_bound names bytes (at + 8) b.0 b.1) (name_bound names bytes (at + 12) c.0 c.1))
 
-edge_fits : (names : ℕ) (bytes : List ℕ) (at : ℕ) (x : Element) → IsBytes bytes → edge_fields (λ id src dst d. element.Edge id src dst d) bytes at ≡ Ok x → Fit column.Structure names x
+edge_fits : (names : ℕ) (bytes : List ℕ) (at : ℕ) (x : Element) → IsBytes bytes → edge_fields (λ id src dst d. element.Edge d id src dst) bytes at ≡ Ok x → Fit column.Structure names x
 edge_fits names bytes at x fits e =
-    let last : ℕ → ℕ → ℕ → ℕ → Result Element ℕ = λ id src dst d. Ok (element.Edge id src dst (d == 1)) in
+    let last : ℕ → ℕ → ℕ → ℕ → Result Element ℕ = λ id src dst d. Ok (element.Edge (d == 1) id src dst) in
     let a = bind_ok (eight_bytes any_number bytes at) (λ id. and_read (eight_bytes any_number bytes (at + 8)) (λ src. and_read (eight_bytes any_number bytes (at + 16)) (λ dst. and_read (one_byte (λ n. nat_lt n 2) bytes (at + 24)) (last id src dst)))) x e in
     let b = bind_ok (eight_bytes any_number bytes (at + 8)) (λ src. and_read (eight_bytes any_number bytes (at + 16)) (λ dst. and_read (one_byte (λ n. nat_lt n 2) bytes (at + 24)) (last a.0 src dst))) x a.2 in
     let c = bind_ok (eight_bytes any_number bytes (at + 16)) (λ dst. and_read (one_byte (λ n. nat_lt n 2) bytes (at + 24)) (last a.0 b.0 dst)) x b.2 in
     let d = bind_ok (one_byte (λ n. nat_lt n 2) bytes (at + 24)) (last a.0 b.0 c.0) x c.2 in
-    subst (Fit column.Structure names) (ok_is (element.Edge a.0 b.0 c.0 (d.0 == 1)) x d.2)
+    subst (Fit column.Structure names) (ok_is (element.Edge (d.0 == 1) a.0 b.0 c.0) x d.2)
     (refl, (id_bound bytes at a.0 fits a.1, id_bound bytes (at + 8) b.0 fits b.1, id_bound bytes (at + 16) c.0 fits c.1))
 
 element_fits : (col : Column) (names : ℕ) (bytes : List ℕ) (at : ℕ) (x : Element) → IsBytes bytes → element_at col names bytes at ≡ Ok x → Fit col names x
 element_fits column.Structure names bytes at x fits e =
     let node : Result Element ℕ = and_read (eight_bytes any_number bytes (at + 1)) (λ id. Ok (element.Node id)) in
-    let edge : Result Element ℕ = edge_fields (λ id src dst d. element.Edge id src dst d) bytes (at + 1) in
+    let edge : Result Element ℕ = edge_fields (λ id src dst d. element.Edge d id src dst) bytes (at + 1) in
     let a = bind_ok (one_byte (λ n. nat_le 1 n && nat_le n 2) bytes at) (λ kind. cond (kind == 1) node edge) x e in
     elim (a.0 == 1) as (λ b. cond b node edge ≡ Ok x → Fit column.Structure names x) [
       | true ↦ λ h.

@@ -42,7 +42,7 @@ EventsFit names earliest (e ∷ events) = EventFits names earliest e × EventsFi
 -- an element, in a history with so many names
 abbrev pub ElementFits : ℕ → Element → Type 0
 ElementFits names (element.Node id) = id < 2 ^ 64
-ElementFits names (element.Edge id src dst directed) = EdgeFits id src dst
+ElementFits names (element.Edge directed id src dst) = EdgeFits id src dst
 ElementFits names (element.NodeAttr id key value) = (id < 2 ^ 64) × (key < names) × (value < names)
 ElementFits names (element.EdgeAttr id key value) = (id < 2 ^ 64) × (key < names) × (value < names)
 ElementFits names (element.Message src dst value) = (src < 2 ^ 64) × (dst < 2 ^ 64) × (value < names)

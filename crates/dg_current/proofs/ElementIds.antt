@@ -25,31 +25,31 @@ either false b e = inr e
 
 pub has_id_is : (p : ElementId) (x : Element) → has_id p x ≡ true → element_id_of x ≡ p
 has_id_is (Node id) (element.Node n) e = ap Node (eqb-true n id e)
-has_id_is (Node id) (element.Edge n s d b) e = absurd (false≢true e)
+has_id_is (Node id) (element.Edge b n s d) e = absurd (false≢true e)
 has_id_is (Node id) (element.NodeAttr n k v) e = absurd (false≢true e)
 has_id_is (Node id) (element.EdgeAttr n k v) e = absurd (false≢true e)
 has_id_is (Node id) (element.Message s d v) e = absurd (false≢true e)
 has_id_is (Edge id) (element.Node n) e = absurd (false≢true e)
-has_id_is (Edge id) (element.Edge n s d b) e = ap Edge (eqb-true n id e)
+has_id_is (Edge id) (element.Edge b n s d) e = ap Edge (eqb-true n id e)
 has_id_is (Edge id) (element.NodeAttr n k v) e = absurd (false≢true e)
 has_id_is (Edge id) (element.EdgeAttr n k v) e = absurd (false≢true e)
 has_id_is (Edge id) (element.Message s d v) e = absurd (false≢true e)
 has_id_is (NodeValue key id) (element.Node n) e = absurd (false≢true e)
-has_id_is (NodeValue key id) (element.Edge n s d b) e = absurd (false≢true e)
+has_id_is (NodeValue key id) (element.Edge b n s d) e = absurd (false≢true e)
 has_id_is (NodeValue key id) (element.NodeAttr n k v) e =
     let parts = both (eqb n id) (eqb k key) e in
     λ i. NodeValue (eqb-true k key parts.1 i) (eqb-true n id parts.0 i)
 has_id_is (NodeValue key id) (element.EdgeAttr n k v) e = absurd (false≢true e)
 has_id_is (NodeValue key id) (element.Message s d v) e = absurd (false≢true e)
 has_id_is (EdgeValue key id) (element.Node n) e = absurd (false≢true e)
-has_id_is (EdgeValue key id) (element.Edge n s d b) e = absurd (false≢true e)
+has_id_is (EdgeValue key id) (element.Edge b n s d) e = absurd (false≢true e)
 has_id_is (EdgeValue key id) (element.NodeAttr n k v) e = absurd (false≢true e)
 has_id_is (EdgeValue key id) (element.EdgeAttr n k v) e =
     let parts = both (eqb n id) (eqb k key) e in
     λ i. EdgeValue (eqb-true k key parts.1 i) (eqb-true n id parts.0 i)
 has_id_is (EdgeValue key id) (element.Message s d v) e = absurd (false≢true e)
 has_id_is (Message v s d) (element.Node n) e = absurd (false≢true e)
-has_id_is (Message v s d) (element.Edge n t f b) e = absurd (false≢true e)
+has_id_is (Message v s d) (element.Edge b n t f) e = absurd (false≢true e)
 has_id_is (Message v s d) (element.NodeAttr n k w) e = absurd (false≢true e)
 has_id_is (Message v s d) (element.EdgeAttr n k w) e = absurd (false≢true e)
 has_id_is (Message v s d) (element.Message t f w) e =
@@ -62,7 +62,7 @@ two m n = λ i. eq-eqb m m refl i && eq-eqb n n refl i
 
 pub has_id_itself : (x : Element) → has_id (element_id_of x) x ≡ true
 has_id_itself (element.Node n) = eq-eqb n n refl
-has_id_itself (element.Edge n s d b) = eq-eqb n n refl
+has_id_itself (element.Edge b n s d) = eq-eqb n n refl
 has_id_itself (element.NodeAttr n k v) = two n k
 has_id_itself (element.EdgeAttr n k v) = two n k
 has_id_itself (element.Message s d v) = λ i. eq-eqb s s refl i && two d v i
@@ -143,7 +143,7 @@ at_lives set p (z, got) = by (at set p) refl
 
 pub node_from : (z : Element) (id : ℕ) → element_id_of z ≡ Node id → z ≡ element.Node id
 node_from (element.Node n) id e = let is : n ≡ id = cc in ap element.Node is
-node_from (element.Edge n s d b) id e = cc
+node_from (element.Edge b n s d) id e = cc
 node_from (element.NodeAttr n k v) id e = cc
 node_from (element.EdgeAttr n k v) id e = cc
 node_from (element.Message s d v) id e = cc
@@ -167,14 +167,14 @@ has_node_is set id = by (is_some (at set (Node id))) refl (has_node set id) refl
 pub needs_live : (set : List Element) (x : Element) (p : ElementId) → has_needs set x ≡ true → needs_id p x ≡ true → Lives set p
 needs_live set (element.Node n) (Node id) h e = absurd (false≢true e)
 needs_live set (element.Node n) (Edge id) h e = absurd (false≢true e)
-needs_live set (element.Edge n s d b) (Node id) h e =
+needs_live set (element.Edge b n s d) (Node id) h e =
     let ends = both (has_node set s) (has_node set d) h in
     by (either (eqb s id) (eqb d id) e) (node_lives set s ends.0) (node_lives set d ends.1)
   where
     by : (eqb s id ≡ true) ⊎ (eqb d id ≡ true) → Lives set (Node s) → Lives set (Node d) → Lives set (Node id)
     by (inl e) l m = subst (λ k. Lives set (Node k)) (eqb-true s id e) l
     by (inr e) l m = subst (λ k. Lives set (Node k)) (eqb-true d id e) m
-needs_live set (element.Edge n s d b) (Edge id) h e = absurd (false≢true e)
+needs_live set (element.Edge b n s d) (Edge id) h e = absurd (false≢true e)
 needs_live set (element.NodeAttr n k v) (Node id) h e = subst (λ m. Lives set (Node m)) (eqb-true n id e) (node_lives set n h)
 needs_live set (element.NodeAttr n k v) (Edge id) h e = absurd (false≢true e)
 needs_live set (element.EdgeAttr n k v) (Node id) h e = absurd (false≢true e)
@@ -188,7 +188,7 @@ needs_live set x (Message value src dst) h e = absurd (false≢true e)
 -- what an element of one set needs in another
 pub live_needs : (old set : List Element) (x : Element) → has_needs old x ≡ true → ((p : ElementId) → needs_id p x ≡ true → Lives set p) → has_needs set x ≡ true
 live_needs old set (element.Node n) h l = refl
-live_needs old set (element.Edge n s d b) h l =
+live_needs old set (element.Edge b n s d) h l =
     let src = lives_node set s (l (Node s) (or_left (eqb s s) (eqb d s) (eq-eqb s s refl))) in
     let dst = lives_node set d (l (Node d) (or_right (eqb s d) (eqb d d) (eq-eqb d d refl))) in
     λ i. src i && dst i
@@ -200,19 +200,19 @@ live_needs old set (element.Message s d v) h l = absurd (false≢true h)
 
 pub one_of_each_id : (set : List Element) → IsGraph set → OneOfEachId set
 one_of_each_id set g (element.Node m) (element.Node n) h k e = let is : m ≡ n = cc in ap element.Node is
-one_of_each_id set g (element.Node m) (element.Edge n s d b) h k e = cc
+one_of_each_id set g (element.Node m) (element.Edge b n s d) h k e = cc
 one_of_each_id set g (element.Node m) (element.NodeAttr n c v) h k e = cc
 one_of_each_id set g (element.Node m) (element.EdgeAttr n c v) h k e = cc
 one_of_each_id set g (element.Node m) (element.Message t f w) h k e = cc
-one_of_each_id set g (element.Edge m s d b) (element.Node n) h k e = cc
-one_of_each_id set g (element.Edge m s d b) (element.Edge n t f a) h k e =
+one_of_each_id set g (element.Edge b m s d) (element.Node n) h k e = cc
+one_of_each_id set g (element.Edge b m s d) (element.Edge a n t f) h k e =
     let is : n ≡ m = cc in
-    g.one_edge m s d t f b a h (subst (λ q. has set (element.Edge q t f a) ≡ true) is k) ∙ ap (λ q. element.Edge q t f a) (sym is)
-one_of_each_id set g (element.Edge m s d b) (element.NodeAttr n c v) h k e = cc
-one_of_each_id set g (element.Edge m s d b) (element.EdgeAttr n c v) h k e = cc
-one_of_each_id set g (element.Edge m s d b) (element.Message t f w) h k e = cc
+    g.one_edge m s d t f b a h (subst (λ q. has set (element.Edge a q t f) ≡ true) is k) ∙ ap (λ q. element.Edge a q t f) (sym is)
+one_of_each_id set g (element.Edge b m s d) (element.NodeAttr n c v) h k e = cc
+one_of_each_id set g (element.Edge b m s d) (element.EdgeAttr n c v) h k e = cc
+one_of_each_id set g (element.Edge b m s d) (element.Message t f w) h k e = cc
 one_of_each_id set g (element.NodeAttr m c v) (element.Node n) h k e = cc
-one_of_each_id set g (element.NodeAttr m c v) (element.Edge n s d b) h k e = cc
+one_of_each_id set g (element.NodeAttr m c v) (element.Edge b n s d) h k e = cc
 one_of_each_id set g (element.NodeAttr m c v) (element.NodeAttr n f w) h k e =
     let ids : n ≡ m = cc in
     let keys : f ≡ c = cc in
@@ -222,7 +222,7 @@ one_of_each_id set g (element.NodeAttr m c v) (element.NodeAttr n f w) h k e =
 one_of_each_id set g (element.NodeAttr m c v) (element.EdgeAttr n f w) h k e = cc
 one_of_each_id set g (element.NodeAttr m c v) (element.Message t f w) h k e = cc
 one_of_each_id set g (element.EdgeAttr m c v) (element.Node n) h k e = cc
-one_of_each_id set g (element.EdgeAttr m c v) (element.Edge n s d b) h k e = cc
+one_of_each_id set g (element.EdgeAttr m c v) (element.Edge b n s d) h k e = cc
 one_of_each_id set g (element.EdgeAttr m c v) (element.NodeAttr n f w) h k e = cc
 one_of_each_id set g (element.EdgeAttr m c v) (element.EdgeAttr n f w) h k e =
     let ids : n ≡ m = cc in
@@ -237,7 +237,7 @@ pub graph_from : (set : List Element) → IsSet set → OneOfEachId set → ((x 
 graph_from set rises one needs = record {
   rises = rises;
   needs = needs;
-  one_edge = λ id s d t f b a h k. one (element.Edge id s d b) (element.Edge id t f a) h k refl;
+  one_edge = λ id s d t f b a h k. one (element.Edge b id s d) (element.Edge a id t f) h k refl;
   one_node_value = λ id key v w h k. let is = one (element.NodeAttr id key v) (element.NodeAttr id key w) h k refl in cc;
   one_edge_value = λ id key v w h k. let is = one (element.EdgeAttr id key v) (element.EdgeAttr id key w) h k refl in cc;
 }

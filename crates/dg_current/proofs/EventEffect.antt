@@ -153,7 +153,7 @@ id_free set (body.Message s d v) h x e = absurd (some_none (sym e))
 -- no element needs itself
 own_id : (x : Element) → needs_id (element_id_of x) x ≡ true → ⊥
 own_id (element.Node n) e = false≢true e
-own_id (element.Edge n s d b) e = false≢true e
+own_id (element.Edge b n s d) e = false≢true e
 own_id (element.NodeAttr n k v) e = false≢true e
 own_id (element.EdgeAttr n k v) e = false≢true e
 own_id (element.Message s d v) e = false≢true e

@@ -37,12 +37,12 @@ pub none_from : {X : Type 0} (o : Option X) → is_some o ≡ false → o ≡ No
 none_from None e = refl
 none_from (Some x) e = absurd (false≢true (sym e))
 
-edge_at : (x : Element) (id : ℕ) → element_id_of x ≡ Edge id → (n s d : ℕ) (b : Bool) → x ≡ element.Edge n s d b → n ≡ id
+edge_at : (x : Element) (id : ℕ) → element_id_of x ≡ Edge id → (n s d : ℕ) (b : Bool) → x ≡ element.Edge b n s d → n ≡ id
 edge_at x id p n s d b e = let same : Edge n ≡ Edge id = sym (ap element_id_of e) ∙ p in cc
 
 node_attr_at : (x : Element) (id key : ℕ) → element_id_of x ≡ NodeValue key id → Some x ≡ option_map (element.NodeAttr id key) (value_in x)
 node_attr_at (element.Node n) id key e = cc
-node_attr_at (element.Edge n s d b) id key e = cc
+node_attr_at (element.Edge b n s d) id key e = cc
 node_attr_at (element.NodeAttr n k v) id key e =
     let ids : n ≡ id = cc in
     let keys : k ≡ key = cc in
@@ -52,7 +52,7 @@ node_attr_at (element.Message s d v) id key e = cc
 
 edge_attr_at : (x : Element) (id key : ℕ) → element_id_of x ≡ EdgeValue key id → Some x ≡ option_map (element.EdgeAttr id key) (value_in x)
 edge_attr_at (element.Node n) id key e = cc
-edge_attr_at (element.Edge n s d b) id key e = cc
+edge_attr_at (element.Edge b n s d) id key e = cc
 edge_attr_at (element.Message s d v) id key e = cc
 edge_attr_at (element.NodeAttr n k v) id key e = cc
 edge_attr_at (element.EdgeAttr n k v) id key e =
@@ -66,7 +66,7 @@ none_some e = cc
 
 not_message : (set : List Element) (x : Element) → has_needs set x ≡ true → (s d v : ℕ) → element_id_of x ≡ Message v s d → ⊥
 not_message set (element.Node n) h s d v e = cc
-not_message set (element.Edge n t f b) h s d v e = cc
+not_message set (element.Edge b n t f) h s d v e = cc
 not_message set (element.NodeAttr n k w) h s d v e = cc
 not_message set (element.EdgeAttr n k w) h s d v e = cc
 not_message set (element.Message t f w) h s d v e = false≢true h
@@ -172,9 +172,9 @@ module _ (set : List Element) where
       by (Some (element.NodeAttr m key v)) is n k f = absurd (err_ok _ c f)
       by (Some (element.EdgeAttr m key v)) is n k f = absurd (err_ok _ c f)
       by (Some (element.Message t d v)) is n k f = absurd (err_ok _ c f)
-      by (Some (element.Edge m s d b)) is true k f = absurd (err_ok _ c f)
-      by (Some (element.Edge m s d b)) is false k f =
-          let same = edge_at (element.Edge m s d b) id (at_has set (Edge id) (element.Edge m s d b) is).1 m s d b refl in
+      by (Some (element.Edge b m s d)) is true k f = absurd (err_ok _ c f)
+      by (Some (element.Edge b m s d)) is false k f =
+          let same = edge_at (element.Edge b m s d) id (at_has set (Edge id) (element.Edge b m s d) is).1 m s d b refl in
           as_body (body.EdgeRemoved m s d b) c (record {
             before = ap (λ q. at set (Edge q)) same ∙ is;
             fed = tt;
@@ -297,9 +297,9 @@ module _ (set : List Element) where
 
   removed_edge : (id s d : ℕ) (b : Bool) → is_change_of set (body.EdgeRemoved id s d b) ≡ true → CanHappen set (body.EdgeRemoved id s d b)
   removed_edge id s d b e =
-      let parts = both (is_found (edge_of set id) (element.Edge id s d b)) (not (list_any (needs_edge id) set)) e in
+      let parts = both (is_found (edge_of set id) (element.Edge b id s d)) (not (list_any (needs_edge id) set)) e in
       record {
-        before = found_is (edge_of set id) (element.Edge id s d b) parts.0;
+        before = found_is (edge_of set id) (element.Edge b id s d) parts.0;
         fed = tt;
         free = λ none. not_true (list_any (needs_edge id) set) parts.1;
       }

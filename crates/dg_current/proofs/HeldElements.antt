@@ -10,7 +10,7 @@ use Rattle.dg_current.specs.HeldElements.{held_of, element_in}
 
 pub held_itself : (x : Element) → element_in (element_id_of x) (held_of x) ≡ Some x
 held_itself (element.Node id) = refl
-held_itself (element.Edge id src dst directed) = refl
+held_itself (element.Edge directed id src dst) = refl
 held_itself (element.NodeAttr id key value) = refl
 held_itself (element.EdgeAttr id key value) = refl
 held_itself (element.Message src dst value) = refl

@@ -146,17 +146,17 @@ some_is p q e = cc
 -- what later values stand at comes later
 holders_rise : (x y : Element) (p q : ElementId) → before y x ≡ false → holder_of x ≡ Some p → holder_of y ≡ Some q → before (least q) (least p) ≡ false
 holders_rise (element.Node n) y p q b e f = absurd (none_some e)
-holders_rise (element.Edge n s d u) y p q b e f = absurd (none_some e)
+holders_rise (element.Edge u n s d) y p q b e f = absurd (none_some e)
 holders_rise (element.Message n s d) y p q b e f = absurd (none_some e)
 holders_rise (element.NodeAttr n k v) (element.Node m) p q b e f = absurd (none_some f)
-holders_rise (element.NodeAttr n k v) (element.Edge m t c a) p q b e f = absurd (none_some f)
+holders_rise (element.NodeAttr n k v) (element.Edge a m t c) p q b e f = absurd (none_some f)
 holders_rise (element.NodeAttr n k v) (element.NodeAttr m l w) p q b e f =
     (let later = sym (some_is (Node m) q f) in let earlier = sym (some_is (Node n) p e) in λ i. before (least (later i)) (least (earlier i))) ∙ nodes_rise n m (node_values_rise n k v m l w b)
 holders_rise (element.NodeAttr n k v) (element.EdgeAttr m l w) p q b e f =
     (let later = sym (some_is (Edge m) q f) in let earlier = sym (some_is (Node n) p e) in λ i. before (least (later i)) (least (earlier i)))
 holders_rise (element.NodeAttr n k v) (element.Message m l w) p q b e f = absurd (none_some f)
 holders_rise (element.EdgeAttr n k v) (element.Node m) p q b e f = absurd (none_some f)
-holders_rise (element.EdgeAttr n k v) (element.Edge m t c a) p q b e f = absurd (none_some f)
+holders_rise (element.EdgeAttr n k v) (element.Edge a m t c) p q b e f = absurd (none_some f)
 holders_rise (element.EdgeAttr n k v) (element.NodeAttr m l w) p q b e f = absurd (true≢false b)
 holders_rise (element.EdgeAttr n k v) (element.EdgeAttr m l w) p q b e f =
     (let later = sym (some_is (Edge m) q f) in let earlier = sym (some_is (Edge n) p e) in λ i. before (least (later i)) (least (earlier i))) ∙ edges_rise n m (edge_values_rise n k v m l w b)
@@ -188,7 +188,7 @@ no_later_node xs s i k d n from end is other = by (get_or xs i d) other (ap (λ 
   where
     by : (x : Element) → ((m : ℕ) → x ≡ element.Node m → ⊥) → before (element.Node n) x ≡ false → ⊥
     by (element.Node m) not e = not m refl
-    by (element.Edge m t c a) not e = true≢false e
+    by (element.Edge a m t c) not e = true≢false e
     by (element.NodeAttr m l w) not e = true≢false e
     by (element.EdgeAttr m l w) not e = true≢false e
     by (element.Message m l w) not e = true≢false e
@@ -242,7 +242,7 @@ module _ (xs : List Element) (s : IsSet xs) (nodes : List ℕ) (i : ℕ) (within
 
 needs_both : (set : List Element) (x : Element) → has_needs set x ≡ (has_ends set x && is_held set x)
 needs_both set (element.Node n) = refl
-needs_both set (element.Edge n s d b) = by (has_node set s && has_node set d)
+needs_both set (element.Edge b n s d) = by (has_node set s && has_node set d)
   where
     by : (b : Bool) → b ≡ (b && true)
     by true = refl

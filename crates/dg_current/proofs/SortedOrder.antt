@@ -10,7 +10,6 @@ use Rattle.std.specs.declared.cmp.Ordering.{Ordering}
 use Rattle.std.specs.declared.cmp.Ordering.TheVariants.{Less, Equal, Greater}
 use Rattle.dg_graph.specs.declared.element.Element.{Element}
 use Rattle.dg_graph.specs.declared.element.Element.TheVariants as element
-use Rattle.dg_graph.specs.contracts.element.ElementOrd.TheImpl as of_elements
 use Rattle.dg_graph.specs.Elements.{bit, spelled, element_cmp, before, same, has, IsSet, IsBelowFirst}
 use Rattle.dg_graph.proofs.Sets.{element_total, element_exact, same_itself, Greater_from_before, IsBelowFirst-trans}
 use Rattle.dg_current.specs.declared.element_id.ElementId.{ElementId}
@@ -18,47 +17,6 @@ use Rattle.dg_current.specs.declared.element_id.ElementId.TheVariants.{Node, Edg
 use Rattle.dg_current.specs.ElementIds.{element_id_of, has_id}
 use Rattle.dg_current.specs.Sorted.{least, least_value_at, is_value_at}
 use Rattle.dg_current.proofs.ElementIds.{either, has_id_is}
-
--- ---- the derived order
-
-then_Equal : (o : Ordering) → o ≡ ordering_then o Equal
-then_Equal Less = refl
-then_Equal Equal = refl
-then_Equal Greater = refl
-
--- the order by which the code compares is that of the definitions
-pub compares_by : (x y : Element) → of_elements.ghosts.cmp x y ≡ element_cmp x y
-compares_by (element.Node id) (element.Node id2) = then_Equal (nat_cmp id id2)
-compares_by (element.Node id) (element.Edge id2 src dst directed) = refl
-compares_by (element.Node id) (element.NodeAttr id2 key value) = refl
-compares_by (element.Node id) (element.EdgeAttr id2 key value) = refl
-compares_by (element.Node id) (element.Message src2 dst2 value2) = refl
-compares_by (element.Edge id src dst directed) (element.Node id2) = refl
-compares_by (element.Edge id src dst true) (element.Edge id2 src2 dst2 true) = refl
-compares_by (element.Edge id src dst true) (element.Edge id2 src2 dst2 false) = refl
-compares_by (element.Edge id src dst false) (element.Edge id2 src2 dst2 true) = refl
-compares_by (element.Edge id src dst false) (element.Edge id2 src2 dst2 false) = refl
-compares_by (element.Edge id src dst directed) (element.NodeAttr id2 key value) = refl
-compares_by (element.Edge id src dst directed) (element.EdgeAttr id2 key value) = refl
-compares_by (element.Edge id src dst directed) (element.Message src2 dst2 value2) = refl
-compares_by (element.NodeAttr id key value) (element.Node id2) = refl
-compares_by (element.NodeAttr id key value) (element.Edge id2 src dst directed) = refl
-compares_by (element.NodeAttr id key value) (element.NodeAttr id2 key2 value2) =
-    ap (λ o. ordering_then (nat_cmp id id2) (ordering_then (nat_cmp key key2) o)) (then_Equal (nat_cmp value value2))
-compares_by (element.NodeAttr id key value) (element.EdgeAttr id2 key2 value2) = refl
-compares_by (element.NodeAttr id key value) (element.Message src2 dst2 value2) = refl
-compares_by (element.EdgeAttr id key value) (element.Node id2) = refl
-compares_by (element.EdgeAttr id key value) (element.Edge id2 src dst directed) = refl
-compares_by (element.EdgeAttr id key value) (element.NodeAttr id2 key2 value2) = refl
-compares_by (element.EdgeAttr id key value) (element.EdgeAttr id2 key2 value2) =
-    ap (λ o. ordering_then (nat_cmp id id2) (ordering_then (nat_cmp key key2) o)) (then_Equal (nat_cmp value value2))
-compares_by (element.EdgeAttr id key value) (element.Message src2 dst2 value2) = refl
-compares_by (element.Message src dst value) (element.Node id2) = refl
-compares_by (element.Message src dst value) (element.Edge id2 src2 dst2 directed) = refl
-compares_by (element.Message src dst value) (element.NodeAttr id2 key2 value2) = refl
-compares_by (element.Message src dst value) (element.EdgeAttr id2 key2 value2) = refl
-compares_by (element.Message src dst value) (element.Message src2 dst2 value2) =
-    ap (λ o. ordering_then (nat_cmp src src2) (ordering_then (nat_cmp dst dst2) o)) (then_Equal (nat_cmp value value2))
 
 -- ---- indices in a rising list
 
@@ -179,7 +137,7 @@ first_on n m xs up rest = by (ltb n m) refl
 pub nodes_rise : (n m : ℕ) → n ≤ m → before (element.Node m) (element.Node n) ≡ false
 nodes_rise n m up = same_more 0 (m ∷ []) (n ∷ []) (first_on n m [] up refl)
 
-pub edges_rise : (n m : ℕ) → n ≤ m → before (element.Edge m 0 0 false) (element.Edge n 0 0 false) ≡ false
+pub edges_rise : (n m : ℕ) → n ≤ m → before (element.Edge false m 0 0) (element.Edge false n 0 0) ≡ false
 edges_rise n m up = same_more 1 (m ∷ 0 ∷ 0 ∷ 0 ∷ []) (n ∷ 0 ∷ 0 ∷ 0 ∷ []) (first_on n m (0 ∷ 0 ∷ 0 ∷ []) up refl)
 
 -- ---- elements with one id
@@ -194,7 +152,7 @@ id_spelled (Message value src dst) = 4 ∷ src ∷ dst ∷ value ∷ []
 
 id_begins : (x : Element) → Begins (id_spelled (element_id_of x)) (spelled x)
 id_begins (element.Node n) = ([], refl)
-id_begins (element.Edge n s d b) = (s ∷ d ∷ bit b ∷ [], refl)
+id_begins (element.Edge b n s d) = (s ∷ d ∷ bit b ∷ [], refl)
 id_begins (element.NodeAttr n k v) = (v ∷ [], refl)
 id_begins (element.EdgeAttr n k v) = (v ∷ [], refl)
 id_begins (element.Message s d v) = ([], refl)
@@ -207,29 +165,29 @@ nth_is i xs ys e = ap (λ l. get_or l i 0) e
 
 begins_id : (p : ElementId) (x : Element) → Begins (id_spelled p) (spelled x) → element_id_of x ≡ p
 begins_id (Node id) (element.Node n) (rest, is) = ap Node (nth_is 1 (0 ∷ n ∷ []) (0 ∷ id ∷ rest) is)
-begins_id (Node id) (element.Edge n s d b) (rest, is) = let kind = nth_is 0 _ (0 ∷ id ∷ rest) is in absurd (omega arith)
+begins_id (Node id) (element.Edge b n s d) (rest, is) = let kind = nth_is 0 _ (0 ∷ id ∷ rest) is in absurd (omega arith)
 begins_id (Node id) (element.NodeAttr n k v) (rest, is) = let kind = nth_is 0 _ (0 ∷ id ∷ rest) is in absurd (omega arith)
 begins_id (Node id) (element.EdgeAttr n k v) (rest, is) = let kind = nth_is 0 _ (0 ∷ id ∷ rest) is in absurd (omega arith)
 begins_id (Node id) (element.Message s d v) (rest, is) = let kind = nth_is 0 _ (0 ∷ id ∷ rest) is in absurd (omega arith)
 begins_id (Edge id) (element.Node n) (rest, is) = let kind = nth_is 0 _ (1 ∷ id ∷ rest) is in absurd (omega arith)
-begins_id (Edge id) (element.Edge n s d b) (rest, is) = ap Edge (nth_is 1 (1 ∷ n ∷ s ∷ d ∷ bit b ∷ []) (1 ∷ id ∷ rest) is)
+begins_id (Edge id) (element.Edge b n s d) (rest, is) = ap Edge (nth_is 1 (1 ∷ n ∷ s ∷ d ∷ bit b ∷ []) (1 ∷ id ∷ rest) is)
 begins_id (Edge id) (element.NodeAttr n k v) (rest, is) = let kind = nth_is 0 _ (1 ∷ id ∷ rest) is in absurd (omega arith)
 begins_id (Edge id) (element.EdgeAttr n k v) (rest, is) = let kind = nth_is 0 _ (1 ∷ id ∷ rest) is in absurd (omega arith)
 begins_id (Edge id) (element.Message s d v) (rest, is) = let kind = nth_is 0 _ (1 ∷ id ∷ rest) is in absurd (omega arith)
 begins_id (NodeValue key id) (element.Node n) (rest, is) = let kind = nth_is 0 _ (2 ∷ id ∷ key ∷ rest) is in absurd (omega arith)
-begins_id (NodeValue key id) (element.Edge n s d b) (rest, is) = let kind = nth_is 0 _ (2 ∷ id ∷ key ∷ rest) is in absurd (omega arith)
+begins_id (NodeValue key id) (element.Edge b n s d) (rest, is) = let kind = nth_is 0 _ (2 ∷ id ∷ key ∷ rest) is in absurd (omega arith)
 begins_id (NodeValue key id) (element.NodeAttr n k v) (rest, is) =
     λ i. NodeValue (nth_is 2 (2 ∷ n ∷ k ∷ v ∷ []) (2 ∷ id ∷ key ∷ rest) is i) (nth_is 1 (2 ∷ n ∷ k ∷ v ∷ []) (2 ∷ id ∷ key ∷ rest) is i)
 begins_id (NodeValue key id) (element.EdgeAttr n k v) (rest, is) = let kind = nth_is 0 _ (2 ∷ id ∷ key ∷ rest) is in absurd (omega arith)
 begins_id (NodeValue key id) (element.Message s d v) (rest, is) = let kind = nth_is 0 _ (2 ∷ id ∷ key ∷ rest) is in absurd (omega arith)
 begins_id (EdgeValue key id) (element.Node n) (rest, is) = let kind = nth_is 0 _ (3 ∷ id ∷ key ∷ rest) is in absurd (omega arith)
-begins_id (EdgeValue key id) (element.Edge n s d b) (rest, is) = let kind = nth_is 0 _ (3 ∷ id ∷ key ∷ rest) is in absurd (omega arith)
+begins_id (EdgeValue key id) (element.Edge b n s d) (rest, is) = let kind = nth_is 0 _ (3 ∷ id ∷ key ∷ rest) is in absurd (omega arith)
 begins_id (EdgeValue key id) (element.NodeAttr n k v) (rest, is) = let kind = nth_is 0 _ (3 ∷ id ∷ key ∷ rest) is in absurd (omega arith)
 begins_id (EdgeValue key id) (element.EdgeAttr n k v) (rest, is) =
     λ i. EdgeValue (nth_is 2 (3 ∷ n ∷ k ∷ v ∷ []) (3 ∷ id ∷ key ∷ rest) is i) (nth_is 1 (3 ∷ n ∷ k ∷ v ∷ []) (3 ∷ id ∷ key ∷ rest) is i)
 begins_id (EdgeValue key id) (element.Message s d v) (rest, is) = let kind = nth_is 0 _ (3 ∷ id ∷ key ∷ rest) is in absurd (omega arith)
 begins_id (Message v s d) (element.Node n) (rest, is) = let kind = nth_is 0 _ (4 ∷ s ∷ d ∷ v ∷ rest) is in absurd (omega arith)
-begins_id (Message v s d) (element.Edge n t f b) (rest, is) = let kind = nth_is 0 _ (4 ∷ s ∷ d ∷ v ∷ rest) is in absurd (omega arith)
+begins_id (Message v s d) (element.Edge b n t f) (rest, is) = let kind = nth_is 0 _ (4 ∷ s ∷ d ∷ v ∷ rest) is in absurd (omega arith)
 begins_id (Message v s d) (element.NodeAttr n k w) (rest, is) = let kind = nth_is 0 _ (4 ∷ s ∷ d ∷ v ∷ rest) is in absurd (omega arith)
 begins_id (Message v s d) (element.EdgeAttr n k w) (rest, is) = let kind = nth_is 0 _ (4 ∷ s ∷ d ∷ v ∷ rest) is in absurd (omega arith)
 begins_id (Message v s d) (element.Message t f w) (rest, is) =
@@ -252,7 +210,7 @@ id_of_least (Message value src dst) = refl
 -- no element is before the least one with its id
 not_below : (x : Element) → before x (least (element_id_of x)) ≡ false
 not_below (element.Node n) = same_more 0 (n ∷ []) (n ∷ []) (same_more n [] [] refl)
-not_below (element.Edge n s d b) =
+not_below (element.Edge b n s d) =
     same_more 1 (n ∷ s ∷ d ∷ bit b ∷ []) (n ∷ 0 ∷ 0 ∷ 0 ∷ [])
     (same_more n (s ∷ d ∷ bit b ∷ []) (0 ∷ 0 ∷ 0 ∷ []) (zero_more s (d ∷ bit b ∷ []) (0 ∷ 0 ∷ []) (zero_more d (bit b ∷ []) (0 ∷ []) (zero_more (bit b) [] [] refl))))
 not_below (element.NodeAttr n k v) =
@@ -279,12 +237,12 @@ value_spelled (Message value src dst) = 2 ∷ []
 
 value_begins : (p : ElementId) (x : Element) → is_value_at p x ≡ true → Begins (value_spelled p) (spelled x)
 value_begins (Node id) (element.Node n) e = absurd (false≢true e)
-value_begins (Node id) (element.Edge n s d b) e = absurd (false≢true e)
+value_begins (Node id) (element.Edge b n s d) e = absurd (false≢true e)
 value_begins (Node id) (element.NodeAttr n k v) e = (k ∷ v ∷ [], λ i. 2 ∷ eqb-true n id e i ∷ k ∷ v ∷ [])
 value_begins (Node id) (element.EdgeAttr n k v) e = absurd (false≢true e)
 value_begins (Node id) (element.Message s d v) e = absurd (false≢true e)
 value_begins (Edge id) (element.Node n) e = absurd (false≢true e)
-value_begins (Edge id) (element.Edge n s d b) e = absurd (false≢true e)
+value_begins (Edge id) (element.Edge b n s d) e = absurd (false≢true e)
 value_begins (Edge id) (element.NodeAttr n k v) e = absurd (false≢true e)
 value_begins (Edge id) (element.EdgeAttr n k v) e = (k ∷ v ∷ [], λ i. 3 ∷ eqb-true n id e i ∷ k ∷ v ∷ [])
 value_begins (Edge id) (element.Message s d v) e = absurd (false≢true e)
@@ -294,14 +252,14 @@ value_begins (Message value src dst) x e = absurd (false≢true e)
 
 begins_node_value : (id : ℕ) (x : Element) → Begins (2 ∷ id ∷ []) (spelled x) → is_value_at (Node id) x ≡ true
 begins_node_value id (element.Node n) (rest, is) = let kind = nth_is 0 _ (2 ∷ id ∷ rest) is in absurd (omega arith)
-begins_node_value id (element.Edge n s d b) (rest, is) = let kind = nth_is 0 _ (2 ∷ id ∷ rest) is in absurd (omega arith)
+begins_node_value id (element.Edge b n s d) (rest, is) = let kind = nth_is 0 _ (2 ∷ id ∷ rest) is in absurd (omega arith)
 begins_node_value id (element.NodeAttr n k v) (rest, is) = eq-eqb n id (nth_is 1 (2 ∷ n ∷ k ∷ v ∷ []) (2 ∷ id ∷ rest) is)
 begins_node_value id (element.EdgeAttr n k v) (rest, is) = let kind = nth_is 0 _ (2 ∷ id ∷ rest) is in absurd (omega arith)
 begins_node_value id (element.Message s d v) (rest, is) = let kind = nth_is 0 _ (2 ∷ id ∷ rest) is in absurd (omega arith)
 
 begins_edge_value : (id : ℕ) (x : Element) → Begins (3 ∷ id ∷ []) (spelled x) → is_value_at (Edge id) x ≡ true
 begins_edge_value id (element.Node n) (rest, is) = let kind = nth_is 0 _ (3 ∷ id ∷ rest) is in absurd (omega arith)
-begins_edge_value id (element.Edge n s d b) (rest, is) = let kind = nth_is 0 _ (3 ∷ id ∷ rest) is in absurd (omega arith)
+begins_edge_value id (element.Edge b n s d) (rest, is) = let kind = nth_is 0 _ (3 ∷ id ∷ rest) is in absurd (omega arith)
 begins_edge_value id (element.NodeAttr n k v) (rest, is) = let kind = nth_is 0 _ (3 ∷ id ∷ rest) is in absurd (omega arith)
 begins_edge_value id (element.EdgeAttr n k v) (rest, is) = eq-eqb n id (nth_is 1 (3 ∷ n ∷ k ∷ v ∷ []) (3 ∷ id ∷ rest) is)
 begins_edge_value id (element.Message s d v) (rest, is) = let kind = nth_is 0 _ (3 ∷ id ∷ rest) is in absurd (omega arith)
@@ -318,14 +276,14 @@ value_between (Message value src dst) y z at h k = absurd (false≢true at)
 
 value_not_below : (p : ElementId) (x : Element) → is_value_at p x ≡ true → before x (least_value_at p) ≡ false
 value_not_below (Node id) (element.Node n) e = absurd (false≢true e)
-value_not_below (Node id) (element.Edge n s d b) e = absurd (false≢true e)
+value_not_below (Node id) (element.Edge b n s d) e = absurd (false≢true e)
 value_not_below (Node id) (element.NodeAttr n k v) e =
     ap (λ m. before (element.NodeAttr n k v) (element.NodeAttr m 0 0)) (sym (eqb-true n id e))
     ∙ same_more 2 (n ∷ k ∷ v ∷ []) (n ∷ 0 ∷ 0 ∷ []) (same_more n (k ∷ v ∷ []) (0 ∷ 0 ∷ []) (zero_more k (v ∷ []) (0 ∷ []) (zero_more v [] [] refl)))
 value_not_below (Node id) (element.EdgeAttr n k v) e = absurd (false≢true e)
 value_not_below (Node id) (element.Message s d v) e = absurd (false≢true e)
 value_not_below (Edge id) (element.Node n) e = absurd (false≢true e)
-value_not_below (Edge id) (element.Edge n s d b) e = absurd (false≢true e)
+value_not_below (Edge id) (element.Edge b n s d) e = absurd (false≢true e)
 value_not_below (Edge id) (element.NodeAttr n k v) e = absurd (false≢true e)
 value_not_below (Edge id) (element.EdgeAttr n k v) e =
     ap (λ m. before (element.EdgeAttr n k v) (element.EdgeAttr m 0 0)) (sym (eqb-true n id e))

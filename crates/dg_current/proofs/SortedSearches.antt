@@ -12,7 +12,6 @@ use Rattle.std.specs.declared.cmp.Ordering.{Ordering}
 use Rattle.std.specs.declared.cmp.Ordering.TheVariants.{Less, Equal, Greater}
 use Rattle.dg_graph.specs.declared.element.Element.{Element}
 use Rattle.dg_graph.specs.declared.element.Element.TheVariants as element
-use Rattle.dg_graph.specs.contracts.element.ElementOrd.TheImpl as of_elements
 use Rattle.dg_graph.specs.Elements.{bit, element_cmp, before, IsSet}
 use Rattle.dg_graph.proofs.Sets.{element_total, tied_exact, before_trans}
 use Rattle.dg_current.specs.declared.element_id.ElementId.{ElementId}
@@ -20,7 +19,7 @@ use Rattle.dg_current.specs.declared.element_id.ElementId.TheVariants.{Node, Edg
 use Rattle.dg_current.specs.ElementIds.{element_id_of, has_id, at, needs_id}
 use Rattle.dg_current.specs.Sorted.{IsFirstFrom, least, least_value_at, is_value_at, has_end}
 use Rattle.dg_current.proofs.ElementIds.{has_id_is, has_id_itself}
-use Rattle.dg_current.proofs.SortedOrder.{compares_by, rises_far, rises_on, id_between, id_of_least, below_least, value_between, below_value}
+use Rattle.dg_current.proofs.SortedOrder.{rises_far, rises_on, id_between, id_of_least, below_least, value_between, below_value}
 
 -- ---- the first item that is not before an element
 
@@ -48,29 +47,22 @@ module _ (x : Element) (xs : List Element) (s : IsSet xs) (i : ℕ) where
   first_end end within below = record { within = within; below = below; above = λ k d from less. absurd (omega arith) }
 
   -- by a binary search with the order of the code
-  pub first_found : i < length xs → ((d : Element) → of_elements.ghosts.cmp (get_or xs i d) x ≡ Equal) → IsFirstFrom x xs i
-  first_found less found = by (λ d. sym (compares_by (get_or xs i d) x) ∙ found d)
-    where
-      by : ((d : Element) → element_cmp (get_or xs i d) x ≡ Equal) → IsFirstFrom x xs i
-      by tied =
-          first_here less
-          (λ k d up. subst (λ y. IsTrue (before (get_or xs k d) y)) (tied_exact (get_or xs i d) x (tied d)) (rises_far xs s k i d up less))
-          (λ d. ap is_lt (tied d))
+  pub first_found : i < length xs → ((d : Element) → element_cmp (get_or xs i d) x ≡ Equal) → IsFirstFrom x xs i
+  first_found less tied =
+      first_here less
+      (λ k d up. subst (λ y. IsTrue (before (get_or xs k d) y)) (tied_exact (get_or xs i d) x (tied d)) (rises_far xs s k i d up less))
+      (λ d. ap is_lt (tied d))
 
   pub first_missed : i ≤ length xs
-      → (IsNonDecreasingBy (λ y. ordering_index (of_elements.ghosts.cmp y x)) xs → IsPartitionPoint (λ y. of_elements.ghosts.cmp y x ≡ Less) (λ y. of_elements.ghosts.cmp y x ≡ Greater) xs i)
+      → (IsNonDecreasingBy (λ y. ordering_index (element_cmp y x)) xs → IsPartitionPoint (λ y. element_cmp y x ≡ Less) (λ y. element_cmp y x ≡ Greater) xs i)
       → IsFirstFrom x xs i
-  first_missed within found =
-      by (subst (λ (f : Element → Ordering). IsNonDecreasingBy (λ y. ordering_index (f y)) xs → IsPartitionPoint (λ y. f y ≡ Less) (λ y. f y ≡ Greater) xs i) (λ j y. compares_by y x j) found)
-    where
-      by : (IsNonDecreasingBy (λ y. ordering_index (element_cmp y x)) xs → IsPartitionPoint (λ y. element_cmp y x ≡ Less) (λ y. element_cmp y x ≡ Greater) xs i) → IsFirstFrom x xs i
-      by parts =
-          let split = parts (searchable_from_sorted element_total (λ (y : Element). y) xs x (λ k d low end. rises_on xs s k (k + 1) d (omega arith) (omega arith))) in
-          record {
-            within = within;
-            below = λ k d up. ap is_lt (split.0 k d (omega arith) up);
-            above = λ k d from end. ap is_lt (split.1 k d from end);
-          }
+  first_missed within parts =
+      let split = parts (searchable_from_sorted element_total (λ (y : Element). y) xs x (λ k d low end. rises_on xs s k (k + 1) d (omega arith) (omega arith))) in
+      record {
+        within = within;
+        below = λ k d up. ap is_lt (split.0 k d (omega arith) up);
+        above = λ k d from end. ap is_lt (split.1 k d from end);
+      }
 
 -- what the code's comparison says of the item at an index
 is_ge_not_lt : (o : Ordering) → is_ge o ≡ true → is_lt o ≡ false
@@ -87,11 +79,11 @@ not_ge_lt Greater e = absurd (true≢false e)
 abbrev pub past : Element
 past = element.Node 0
 
-module _ (x : Element) (xs : List Element) (i : ℕ) (less : i < length xs) (o : Ordering) (is : o ≡ of_elements.ghosts.cmp (get_or xs i past) x) where
+module _ (x : Element) (xs : List Element) (i : ℕ) (less : i < length xs) (o : Ordering) (is : o ≡ element_cmp (get_or xs i past) x) where
   pub compared_not_before : is_ge o ≡ true → (d : Element) → before (get_or xs i d) x ≡ false
   compared_not_before ge d =
       ap (λ y. before y x) (get_or_default xs i d past less)
-      ∙ is_ge_not_lt (element_cmp (get_or xs i past) x) (sym (ap is_ge (is ∙ compares_by (get_or xs i past) x)) ∙ ge)
+      ∙ is_ge_not_lt (element_cmp (get_or xs i past) x) (sym (ap is_ge is) ∙ ge)
 
   pub compared_before : is_ge o ≡ false → ((k : ℕ) (d : Element) → k < i → IsTrue (before (get_or xs k d) x)) → (k : ℕ) (d : Element) → k < i + 1 → IsTrue (before (get_or xs k d) x)
   compared_before lt below k d up = by (ltb k i) refl
@@ -102,7 +94,7 @@ module _ (x : Element) (xs : List Element) (i : ℕ) (less : i < length xs) (o :
           let back = ltb-false k i e in
           let one : k ≡ i = omega arith in
           ap (λ j. before (get_or xs j d) x) one ∙ ap (λ y. before y x) (get_or_default xs i d past less)
-          ∙ not_ge_lt (element_cmp (get_or xs i past) x) (sym (ap is_ge (is ∙ compares_by (get_or xs i past) x)) ∙ lt)
+          ∙ not_ge_lt (element_cmp (get_or xs i past) x) (sym (ap is_ge is) ∙ lt)
 
 -- ---- the item with an id
 
@@ -232,7 +224,7 @@ values_counted p xs s i first ys is n within parted =
 
 node_uses : (id : ℕ) (x : Element) → bit (needs_id (Node id) x) ≡ bit (has_end id x) + bit (is_value_at (Node id) x)
 node_uses id (element.Node n) = refl
-node_uses id (element.Edge n s d b) = by (eqb s id || eqb d id)
+node_uses id (element.Edge b n s d) = by (eqb s id || eqb d id)
   where
     by : (b : Bool) → bit b ≡ bit b + 0
     by true = refl
@@ -246,7 +238,7 @@ uses_of_node id xs = count_both (needs_id (Node id)) (has_end id) (is_value_at (
 
 edge_uses : (id : ℕ) (x : Element) → needs_id (Edge id) x ≡ is_value_at (Edge id) x
 edge_uses id (element.Node n) = refl
-edge_uses id (element.Edge n s d b) = refl
+edge_uses id (element.Edge b n s d) = refl
 edge_uses id (element.NodeAttr n k v) = refl
 edge_uses id (element.EdgeAttr n k v) = refl
 edge_uses id (element.Message s d v) = refl

@@ -10,7 +10,7 @@ use Rattle.dg_current.specs.declared.element_id.ElementId.TheVariants.{Node, Edg
 -- the id of an element
 abbrev pub element_id_of : Element → ElementId
 element_id_of (element.Node id) = Node id
-element_id_of (element.Edge id src dst directed) = Edge id
+element_id_of (element.Edge directed id src dst) = Edge id
 element_id_of (element.NodeAttr id key value) = NodeValue key id
 element_id_of (element.EdgeAttr id key value) = EdgeValue key id
 element_id_of (element.Message src dst value) = Message value src dst

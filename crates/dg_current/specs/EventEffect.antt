@@ -30,7 +30,7 @@ abbrev pub element_before : Body → Option Element
 element_before (body.NodeAdded id) = None
 element_before (body.NodeRemoved id) = Some (element.Node id)
 element_before (body.EdgeAdded id src dst directed) = None
-element_before (body.EdgeRemoved id src dst directed) = Some (element.Edge id src dst directed)
+element_before (body.EdgeRemoved id src dst directed) = Some (element.Edge directed id src dst)
 element_before (body.NodeAttr id key old new) = option_map (element.NodeAttr id key) old
 element_before (body.EdgeAttr id key old new) = option_map (element.EdgeAttr id key) old
 element_before (body.Message src dst value) = None
@@ -39,7 +39,7 @@ element_before (body.Message src dst value) = None
 abbrev pub element_after : Body → Option Element
 element_after (body.NodeAdded id) = Some (element.Node id)
 element_after (body.NodeRemoved id) = None
-element_after (body.EdgeAdded id src dst directed) = Some (element.Edge id src dst directed)
+element_after (body.EdgeAdded id src dst directed) = Some (element.Edge directed id src dst)
 element_after (body.EdgeRemoved id src dst directed) = None
 element_after (body.NodeAttr id key old new) = option_map (element.NodeAttr id key) new
 element_after (body.EdgeAttr id key old new) = option_map (element.EdgeAttr id key) new

@@ -10,7 +10,7 @@ use Rattle.dg_current.specs.declared.held.Held.TheVariants as held
 -- what the element's id does not say of it
 abbrev pub held_of : Element → Held
 held_of (element.Node id) = held.Node
-held_of (element.Edge id src dst directed) = held.Edge directed src dst
+held_of (element.Edge directed id src dst) = held.Edge directed src dst
 held_of (element.NodeAttr id key value) = held.Value value
 held_of (element.EdgeAttr id key value) = held.Value value
 held_of (element.Message src dst value) = held.Message
@@ -18,7 +18,7 @@ held_of (element.Message src dst value) = held.Message
 -- the element that is held under an id; where the two are not of one kind, there is none
 abbrev pub element_in : ElementId → Held → Option Element
 element_in (element_id.Node id) held.Node = Some (element.Node id)
-element_in (element_id.Edge id) (held.Edge directed src dst) = Some (element.Edge id src dst directed)
+element_in (element_id.Edge id) (held.Edge directed src dst) = Some (element.Edge directed id src dst)
 element_in (element_id.NodeValue key id) (held.Value value) = Some (element.NodeAttr id key value)
 element_in (element_id.EdgeValue key id) (held.Value value) = Some (element.EdgeAttr id key value)
 element_in (element_id.Message value src dst) held.Message = Some (element.Message src dst value)

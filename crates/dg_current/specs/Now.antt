@@ -29,5 +29,5 @@ FaultOf due fault.Memory = Unit {0}
 
 -- the ends of the edge that was found, and whether it is directed
 abbrev pub ends_in : Option Element → Option (ℕ × ℕ × Bool)
-ends_in (Some (element.Edge id src dst directed)) = Some (src, dst, directed)
+ends_in (Some (element.Edge directed id src dst)) = Some (src, dst, directed)
 ends_in found = None

@@ -14,7 +14,7 @@ use Rattle.dg_current.specs.ElementIds.{element_id_of, at}
 -- the least element with the id, in the order of elements
 abbrev pub least : ElementId → Element
 least (Node id) = element.Node id
-least (Edge id) = element.Edge id 0 0 false
+least (Edge id) = element.Edge false id 0 0
 least (NodeValue key id) = element.NodeAttr id key 0
 least (EdgeValue key id) = element.EdgeAttr id key 0
 least (Message value src dst) = element.Message src dst value
@@ -32,7 +32,7 @@ OneOfEachId set = (x y : Element) → has set x ≡ true → has set y ≡ true 
 -- the id of the element that a value stands at
 abbrev pub holder_of : Element → Option ElementId
 holder_of (element.Node id) = None
-holder_of (element.Edge id src dst directed) = None
+holder_of (element.Edge directed id src dst) = None
 holder_of (element.NodeAttr id key value) = Some (Node id)
 holder_of (element.EdgeAttr id key value) = Some (Edge id)
 holder_of (element.Message src dst value) = None
@@ -44,7 +44,7 @@ is_held set x = option_map_or (λ p. is_some (at set p)) (holder_of x) true
 -- the two ends of an edge are in the set; a message is in no graph
 abbrev pub has_ends : List Element → Element → Bool
 has_ends set (element.Node id) = true
-has_ends set (element.Edge id src dst directed) = has_node set src && has_node set dst
+has_ends set (element.Edge directed id src dst) = has_node set src && has_node set dst
 has_ends set (element.NodeAttr id key value) = true
 has_ends set (element.EdgeAttr id key value) = true
 has_ends set (element.Message src dst value) = false
@@ -66,7 +66,7 @@ least_value_at (Message value src dst) = element.NodeAttr 0 0 0
 -- the element is an edge with this end
 abbrev pub has_end : ℕ → Element → Bool
 has_end id (element.Node n) = false
-has_end id (element.Edge n src dst directed) = src == id || dst == id
+has_end id (element.Edge directed n src dst) = src == id || dst == id
 has_end id (element.NodeAttr n key value) = false
 has_end id (element.EdgeAttr n key value) = false
 has_end id (element.Message src dst value) = false

@@ -58,7 +58,7 @@ fn hash(element: &Element) -> u64
 
 /// The hash of an edge's bytes.
 fn hash_edge(id: u64, src: u64, dst: u64, directed: bool) -> u64
-    ensures { result ≡ fnv (canonical (Edge id src dst directed)) }
+    ensures { result ≡ fnv (canonical (Edge directed id src dst)) }
 {
     let named = with_u64(with_byte(HASH_START, KIND_EDGE), id);
     let joined = with_u64(with_u64(named, src), dst);

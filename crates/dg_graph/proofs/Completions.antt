@@ -58,7 +58,7 @@ pub record IsEdgeRemoval (needed : Bool) (found : Option Element) (b : Body) : T
   pub dst : ℕ
   pub directed : Bool
   pub is : body.EdgeRemoved id src dst directed ≡ b
-  pub found_is : found ≡ Some (element.Edge id src dst directed)
+  pub found_is : found ≡ Some (element.Edge directed id src dst)
   pub free : needed ≡ false
 
 -- the body that a removal of a value comes to
@@ -98,8 +98,8 @@ edge_removed needed (Some (element.Node id)) b h = cc
 edge_removed needed (Some (element.NodeAttr id key value)) b h = cc
 edge_removed needed (Some (element.EdgeAttr id key value)) b h = cc
 edge_removed needed (Some (element.Message src dst value)) b h = cc
-edge_removed true (Some (element.Edge id src dst directed)) b h = cc
-edge_removed false (Some (element.Edge id src dst directed)) b h =
+edge_removed true (Some (element.Edge directed id src dst)) b h = cc
+edge_removed false (Some (element.Edge directed id src dst)) b h =
     record { id = id; src = src; dst = dst; directed = directed; is = cc; found_is = refl; free = refl }
 
 value_removed : (make : Option ℕ → Option ℕ → Body) (found : Option ℕ) (b : Body) → value_removal make found ≡ Ok b → IsValueRemoval make found b
@@ -173,7 +173,7 @@ comes_to w set b h = by w (completion w set b h)
     by (what.AddEdge id src dst directed) c =
         so (body.EdgeAdded id src dst directed) c.0 (and_from (not (is_some (edge_of set id))) _ (not_from_false (is_some (edge_of set id)) c.1) c.2)
     by (what.RemoveEdge id) c =
-        let x = element.Edge c.id c.src c.dst c.directed in
+        let x = element.Edge c.directed c.id c.src c.dst in
         let same_id : c.id ≡ id = eqb-true c.id id (found_in (is_edge id) set x c.found_is).1 in
         let there : is_found (edge_of set c.id) x ≡ true =
         ap (λ (k : ℕ). is_found (edge_of set k) x) same_id ∙ ap (λ (o : Option Element). is_found o x) c.found_is ∙ same_itself x in

@@ -65,7 +65,7 @@ one_byte_of_a_delta : delta_in column.Transient 1 (7 ∷ []) ≡ Err 0
 one_byte_of_a_delta = refl
 
 change : Delta
-change = record { minus = element.Edge 5 1 2 true ∷ []; plus = element.Node 1 ∷ element.Node 2 ∷ [] }
+change = record { minus = element.Edge true 5 1 2 ∷ []; plus = element.Node 1 ∷ element.Node 2 ∷ [] }
 
 delta_back : delta_in column.Structure 0 (delta_column column.Structure change) ≡ Ok change
 unfolding change

@@ -121,7 +121,7 @@ abbrev pub element_at : Column → ℕ → List ℕ → ℕ → Result Element �
 element_at column.Structure names bytes at =
     and_read (one_byte (λ n. nat_le 1 n && nat_le n 2) bytes at) (λ kind.
     if kind == 1 then and_read (eight_bytes any_number bytes (at + 1)) (λ id. Ok (element.Node id))
-    else edge_fields (λ id src dst directed. element.Edge id src dst directed) bytes (at + 1))
+    else edge_fields (λ id src dst directed. element.Edge directed id src dst) bytes (at + 1))
 element_at column.NodeAttr names bytes at = value_element (λ id key value. element.NodeAttr id key value) names bytes at
 element_at column.EdgeAttr names bytes at = value_element (λ id key value. element.EdgeAttr id key value) names bytes at
 element_at column.Transient names bytes at = Err at
@@ -129,7 +129,7 @@ element_at column.Transient names bytes at = Err at
 -- the bytes that an element takes
 abbrev pub element_size : Element → ℕ
 element_size (element.Node id) = 9
-element_size (element.Edge id src dst directed) = 26
+element_size (element.Edge directed id src dst) = 26
 element_size (element.NodeAttr id key value) = 16
 element_size (element.EdgeAttr id key value) = 16
 element_size (element.Message src dst value) = 20

@@ -33,7 +33,7 @@ same_column a b = false
 -- an element in its column
 abbrev pub element_bytes : Element → List ℕ
 element_bytes (element.Node id) = 1 ∷ eight id
-element_bytes (element.Edge id src dst directed) = 2 ∷ (eight id ++ (eight src ++ (eight dst ++ bit directed ∷ [])))
+element_bytes (element.Edge directed id src dst) = 2 ∷ (eight id ++ (eight src ++ (eight dst ++ bit directed ∷ [])))
 element_bytes (element.NodeAttr id key value) = eight id ++ (four key ++ four value)
 element_bytes (element.EdgeAttr id key value) = eight id ++ (four key ++ four value)
 element_bytes (element.Message src dst value) = eight src ++ (eight dst ++ four value)

@@ -17,7 +17,7 @@ abbrev pub has_node : List Element → ℕ → Bool
 has_node set id = has set (element.Node id)
 
 abbrev pub is_edge : ℕ → Element → Bool
-is_edge id (element.Edge n src dst directed) = n == id
+is_edge id (element.Edge directed n src dst) = n == id
 is_edge id x = false
 
 -- the edge of this id
@@ -27,7 +27,7 @@ edge_of set id = find (is_edge id) set
 -- the element needs this node: an edge with this end, or an attribute of the node
 abbrev pub needs_node : ℕ → Element → Bool
 needs_node id (element.Node n) = false
-needs_node id (element.Edge n src dst directed) = src == id || dst == id
+needs_node id (element.Edge directed n src dst) = src == id || dst == id
 needs_node id (element.NodeAttr n key value) = n == id
 needs_node id (element.EdgeAttr n key value) = false
 needs_node id (element.Message src dst value) = false
@@ -39,7 +39,7 @@ needs_edge id x = false
 
 -- the removal of the edge that was found
 abbrev pub edge_removal : Bool → Option Element → Result Body ℕ
-edge_removal needed (Some (element.Edge id src dst directed)) = if needed then Err REASON_EDGE_IN_USE else Ok (body.EdgeRemoved id src dst directed)
+edge_removal needed (Some (element.Edge directed id src dst)) = if needed then Err REASON_EDGE_IN_USE else Ok (body.EdgeRemoved id src dst directed)
 edge_removal needed found = Err REASON_NO_EDGE
 
 -- the element is a value of this key at this node, or at this edge
@@ -54,7 +54,7 @@ is_edge_value id key x = false
 -- the value in an element, where it has one
 abbrev pub value_in : Element → Option ℕ
 value_in (element.Node id) = None
-value_in (element.Edge id src dst directed) = None
+value_in (element.Edge directed id src dst) = None
 value_in (element.NodeAttr id key value) = Some value
 value_in (element.EdgeAttr id key value) = Some value
 value_in (element.Message src dst value) = None
@@ -117,7 +117,7 @@ is_change_of set (body.NodeAdded id) = not (has_node set id)
 is_change_of set (body.NodeRemoved id) = has_node set id && not (list_any (needs_node id) set)
 is_change_of set (body.EdgeAdded id src dst directed) = not (is_some (edge_of set id)) && (has_node set src && has_node set dst)
 is_change_of set (body.EdgeRemoved id src dst directed) =
-    is_found (edge_of set id) (element.Edge id src dst directed) && not (list_any (needs_edge id) set)
+    is_found (edge_of set id) (element.Edge directed id src dst) && not (list_any (needs_edge id) set)
 is_change_of set (body.NodeAttr id key old new) = has_node set id && is_value_change (node_value set id key) old new
 is_change_of set (body.EdgeAttr id key old new) = is_some (edge_of set id) && is_value_change (edge_value set id key) old new
 is_change_of set (body.Message src dst value) = has_node set src && has_node set dst

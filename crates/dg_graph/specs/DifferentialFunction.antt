@@ -14,7 +14,7 @@ use Rattle.dg_graph.specs.Sets.{unioned}
 -- an element as bytes: its kind, and then its fields
 abbrev pub canonical : Element → List ℕ
 canonical (Node id) = 1 ∷ eight id
-canonical (Edge id src dst directed) = 2 ∷ (eight id ++ (eight src ++ (eight dst ++ bit directed ∷ [])))
+canonical (Edge directed id src dst) = 2 ∷ (eight id ++ (eight src ++ (eight dst ++ bit directed ∷ [])))
 canonical (NodeAttr id key value) = 3 ∷ (eight id ++ (four key ++ four value))
 canonical (EdgeAttr id key value) = 4 ∷ (eight id ++ (four key ++ four value))
 canonical (Message src dst value) = 5 ∷ (eight src ++ (eight dst ++ four value))

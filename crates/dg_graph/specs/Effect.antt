@@ -17,7 +17,7 @@ abbrev pub removed_by : Body → Option Element
 removed_by (body.NodeAdded id) = None
 removed_by (body.NodeRemoved id) = Some (element.Node id)
 removed_by (body.EdgeAdded id src dst directed) = None
-removed_by (body.EdgeRemoved id src dst directed) = Some (element.Edge id src dst directed)
+removed_by (body.EdgeRemoved id src dst directed) = Some (element.Edge directed id src dst)
 removed_by (body.NodeAttr id key old new) = moved (element.NodeAttr id key) old new
 removed_by (body.EdgeAttr id key old new) = moved (element.EdgeAttr id key) old new
 removed_by (body.Message src dst value) = None
@@ -26,7 +26,7 @@ removed_by (body.Message src dst value) = None
 abbrev pub added_by : Body → Option Element
 added_by (body.NodeAdded id) = Some (element.Node id)
 added_by (body.NodeRemoved id) = None
-added_by (body.EdgeAdded id src dst directed) = Some (element.Edge id src dst directed)
+added_by (body.EdgeAdded id src dst directed) = Some (element.Edge directed id src dst)
 added_by (body.EdgeRemoved id src dst directed) = None
 added_by (body.NodeAttr id key old new) = moved (element.NodeAttr id key) new old
 added_by (body.EdgeAttr id key old new) = moved (element.EdgeAttr id key) new old

@@ -19,7 +19,7 @@ bit b = cond b 1 0
 -- an element as numbers: its kind, and then its fields
 abbrev pub spelled : Element → List ℕ
 spelled (Node id) = 0 ∷ id ∷ []
-spelled (Edge id src dst directed) = 1 ∷ id ∷ src ∷ dst ∷ bit directed ∷ []
+spelled (Edge directed id src dst) = 1 ∷ id ∷ src ∷ dst ∷ bit directed ∷ []
 spelled (NodeAttr id key value) = 2 ∷ id ∷ key ∷ value ∷ []
 spelled (EdgeAttr id key value) = 3 ∷ id ∷ key ∷ value ∷ []
 spelled (Message src dst value) = 4 ∷ src ∷ dst ∷ value ∷ []
@@ -70,7 +70,7 @@ without set (Some x) = take_out x set
 -- the column in which an element stands
 abbrev pub column_of : Element → Column
 column_of (Node id) = column.Structure
-column_of (Edge id src dst directed) = column.Structure
+column_of (Edge directed id src dst) = column.Structure
 column_of (NodeAttr id key value) = column.NodeAttr
 column_of (EdgeAttr id key value) = column.EdgeAttr
 column_of (Message src dst value) = column.Transient

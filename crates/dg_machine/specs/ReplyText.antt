@@ -29,7 +29,7 @@ use Rattle.dg_plan.specs.declared.certificate.Verdict.TheVariants as verdict
 -- the words of an element's line
 abbrev pub element_words : List (List ℕ) → Element → List (List ℕ)
 element_words names (Node id) = codes "node" ∷ decimal id ∷ []
-element_words names (Edge id src dst directed) =
+element_words names (Edge directed id src dst) =
     codes "edge" ∷ decimal id ∷ decimal src ∷ decimal dst ∷ (if directed then codes "dir" else codes "undir") ∷ []
 element_words names (NodeAttr id key value) = codes "nattr" ∷ decimal id ∷ name_text names key ∷ name_text names value ∷ []
 element_words names (EdgeAttr id key value) = codes "eattr" ∷ decimal id ∷ name_text names key ∷ name_text names value ∷ []

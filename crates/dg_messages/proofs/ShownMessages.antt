@@ -27,7 +27,7 @@ use Rattle.dg_messages.specs.Told.{telling}
 
 abbrev pub is_message : Element → Bool
 is_message (element.Node id) = false
-is_message (element.Edge id src dst directed) = false
+is_message (element.Edge directed id src dst) = false
 is_message (element.NodeAttr id key value) = false
 is_message (element.EdgeAttr id key value) = false
 is_message (element.Message src dst value) = true
@@ -70,12 +70,12 @@ replayed_of events = replay_of [] events (All-nil IsOfGraph)
 
 message_after : (x y : Element) → IsOfGraph x → IsMessage y → IsTrue (before x y)
 message_after (element.Node id) (element.Message src dst value) of is = refl
-message_after (element.Edge id from to directed) (element.Message src dst value) of is = refl
+message_after (element.Edge directed id from to) (element.Message src dst value) of is = refl
 message_after (element.NodeAttr id key old) (element.Message src dst value) of is = refl
 message_after (element.EdgeAttr id key old) (element.Message src dst value) of is = refl
 message_after (element.Message from to old) y of is = absurd (false≢true (sym of))
 message_after x (element.Node id) of is = absurd cc
-message_after x (element.Edge id src dst directed) of is = absurd cc
+message_after x (element.Edge directed id src dst) of is = absurd cc
 message_after x (element.NodeAttr id key value) of is = absurd cc
 message_after x (element.EdgeAttr id key value) of is = absurd cc
 

@@ -48,7 +48,7 @@ none_from (Some x) e = absurd (false≢true (sym e))
 
 pub node_attr_found : (id key : ℕ) (x : Element) → is_node_value id key x ≡ true → (v : ℕ) → value_in x ≡ Some v → x ≡ element.NodeAttr id key v
 node_attr_found id key (element.Node n) e v is = absurd (false≢true e)
-node_attr_found id key (element.Edge n s d b) e v is = absurd (false≢true e)
+node_attr_found id key (element.Edge b n s d) e v is = absurd (false≢true e)
 node_attr_found id key (element.NodeAttr n k w) e v is =
     let parts = and_parts (eqb n id) (eqb k key) e in
     let value : w ≡ v = cc in
@@ -58,7 +58,7 @@ node_attr_found id key (element.Message s d w) e v is = absurd (false≢true e)
 
 pub edge_attr_found : (id key : ℕ) (x : Element) → is_edge_value id key x ≡ true → (v : ℕ) → value_in x ≡ Some v → x ≡ element.EdgeAttr id key v
 edge_attr_found id key (element.Node n) e v is = absurd (false≢true e)
-edge_attr_found id key (element.Edge n s d b) e v is = absurd (false≢true e)
+edge_attr_found id key (element.Edge b n s d) e v is = absurd (false≢true e)
 edge_attr_found id key (element.NodeAttr n k w) e v is = absurd (false≢true e)
 edge_attr_found id key (element.EdgeAttr n k w) e v is =
     let parts = and_parts (eqb n id) (eqb k key) e in
@@ -68,14 +68,14 @@ edge_attr_found id key (element.Message s d w) e v is = absurd (false≢true e)
 
 pub node_valued : (id key : ℕ) (x : Element) → is_node_value id key x ≡ true → is_some (value_in x) ≡ true
 node_valued id key (element.Node n) e = absurd (false≢true e)
-node_valued id key (element.Edge n s d b) e = absurd (false≢true e)
+node_valued id key (element.Edge b n s d) e = absurd (false≢true e)
 node_valued id key (element.NodeAttr n k w) e = refl
 node_valued id key (element.EdgeAttr n k w) e = absurd (false≢true e)
 node_valued id key (element.Message s d w) e = absurd (false≢true e)
 
 pub edge_valued : (id key : ℕ) (x : Element) → is_edge_value id key x ≡ true → is_some (value_in x) ≡ true
 edge_valued id key (element.Node n) e = absurd (false≢true e)
-edge_valued id key (element.Edge n s d b) e = absurd (false≢true e)
+edge_valued id key (element.Edge b n s d) e = absurd (false≢true e)
 edge_valued id key (element.NodeAttr n k w) e = absurd (false≢true e)
 edge_valued id key (element.EdgeAttr n k w) e = refl
 edge_valued id key (element.Message s d w) e = absurd (false≢true e)

@@ -42,7 +42,7 @@ needs_keep : (old new : List Element) (y : Element)
     → ((id : ℕ) → needs_edge id y ≡ true → is_some (edge_of old id) ≡ true → is_some (edge_of new id) ≡ true)
     → has_needs old y ≡ true → has_needs new y ≡ true
 needs_keep old new (element.Node id) f g h = refl
-needs_keep old new (element.Edge id s d b) f g h =
+needs_keep old new (element.Edge b id s d) f g h =
     let parts = and_parts (has_node old s) (has_node old d) h in
     let first = f s (or_left (eqb s s) (eqb d s) (eq-eqb s s refl)) parts.0 in
     let last = f d (or_right (eqb s d) (eqb d d) (eq-eqb d d refl)) parts.1 in
@@ -85,7 +85,7 @@ out_graph x set g spares = record {
   rises = IsSet-take_out x set g.rises;
   needs = λ y h. out_fed x set y (spares y (there y h)) (g.needs y (there y h));
   one_edge = λ id s d s2 d2 b b2 h k.
-      g.one_edge id s d s2 d2 b b2 (there (element.Edge id s d b) h) (there (element.Edge id s2 d2 b2) k);
+      g.one_edge id s d s2 d2 b b2 (there (element.Edge b id s d) h) (there (element.Edge b2 id s2 d2) k);
   one_node_value = λ id key v w h k.
       g.one_node_value id key v w (there (element.NodeAttr id key v) h) (there (element.NodeAttr id key w) k);
   one_edge_value = λ id key v w h k.
@@ -100,7 +100,7 @@ out_graph x set g spares = record {
 -- the other element stands where this one would: it is an edge of the same id, or a value of the same key
 abbrev clashes : Element → Element → Bool
 clashes (element.Node id) y = false
-clashes (element.Edge id s d b) y = is_edge id y
+clashes (element.Edge b id s d) y = is_edge id y
 clashes (element.NodeAttr id key v) y = is_node_value id key y
 clashes (element.EdgeAttr id key v) y = is_edge_value id key y
 clashes (element.Message s d v) y = false
@@ -127,7 +127,7 @@ module _ (x : Element) (set : List Element) (g : IsGraph set) (fed : has_needs s
           | inr there ↦ put_fed x set y (g.needs y there)
         ];
     one_edge = λ id s d s2 d2 b b2 h k.
-        elim (one_of (element.Edge id s d b) (element.Edge id s2 d2 b2) (eq-eqb id id refl) (eq-eqb id id refl) h k) [
+        elim (one_of (element.Edge b id s d) (element.Edge b2 id s2 d2) (eq-eqb id id refl) (eq-eqb id id refl) h k) [
           | inl e ↦ e
           | inr there ↦ g.one_edge id s d s2 d2 b b2 there.0 there.1
         ];
@@ -235,7 +235,7 @@ module _ (set : List Element) (g : IsGraph set) where
   }
 
   edge_spared : (id s d : ℕ) (b : Bool) → list_any (needs_edge id) set ≡ false → (y : Element) → has set y ≡ true
-      → Spares (element.Edge id s d b) y
+      → Spares (element.Edge b id s d) y
   edge_spared id s d b none y there = record {
     node = λ n needs is. cc;
     edge = λ n needs e. none_passes (needs_edge id) set none y there (ap (λ q. needs_edge q y) (eqb-true id n e) ∙ needs);
@@ -249,11 +249,11 @@ module _ (set : List Element) (g : IsGraph set) where
   graph_forwards (body.EdgeAdded id s d b) e =
       let parts = and_parts (not (is_some (edge_of set id))) (has_node set s && has_node set d) e in
       let none = none_from (edge_of set id) (not-true (is_some (edge_of set id)) parts.0) in
-      put_graph (element.Edge id s d b) set g parts.1 (λ y there. found_none (is_edge id) set none y there)
+      put_graph (element.Edge b id s d) set g parts.1 (λ y there. found_none (is_edge id) set none y there)
   graph_forwards (body.EdgeRemoved id s d b) e =
-      let found = is_found (edge_of set id) (element.Edge id s d b) in
+      let found = is_found (edge_of set id) (element.Edge b id s d) in
       let free = not-true (list_any (needs_edge id) set) (and_parts found (not (list_any (needs_edge id) set)) e).1 in
-      out_graph (element.Edge id s d b) set g (edge_spared id s d b free)
+      out_graph (element.Edge b id s d) set g (edge_spared id s d b free)
   graph_forwards (body.NodeAttr id key old new) e =
       let parts = and_parts (has_node set id) (is_value_change (node_value set id key) old new) e in
       value_graph set g (is_node_value id key) (element.NodeAttr id key) (node_attr_found id key) (node_valued id key)

@@ -80,7 +80,7 @@ module _ (set : List Element) (g : IsGraph set) where
   removed_there (body.NodeRemoved id) e = (and_parts (has_node set id) (not (list_any (needs_node id) set)) e).0
   removed_there (body.EdgeAdded id s d b) e = tt
   removed_there (body.EdgeRemoved id s d b) e =
-      let x = element.Edge id s d b in
+      let x = element.Edge b id s d in
       edge_found set id x (and_parts (is_found (edge_of set id) x) (not (list_any (needs_edge id) set)) e).0
   removed_there (body.NodeAttr id key old new) e =
       let value = (and_parts (has_node set id) (is_value_change (node_value set id key) old new) e).1 in
@@ -97,7 +97,7 @@ module _ (set : List Element) (g : IsGraph set) where
   added_absent (body.NodeRemoved id) e = tt
   added_absent (body.EdgeAdded id s d b) e =
       let none = not-true (is_some (edge_of set id)) (and_parts (not (is_some (edge_of set id))) (has_node set s && has_node set d) e).0 in
-      absent (is_edge id) set (element.Edge id s d b) (none_from (edge_of set id) none) (eq-eqb id id refl)
+      absent (is_edge id) set (element.Edge b id s d) (none_from (edge_of set id) none) (eq-eqb id id refl)
   added_absent (body.EdgeRemoved id s d b) e = tt
   added_absent (body.NodeAttr id key old new) e =
       let value = (and_parts (has_node set id) (is_value_change (node_value set id key) old new) e).1 in

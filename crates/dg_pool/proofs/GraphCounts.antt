@@ -33,14 +33,14 @@ same_too n m e = omega arith
 -- with its counts in a record of variables, one more
 more_by : (x : Element) (set after : List Element) → ((p : Element → Bool) → count_by p after ≡ cond (p x) 1 0 + count_by p set) → counts_of after ≡ one_more (counts_of set) x
 more_by (Node id) set after f = counts_by (more _ _ (f is_a_node)) (same_too _ _ (f is_an_edge)) (same_too _ _ (f is_a_node_attr)) (same_too _ _ (f is_an_edge_attr)) (same_too _ _ (f is_a_message))
-more_by (Edge id src dst directed) set after f = counts_by (same_too _ _ (f is_a_node)) (more _ _ (f is_an_edge)) (same_too _ _ (f is_a_node_attr)) (same_too _ _ (f is_an_edge_attr)) (same_too _ _ (f is_a_message))
+more_by (Edge directed id src dst) set after f = counts_by (same_too _ _ (f is_a_node)) (more _ _ (f is_an_edge)) (same_too _ _ (f is_a_node_attr)) (same_too _ _ (f is_an_edge_attr)) (same_too _ _ (f is_a_message))
 more_by (NodeAttr id key value) set after f = counts_by (same_too _ _ (f is_a_node)) (same_too _ _ (f is_an_edge)) (more _ _ (f is_a_node_attr)) (same_too _ _ (f is_an_edge_attr)) (same_too _ _ (f is_a_message))
 more_by (EdgeAttr id key value) set after f = counts_by (same_too _ _ (f is_a_node)) (same_too _ _ (f is_an_edge)) (same_too _ _ (f is_a_node_attr)) (more _ _ (f is_an_edge_attr)) (same_too _ _ (f is_a_message))
 more_by (Message src dst value) set after f = counts_by (same_too _ _ (f is_a_node)) (same_too _ _ (f is_an_edge)) (same_too _ _ (f is_a_node_attr)) (same_too _ _ (f is_an_edge_attr)) (more _ _ (f is_a_message))
 
 less_by : (x : Element) (set after : List Element) → ((p : Element → Bool) → count_by p set ≡ cond (p x) 1 0 + count_by p after) → counts_of after ≡ one_less (counts_of set) x
 less_by (Node id) set after f = counts_by (less _ _ (f is_a_node)) (same _ _ (f is_an_edge)) (same _ _ (f is_a_node_attr)) (same _ _ (f is_an_edge_attr)) (same _ _ (f is_a_message))
-less_by (Edge id src dst directed) set after f = counts_by (same _ _ (f is_a_node)) (less _ _ (f is_an_edge)) (same _ _ (f is_a_node_attr)) (same _ _ (f is_an_edge_attr)) (same _ _ (f is_a_message))
+less_by (Edge directed id src dst) set after f = counts_by (same _ _ (f is_a_node)) (less _ _ (f is_an_edge)) (same _ _ (f is_a_node_attr)) (same _ _ (f is_an_edge_attr)) (same _ _ (f is_a_message))
 less_by (NodeAttr id key value) set after f = counts_by (same _ _ (f is_a_node)) (same _ _ (f is_an_edge)) (less _ _ (f is_a_node_attr)) (same _ _ (f is_an_edge_attr)) (same _ _ (f is_a_message))
 less_by (EdgeAttr id key value) set after f = counts_by (same _ _ (f is_a_node)) (same _ _ (f is_an_edge)) (same _ _ (f is_a_node_attr)) (less _ _ (f is_an_edge_attr)) (same _ _ (f is_a_message))
 less_by (Message src dst value) set after f = counts_by (same _ _ (f is_a_node)) (same _ _ (f is_an_edge)) (same _ _ (f is_a_node_attr)) (same _ _ (f is_an_edge_attr)) (less _ _ (f is_a_message))
@@ -68,7 +68,7 @@ kind-one_more c _ = refl
 
 pub kind-most : (set : List Element) (x : Element) → kind_count (counts_of set) x ≤ length set
 kind-most set (Node id) = count_by-le-length is_a_node set
-kind-most set (Edge id src dst directed) = count_by-le-length is_an_edge set
+kind-most set (Edge directed id src dst) = count_by-le-length is_an_edge set
 kind-most set (NodeAttr id key value) = count_by-le-length is_a_node_attr set
 kind-most set (EdgeAttr id key value) = count_by-le-length is_an_edge_attr set
 kind-most set (Message src dst value) = count_by-le-length is_a_message set
@@ -76,7 +76,7 @@ kind-most set (Message src dst value) = count_by-le-length is_a_message set
 -- a set with the element has one of its kind
 pub kind-least : (x : Element) (set : List Element) → IsSet set → has set x ≡ true → 1 ≤ kind_count (counts_of set) x
 kind-least (Node id) set s e = let f = count-take_out is_a_node (Node id) set s e in omega arith
-kind-least (Edge id src dst directed) set s e = let f = count-take_out is_an_edge (Edge id src dst directed) set s e in omega arith
+kind-least (Edge directed id src dst) set s e = let f = count-take_out is_an_edge (Edge directed id src dst) set s e in omega arith
 kind-least (NodeAttr id key value) set s e = let f = count-take_out is_a_node_attr (NodeAttr id key value) set s e in omega arith
 kind-least (EdgeAttr id key value) set s e = let f = count-take_out is_an_edge_attr (EdgeAttr id key value) set s e in omega arith
 kind-least (Message src dst value) set s e = let f = count-take_out is_a_message (Message src dst value) set s e in omega arith
@@ -89,7 +89,7 @@ module _ (set : List Element) (cols : Columns) where
   node_asks _ e = cc
 
   edge_asks : (x : Element) → is_an_edge x ≡ true → asks cols (column_of x) ≡ true
-  edge_asks (Edge id src dst directed) e = refl
+  edge_asks (Edge directed id src dst) e = refl
   edge_asks _ e = cc
 
   node_attr_asks : (x : Element) → is_a_node_attr x ≡ true → asks cols (column_of x) ≡ cols.nodes_attr

@@ -12,7 +12,7 @@ use Rattle.dg_pool.specs.Graphs.{PoolState, IsPool, SlotGraph, slot_graph, graph
 -- how many there are of the element's kind
 abbrev pub kind_count : Counts → Element → ℕ
 kind_count c (Node id) = c.nodes
-kind_count c (Edge id src dst directed) = c.edges
+kind_count c (Edge directed id src dst) = c.edges
 kind_count c (NodeAttr id key value) = c.node_attrs
 kind_count c (EdgeAttr id key value) = c.edge_attrs
 kind_count c (Message src dst value) = c.messages
@@ -20,7 +20,7 @@ kind_count c (Message src dst value) = c.messages
 -- one more of the element's kind
 abbrev pub one_more : Counts → Element → Counts
 one_more c (Node id) = record c { nodes = c.nodes + 1 }
-one_more c (Edge id src dst directed) = record c { edges = c.edges + 1 }
+one_more c (Edge directed id src dst) = record c { edges = c.edges + 1 }
 one_more c (NodeAttr id key value) = record c { node_attrs = c.node_attrs + 1 }
 one_more c (EdgeAttr id key value) = record c { edge_attrs = c.edge_attrs + 1 }
 one_more c (Message src dst value) = record c { messages = c.messages + 1 }
@@ -28,7 +28,7 @@ one_more c (Message src dst value) = record c { messages = c.messages + 1 }
 -- one less
 abbrev pub one_less : Counts → Element → Counts
 one_less c (Node id) = record c { nodes = c.nodes - 1 }
-one_less c (Edge id src dst directed) = record c { edges = c.edges - 1 }
+one_less c (Edge directed id src dst) = record c { edges = c.edges - 1 }
 one_less c (NodeAttr id key value) = record c { node_attrs = c.node_attrs - 1 }
 one_less c (EdgeAttr id key value) = record c { edge_attrs = c.edge_attrs - 1 }
 one_less c (Message src dst value) = record c { messages = c.messages - 1 }

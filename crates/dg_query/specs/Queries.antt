@@ -15,7 +15,7 @@ is_a_node (Node id) = true
 is_a_node _ = false
 
 abbrev pub is_an_edge : Element → Bool
-is_an_edge (Edge id src dst directed) = true
+is_an_edge (Edge directed id src dst) = true
 is_an_edge _ = false
 
 abbrev pub is_a_node_attr : Element → Bool
@@ -49,7 +49,7 @@ side_as directed s = if directed then s else side.Both
 -- The edge at the node, if the element is one: its other end, and the side on which it lies. A loop is one
 -- edge at its node.
 abbrev pub edge_at : ℕ → Element → Option Neighbour
-edge_at n (Edge id src dst directed) =
+edge_at n (Edge directed id src dst) =
     if src == n then Some (record { edge = id; node = dst; side = side_as directed side.Out })
     else (if dst == n then Some (record { edge = id; node = src; side = side_as directed side.Inward }) else None)
 edge_at n _ = None

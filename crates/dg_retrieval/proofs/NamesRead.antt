@@ -60,11 +60,11 @@ module _ (names : ℕ) where
     element_there : (col : Column) (at : ℕ) (x : Element) → element_at col names bytes at ≡ Ok x → HasNamesThere names x
     element_there column.Structure at x e =
         let node : Result Element ℕ = and_read (eight_bytes any_number bytes (at + 1)) (λ id. Ok (element.Node id)) in
-        let edge : Result Element ℕ = edge_fields (λ id src dst d. element.Edge id src dst d) bytes (at + 1) in
+        let edge : Result Element ℕ = edge_fields (λ id src dst d. element.Edge d id src dst) bytes (at + 1) in
         let a = bind_ok (one_byte (λ n. nat_le 1 n && nat_le n 2) bytes at) (λ kind. cond (kind == 1) node edge) x e in
         elim (a.0 == 1) as (λ b. cond b node edge ≡ Ok x → HasNamesThere names x) [
           | true ↦ λ h. node_read (HasNamesThere names) (λ id. element.Node id) (at + 1) x (λ id. tt) h
-          | false ↦ λ h. edge_read (HasNamesThere names) (λ id src dst d. element.Edge id src dst d) (at + 1) x (λ id src dst d. tt) h
+          | false ↦ λ h. edge_read (HasNamesThere names) (λ id src dst d. element.Edge d id src dst) (at + 1) x (λ id src dst d. tt) h
         ] a.2
     element_there column.NodeAttr at x e = made_value (λ id key value. element.NodeAttr id key value) at x (λ id key value h. h) e
     element_there column.EdgeAttr at x e = made_value (λ id key value. element.EdgeAttr id key value) at x (λ id key value h. h) e

@@ -39,7 +39,7 @@ use Rattle.dg_retrieval.proofs.KeptGraphTrees.{each_edge}
 pub all_shown : (set : ListOf Element) → shown set all_columns ≡ set
 all_shown [] = refl
 all_shown (element.Node id ∷ set) = ap (λ t. element.Node id ∷ t) (all_shown set)
-all_shown (element.Edge id src dst directed ∷ set) = ap (λ t. element.Edge id src dst directed ∷ t) (all_shown set)
+all_shown (element.Edge directed id src dst ∷ set) = ap (λ t. element.Edge directed id src dst ∷ t) (all_shown set)
 all_shown (element.NodeAttr id key value ∷ set) = ap (λ t. element.NodeAttr id key value ∷ t) (all_shown set)
 all_shown (element.EdgeAttr id key value ∷ set) = ap (λ t. element.EdgeAttr id key value ∷ t) (all_shown set)
 all_shown (element.Message src dst value ∷ set) = ap (λ t. element.Message src dst value ∷ t) (all_shown set)

@@ -21,7 +21,7 @@ values_fit name_count few set there x h = own x (there x h)
   where
     own : (x : Element) → HasNamesThere name_count x → ValueFits x
     own (element.Node id) named = tt
-    own (element.Edge id src dst directed) named = tt
+    own (element.Edge directed id src dst) named = tt
     own (element.NodeAttr id key value) named = let below = named.1 in omega (arith, below, few)
     own (element.EdgeAttr id key value) named = let below = named.1 in omega (arith, below, few)
     own (element.Message src dst value) named = omega (arith, named, few)

@@ -11,7 +11,7 @@ use Rattle.dg_graph.specs.Elements.{has}
 -- the key and the value that an element has, if it has them, are among so many names
 abbrev pub HasNamesThere : ℕ → Element → Type 0
 HasNamesThere name_count (element.Node id) = Unit {0}
-HasNamesThere name_count (element.Edge id src dst directed) = Unit {0}
+HasNamesThere name_count (element.Edge directed id src dst) = Unit {0}
 HasNamesThere name_count (element.NodeAttr id key value) = (key < name_count) × (value < name_count)
 HasNamesThere name_count (element.EdgeAttr id key value) = (key < name_count) × (value < name_count)
 HasNamesThere name_count (element.Message src dst value) = value < name_count

@@ -82,7 +82,7 @@ module _ (n : ℕ) where
 
   value_names : (id : ℕ) (x : Element) → HasNamesThere n x → IfSome (value_at id x) (λ v. LineNamesAreThere n (line.Attribute v))
   value_names id (element.Node i) h = tt
-  value_names id (element.Edge i src dst directed) h = tt
+  value_names id (element.Edge directed i src dst) h = tt
   value_names id (element.EdgeAttr i key value) h = tt
   value_names id (element.Message src dst value) h = tt
   value_names id (element.NodeAttr i key value) h = by (i == id)

@@ -3,60 +3,20 @@ use Rattle.std.proofs.Common.{◌≡◌, ℕ, suc, zero, ◌+◌, ◌-◌, ◌<�
 use Rattle.std.specs.List.Sorted.{IsBinarySearchResult, IsSearchInRange, IsSortedBy}
 use Rattle.std.specs.declared.cmp.Ordering.{Ordering}
 use Rattle.std.specs.declared.cmp.Ordering.TheVariants.{Less, Equal, Greater}
-use Rattle.std.specs.Ordering.{is_lt, is_ge, nat_cmp, ordering_then}
+use Rattle.std.specs.Ordering.{is_lt, is_ge}
 use Rattle.std.proofs.lemmas.Bool.{true≢false, or_from}
 use Rattle.std.proofs.lemmas.List.{get_or_default}
 use Rattle.std.proofs.lemmas.List.Folds.{list_any_at}
 use Rattle.std.proofs.lemmas.List.Sorted.{searchable_from_sorted}
 use Rattle.dg_graph.specs.declared.element.Element.{Element}
-use Rattle.dg_graph.specs.declared.element.Element.TheVariants.{Node, Edge, NodeAttr, EdgeAttr, Message}
-use Rattle.dg_graph.specs.contracts.element.ElementOrd.TheImpl as derived
+use Rattle.dg_graph.specs.declared.element.Element.TheVariants.{Node}
 use Rattle.dg_graph.specs.Elements.{element_cmp, same, before, IsBelowFirst, IsSet, has, put, take_out}
 use Rattle.dg_set.specs.Indices.{StandsAt, BelongsAt, IsFirstFault}
 use Rattle.dg_graph.proofs.Sets.{element_total, same_itself, before_from_Greater, Greater_from_before, Less_from_test, differs_back, IsBelowFirst-trans, lacks_below, put_by, put-there, take_out-absent, IsSet-put, IsSet-take_out, tied_exact}
 
-then_Equal : (o : Ordering) → o ≡ ordering_then o Equal
-then_Equal Less = refl
-then_Equal Equal = refl
-then_Equal Greater = refl
-
--- the order that the code derives is the order of the definitions
-pub derived_is : (x y : Element) → derived.ghosts.cmp x y ≡ element_cmp x y
-derived_is (Node id) (Node id2) = then_Equal (nat_cmp id id2)
-derived_is (Node id) (Edge id2 src dst directed) = refl
-derived_is (Node id) (NodeAttr id2 key value) = refl
-derived_is (Node id) (EdgeAttr id2 key value) = refl
-derived_is (Node id) (Message src2 dst2 value2) = refl
-derived_is (Edge id src dst directed) (Node id2) = refl
-derived_is (Edge id src dst true) (Edge id2 src2 dst2 true) = refl
-derived_is (Edge id src dst true) (Edge id2 src2 dst2 false) = refl
-derived_is (Edge id src dst false) (Edge id2 src2 dst2 true) = refl
-derived_is (Edge id src dst false) (Edge id2 src2 dst2 false) = refl
-derived_is (Edge id src dst directed) (NodeAttr id2 key value) = refl
-derived_is (Edge id src dst directed) (EdgeAttr id2 key value) = refl
-derived_is (Edge id src dst directed) (Message src2 dst2 value2) = refl
-derived_is (NodeAttr id key value) (Node id2) = refl
-derived_is (NodeAttr id key value) (Edge id2 src dst directed) = refl
-derived_is (NodeAttr id key value) (NodeAttr id2 key2 value2) =
-    ap (λ o. ordering_then (nat_cmp id id2) (ordering_then (nat_cmp key key2) o)) (then_Equal (nat_cmp value value2))
-derived_is (NodeAttr id key value) (EdgeAttr id2 key2 value2) = refl
-derived_is (NodeAttr id key value) (Message src2 dst2 value2) = refl
-derived_is (EdgeAttr id key value) (Node id2) = refl
-derived_is (EdgeAttr id key value) (Edge id2 src dst directed) = refl
-derived_is (EdgeAttr id key value) (NodeAttr id2 key2 value2) = refl
-derived_is (EdgeAttr id key value) (EdgeAttr id2 key2 value2) =
-    ap (λ o. ordering_then (nat_cmp id id2) (ordering_then (nat_cmp key key2) o)) (then_Equal (nat_cmp value value2))
-derived_is (EdgeAttr id key value) (Message src2 dst2 value2) = refl
-derived_is (Message src dst value) (Node id2) = refl
-derived_is (Message src dst value) (Edge id2 src2 dst2 directed) = refl
-derived_is (Message src dst value) (NodeAttr id2 key2 value2) = refl
-derived_is (Message src dst value) (EdgeAttr id2 key2 value2) = refl
-derived_is (Message src dst value) (Message src2 dst2 value2) =
-    ap (λ o. ordering_then (nat_cmp src src2) (ordering_then (nat_cmp dst dst2) o)) (then_Equal (nat_cmp value value2))
-
 -- what the code's comparison has answered
-pub compared : (x y : Element) (o r : Ordering) → r ≡ derived.ghosts.cmp x y → r ≡ o → element_cmp x y ≡ o
-compared x y o r e h = sym (derived_is x y) ∙ sym e ∙ h
+pub compared : (x y : Element) (o r : Ordering) → r ≡ element_cmp x y → r ≡ o → element_cmp x y ≡ o
+compared x y o r e h = sym e ∙ h
 
 -- ---- indices
 

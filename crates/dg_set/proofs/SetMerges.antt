@@ -1,10 +1,10 @@
--- How a merge makes the union, the meeting and the difference of two sets.
-use Rattle.std.proofs.Common.{◌≡◌, ℕ, suc, zero, ◌+◌, ◌<◌, ◌≤◌, Bool, true, false, cond, List, [], ◌∷◌, ◌++◌, length, drop, get_or, refl, sym, ap, ◌∙◌, subst, IsTrue, filter, ◌⊎◌, inl, inr}
+-- How a merge makes the meeting and the differences of two sets, and what a union begins with.
+use Rattle.std.proofs.Common.{◌≡◌, ℕ, suc, zero, ◌+◌, ◌-◌, ◌<◌, ◌≤◌, Bool, true, false, cond, List, [], ◌∷◌, ◌++◌, length, take, drop, get_or, refl, sym, ap, ◌∙◌, subst, IsTrue, filter, ◌⊎◌, inl, inr}
 use Rattle.std.specs.declared.cmp.Ordering.{Ordering}
 use Rattle.std.specs.declared.cmp.Ordering.TheVariants.{Less, Equal, Greater}
 use Rattle.std.specs.Ordering.{is_lt, ordering_reverse}
 use Rattle.std.proofs.lemmas.Cmp.{tied_itself}
-use Rattle.std.proofs.lemmas.List.{drop_more, drop_all, append_assoc, append-nil}
+use Rattle.std.proofs.lemmas.List.{drop_more, drop_all, take_rest, length-drop, append_assoc, append-nil}
 use Rattle.dg_graph.specs.declared.element.Element.{Element}
 use Rattle.dg_graph.specs.Elements.{element_cmp, before, IsBelowFirst, IsSet, has, put}
 use Rattle.dg_graph.specs.Sets.{unioned, met, without_all}
@@ -29,12 +29,8 @@ put-itself x set = ap (λ o. put_by o x x set) (tied_itself element_total x)
 pub unioned_equal : (x : Element) (a b : List Element) → IsSet (x ∷ b) → unioned (x ∷ a) (x ∷ b) ≡ x ∷ unioned a b
 unioned_equal x a b s = ap (put x) (unioned_less x a b s.0 s.1) ∙ put-itself x (unioned a b)
 
-unioned_greater : (x y : Element) (a b : List Element) → IsTrue (before y x) → IsSet (y ∷ b) → unioned (x ∷ a) (y ∷ b) ≡ y ∷ unioned (x ∷ a) b
-unioned_greater x y a b h s =
-    put-first y (unioned (x ∷ a) b) (IsBelowFirst-unioned y (x ∷ a) b h s.0 s.1)
-
 -- a test of whether the other set has an element does not see an element that is below all
-skipped : (f : Bool → Bool) (y : Element) (b xs : List Element) → IsBelowFirst y xs → IsSet xs → filter (λ x. f (has (y ∷ b) x)) xs ≡ filter (λ x. f (has b x)) xs
+pub skipped : (f : Bool → Bool) (y : Element) (b xs : List Element) → IsBelowFirst y xs → IsSet xs → filter (λ x. f (has (y ∷ b) x)) xs ≡ filter (λ x. f (has b x)) xs
 skipped f y b [] h s = refl
 skipped f y b (x ∷ xs) h s =
     let e = has_past x y b (differs_back y x h) in
@@ -46,7 +42,7 @@ pub kept_less : (f : Bool → Bool) (x : Element) (a b : List Element) → IsBel
 kept_less f x a b h s =
     ap (λ t. cond (f t) (x ∷ filter (λ z. f (has b z)) a) (filter (λ z. f (has b z)) a)) (lacks_below x b h s)
 
-kept_equal : (f : Bool → Bool) (x : Element) (a b : List Element) → IsSet (x ∷ a) → filter (λ z. f (has (x ∷ b) z)) (x ∷ a) ≡ cond (f true) (x ∷ filter (λ z. f (has b z)) a) (filter (λ z. f (has b z)) a)
+pub kept_equal : (f : Bool → Bool) (x : Element) (a b : List Element) → IsSet (x ∷ a) → filter (λ z. f (has (x ∷ b) z)) (x ∷ a) ≡ cond (f true) (x ∷ filter (λ z. f (has b z)) a) (filter (λ z. f (has b z)) a)
 kept_equal f x a b s =
     let e = has_first x b in
     let rest = skipped f x b a s.0 s.1 in
@@ -62,6 +58,13 @@ pub IsSet-drop : (n : ℕ) (xs : List Element) → IsSet xs → IsSet (drop n xs
 IsSet-drop zero xs s = s
 IsSet-drop (suc n) [] s = tt
 IsSet-drop (suc n) (x ∷ xs) s = IsSet-drop n xs s.1
+
+-- the same of what is left, as the code passes it on
+pub IsSet-rest : (n : ℕ) (xs : List Element) → IsSet xs → IsSet (take (length xs - n) (drop n xs))
+IsSet-rest n xs s = subst IsSet (sym (take_rest xs n)) (IsSet-drop n xs s)
+
+pub length_rest : (xs : List Element) (n : ℕ) → length (take (length xs - n) (drop n xs)) ≡ length xs - n
+length_rest xs n = ap length (take_rest xs n) ∙ length-drop n xs
 
 -- x is below what is left of the other set
 pub below_rest : (x : Element) (xs : List Element) (i : ℕ) (d : Element) → i < length xs → IsTrue (before x (get_or xs i d)) → IsBelowFirst x (drop i xs)
@@ -80,25 +83,6 @@ module _ (left right : List Element) (i j : ℕ) (d : Element) (left_set : IsSet
   -- where the two elements tie, what is left of the right begins with x
   right_from_x : element_cmp x y ≡ Equal → drop j right ≡ x ∷ drop (j + 1) right
   right_from_x e = drop_more right j d right_in ∙ ap (λ z. z ∷ drop (j + 1) right) (sym (tied_exact x y e))
-
-  pub unioned_Less : element_cmp x y ≡ Less → unioned (drop i left) (drop j right) ≡ x ∷ unioned (drop (i + 1) left) (drop j right)
-  unioned_Less e =
-      ap (λ l. unioned l (drop j right)) (drop_more left i d left_in)
-      ∙ unioned_less x (drop (i + 1) left) (drop j right) (below_rest x right j d right_in (ap is_lt e)) (IsSet-drop j right right_set)
-
-  pub unioned_Equal : element_cmp x y ≡ Equal → unioned (drop i left) (drop j right) ≡ x ∷ unioned (drop (i + 1) left) (drop (j + 1) right)
-  unioned_Equal e =
-      let l = drop_more left i d left_in in
-      let r = right_from_x e in
-      (λ t. unioned (l t) (r t)) ∙ unioned_equal x (drop (i + 1) left) (drop (j + 1) right) (subst IsSet r (IsSet-drop j right right_set))
-
-  pub unioned_Greater : element_cmp x y ≡ Greater → unioned (drop i left) (drop j right) ≡ y ∷ unioned (drop i left) (drop (j + 1) right)
-  unioned_Greater e =
-      let l = drop_more left i d left_in in
-      let r = drop_more right j d right_in in
-      (λ t. unioned (l t) (r t))
-      ∙ unioned_greater x y (drop (i + 1) left) (drop (j + 1) right) (before_from_Greater x y e) (rest_is_set right j d right_in right_set)
-      ∙ ap (λ l. y ∷ unioned l (drop (j + 1) right)) (sym l)
 
   module _ (f : Bool → Bool) where
     abbrev kept : List Element → List Element → List Element
@@ -139,25 +123,11 @@ met_none : (a : List Element) → met a [] ≡ []
 met_none [] = refl
 met_none (x ∷ a) = met_none a
 
-without_none : (a : List Element) → without_all a [] ≡ a
+pub without_none : (a : List Element) → without_all a [] ≡ a
 without_none [] = refl
 without_none (x ∷ a) = ap (λ l. x ∷ l) (without_none a)
 
 module _ (out whole left right : List Element) (i j : ℕ) where
-  pub unioned_done : IsSet right → out ++ unioned (drop i left) (drop j right) ≡ whole → (length left ≤ i) ⊎ (length right ≤ j) → (out ++ drop i left) ++ drop j right ≡ whole
-  unioned_done s written (inl h) =
-      let l = drop_all i left h in
-      ap (λ a. (out ++ a) ++ drop j right) l
-      ∙ ap (λ a. a ++ drop j right) (append-nil out)
-      ∙ ap (λ a. out ++ a) (sym (ap (λ a. unioned a (drop j right)) l ∙ unioned_none (drop j right) (IsSet-drop j right s)))
-      ∙ written
-  unioned_done s written (inr h) =
-      let r = drop_all j right h in
-      ap (λ b. (out ++ drop i left) ++ b) r
-      ∙ append-nil (out ++ drop i left)
-      ∙ ap (λ b. out ++ b) (sym (ap (unioned (drop i left)) r))
-      ∙ written
-
   pub met_done : out ++ met (drop i left) (drop j right) ≡ whole → (length left ≤ i) ⊎ (length right ≤ j) → out ≡ whole
   met_done written (inl h) =
       sym (append-nil out) ∙ ap (λ a. out ++ met a (drop j right)) (sym (drop_all i left h)) ∙ written

@@ -1,5 +1,5 @@
 -- What a search in a set, and a test of the order of a list, say.
-use Rattle.std.specs.Prelude.{ℕ, ◌≡◌, ◌<◌, ◌≤◌, ◌-◌, true, false, List, [], ◌∷◌, length, take, IsFalse, slice_index_or}
+use Rattle.std.specs.Prelude.{ℕ, ◌≡◌, ◌<◌, ◌≤◌, ◌-◌, true, false, List, [], ◌∷◌, length, take, drop, filter, IsTrue, IsFalse, slice_index_or}
 use Rattle.std.specs.List.{insert, remove}
 use Rattle.std.specs.declared.cmp.Ordering.{Ordering}
 use Rattle.std.specs.declared.cmp.Ordering.TheVariants.{Less}
@@ -21,6 +21,27 @@ pub record BelongsAt (x : Element) (set : List Element) (index : ℕ) : Type 0 w
   pub kept : take_out x set ≡ set
   pub added : put x set ≡ insert set index x
   pub rises : IsSet (insert set index x)
+
+-- the items in front of the one index come before the element, and those from the other on after it
+pub record IsWithin (x : Element) (items : List Element) (low high : ℕ) : Type 0 where
+  pub order : low ≤ high
+  pub within : high ≤ length items
+  pub front : (k : ℕ) (d : Element) → k < low → IsTrue (before (slice_index_or items k d) x)
+  pub back : (k : ℕ) (d : Element) → high ≤ k → k < length items → IsTrue (before x (slice_index_or items k d))
+
+-- those of the list that come before the element, and those that come after it
+abbrev pub before_it : Element → List Element → List Element
+before_it x items = filter (λ y. before y x) items
+
+abbrev pub behind_it : Element → List Element → List Element
+behind_it x items = filter (λ y. before x y) items
+
+-- the items that come before the element end at the one index, and those that come after it begin at the other
+pub record IsRange (x : Element) (items : List Element) (end start : ℕ) : Type 0 where
+  pub order : end ≤ start
+  pub within : start ≤ length items
+  pub front : take end items ≡ before_it x items
+  pub back : drop start items ≡ behind_it x items
 
 -- the first index whose item is not greater than the one before it
 pub record IsFirstFault (items : List Element) (index : ℕ) : Type 0 where

@@ -1,2 +1,3 @@
 pub mod Indices
 pub mod Apart
+pub mod Replacements

@@ -1,48 +1,12 @@
-//! Unions, meets and differences of sets, each as one merge of two sorted lists.
+//! Meets and differences of sets, each as one merge of two sorted lists.
 ghost use Rattle.std.specs.Prelude.{◌≡◌, ◌↔◌, IfOk, IsTrue};
 ghost use Rattle.dg_graph.specs.Elements.{IsSet};
-ghost use Rattle.dg_graph.specs.Sets.{unioned, met, without_all};
+ghost use Rattle.dg_graph.specs.Sets.{met, without_all};
 ghost use Rattle.dg_set.specs.Apart.{AreApart};
 
 use dg_graph::Element;
 use std::alloc::{AllocError, Global};
 use std::cmp::Ordering;
-
-/// The items of either set, each once. An `Err` says that memory ran out.
-pub(crate) fn union(
-    alloc: Global,
-    left: &[Element],
-    right: &[Element],
-) -> Result<Vec<Element>, AllocError>
-    requires left_set { IsSet left.now }
-    requires right_set { IsSet right.now }
-    ensures { IfOk result (λ out. out.items ≡ unioned left.now right.now) }
-{
-    let mut out = Vec::with_capacity(alloc, left.len().saturating_add(right.len()))?;
-    let mut i = 0;
-    let mut j = 0;
-    while i < left.len() && j < right.len() {
-        match left[i].cmp(&right[j]) {
-            Ordering::Less => {
-                out.push(left[i])?;
-                i += 1;
-            }
-            Ordering::Equal => {
-                // In both sets: taken once.
-                out.push(left[i])?;
-                i += 1;
-                j += 1;
-            }
-            Ordering::Greater => {
-                out.push(right[j])?;
-                j += 1;
-            }
-        }
-    }
-    out.extend_from_slice(&left[i..])?;
-    out.extend_from_slice(&right[j..])?;
-    Ok(out)
-}
 
 /// The items of both sets. An `Err` says that memory ran out.
 pub(crate) fn meet(
@@ -69,37 +33,6 @@ pub(crate) fn meet(
         }
     }
     Ok(both)
-}
-
-/// The items of `left` that `right` does not have. An `Err` says that memory ran out.
-pub(crate) fn minus(
-    alloc: Global,
-    left: &[Element],
-    right: &[Element],
-) -> Result<Vec<Element>, AllocError>
-    requires left_set { IsSet left.now }
-    requires right_set { IsSet right.now }
-    ensures { IfOk result (λ kept. kept.items ≡ without_all left.now right.now) }
-{
-    let mut kept = Vec::with_capacity(alloc, left.len())?;
-    let mut i = 0;
-    let mut j = 0;
-    while i < left.len() && j < right.len() {
-        match left[i].cmp(&right[j]) {
-            Ordering::Less => {
-                kept.push(left[i])?;
-                i += 1;
-            }
-            Ordering::Equal => {
-                // In both sets: left out.
-                i += 1;
-                j += 1;
-            }
-            Ordering::Greater => j += 1,
-        }
-    }
-    kept.extend_from_slice(&left[i..])?;
-    Ok(kept)
 }
 
 /// The items of `left` that `right` does not have, and those of `right` that `left` does not have.

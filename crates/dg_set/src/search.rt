@@ -1,9 +1,10 @@
-//! An element of a set by binary search; where a list stops rising.
-ghost use Rattle.std.specs.Prelude.{◌≡◌, IfOk, IfErr, IfSome, IfNone};
+//! An element of a set by binary search, from its middle or from its front on; where a list stops rising.
+ghost use Rattle.std.specs.Prelude.{◌≡◌, ◌≤◌, length, IfOk, IfErr, IfSome, IfNone};
 ghost use Rattle.dg_graph.specs.Elements.{IsSet};
-ghost use Rattle.dg_set.specs.Indices.{StandsAt, BelongsAt, IsFirstFault};
+ghost use Rattle.dg_set.specs.Indices.{StandsAt, BelongsAt, IsFirstFault, IsWithin, IsRange};
 
 use dg_graph::Element;
+use std::cmp::Ordering;
 
 /// The index of the element among the items of a set; an `Err` gives the index where it belongs.
 pub(crate) fn index_of(items: &[Element], element: &Element) -> Result<usize, usize>
@@ -12,6 +13,51 @@ pub(crate) fn index_of(items: &[Element], element: &Element) -> Result<usize, us
     ensures lacks { IfErr result (λ index. BelongsAt element.now items.now index) }
 {
     items.binary_search(element)
+}
+
+/// Where the items of a set that come before the element end, and where those that come after it begin.
+/// Those in front of `from` are known to come before it. The end is sought from there on, by steps that
+/// double: the nearer it is, the fewer items are compared.
+pub(crate) fn range_from(items: &[Element], from: usize, element: &Element) -> (usize, usize)
+    requires set { IsSet items.now }
+    requires front { IsWithin element.now items.now from (length items.now) }
+    ensures range { IsRange element.now items.now result.0 result.1 }
+    ensures behind { from ≤ result.0 }
+{
+    let mut low = from;
+    let mut step = 1;
+    while step <= items.len() - low {
+        let probe = low + step - 1;
+        match items[probe].cmp(element) {
+            Ordering::Less => {
+                low += step;
+                step = step.saturating_mul(2);
+            }
+            Ordering::Equal => return (probe, probe + 1),
+            Ordering::Greater => return range_within(items, low, probe, element),
+        }
+    }
+    range_within(items, low, items.len(), element)
+}
+
+/// The same by a binary search, where the items from `to` on are known to come after the element.
+fn range_within(items: &[Element], from: usize, to: usize, element: &Element) -> (usize, usize)
+    requires set { IsSet items.now }
+    requires within { IsWithin element.now items.now from to }
+    ensures range { IsRange element.now items.now result.0 result.1 }
+    ensures behind { from ≤ result.0 }
+{
+    let mut low = from;
+    let mut high = to;
+    while low < high {
+        let middle = low + (high - low) / 2;
+        match items[middle].cmp(element) {
+            Ordering::Less => low = middle + 1,
+            Ordering::Equal => return (middle, middle + 1),
+            Ordering::Greater => high = middle,
+        }
+    }
+    (low, low)
 }
 
 /// The first index whose item is not greater than the one before it.

@@ -143,7 +143,7 @@ impl Set {
         ensures value { IfOk result (λ set. set ≡ unioned self.now other.now) }
         ensures members { IfOk result (λ set. (x : Element) → has set x ≡ (has self.now x || has other.now x)) }
     {
-        let items = merge::union(*self.items.allocator(), &self.items, &other.items)?;
+        let items = replace::union(*self.items.allocator(), &self.items, &other.items)?;
         Ok(Set { items })
     }
 
@@ -161,7 +161,7 @@ impl Set {
         ensures value { IfOk result (λ set. set ≡ without_all self.now other.now) }
         ensures members { IfOk result (λ set. (x : Element) → has set x ≡ (has self.now x && not (has other.now x))) }
     {
-        let items = merge::minus(*self.items.allocator(), &self.items, &other.items)?;
+        let items = replace::minus(*self.items.allocator(), &self.items, &other.items)?;
         Ok(Set { items })
     }
 

@@ -27,9 +27,9 @@ use Rattle.dg_sound.specs.OwnEvents.{are_completions}
 abbrev pub IsMade : List Element → Body → Type 0
 IsMade set b = (w : What) × (complete w set ≡ Ok b)
 
-edge_made : (id src dst : ℕ) (directed : Bool) (found : Option Element) → is_found found (element.Edge id src dst directed) ≡ true → edge_removal false found ≡ Ok (body.EdgeRemoved id src dst directed)
+edge_made : (id src dst : ℕ) (directed : Bool) (found : Option Element) → is_found found (element.Edge directed id src dst) ≡ true → edge_removal false found ≡ Ok (body.EdgeRemoved id src dst directed)
 edge_made id src dst directed None e = absurd cc
-edge_made id src dst directed (Some y) e = ap (λ (y : Element). edge_removal false (Some y)) (element_exact y (element.Edge id src dst directed) e)
+edge_made id src dst directed (Some y) e = ap (λ (y : Element). edge_removal false (Some y)) (element_exact y (element.Edge directed id src dst) e)
 
 -- a value is set or is taken away
 value_made : (set : List Element) (there : Bool) (held : Option ℕ) (make : Option ℕ → Option ℕ → Body) (put : ℕ → What) (drop : What) (reason : ℕ) → ((v : ℕ) → complete (put v) set ≡ cond there (Ok (make held (Some v))) (Err reason)) → complete drop set ≡ cond there (value_removal make held) (Err reason)
@@ -57,7 +57,7 @@ made set (body.EdgeAdded id src dst directed) e =
     let free = not-true (is_some (edge_of set id)) t.0 in
     (AddEdge id src dst directed, λ i. cond (free i) (Err REASON_EDGE_EXISTS) (cond (t.1 i) (Ok (body.EdgeAdded id src dst directed)) (Err REASON_NO_END)))
 made set (body.EdgeRemoved id src dst directed) e =
-    let t = and_parts (is_found (edge_of set id) (element.Edge id src dst directed)) _ e in
+    let t = and_parts (is_found (edge_of set id) (element.Edge directed id src dst)) _ e in
     let free = not-true (list_any (needs_edge id) set) t.1 in
     (RemoveEdge id, ap (λ b. edge_removal b (edge_of set id)) free ∙ edge_made id src dst directed (edge_of set id) t.0)
 made set (body.NodeAttr id key old new) e =

@@ -38,7 +38,7 @@ one_walked f was now x from behind all pushed is before =
 
 edges_alone : (set : List Element) (n : ℕ) → neighbours_of (filter is_an_edge set) n ≡ neighbours_of set n
 edges_alone [] n = refl
-edges_alone (Edge id src dst directed ∷ set) n = ap (cons_option (edge_at n (Edge id src dst directed))) (edges_alone set n)
+edges_alone (Edge directed id src dst ∷ set) n = ap (cons_option (edge_at n (Edge directed id src dst))) (edges_alone set n)
 edges_alone (_ ∷ set) n = edges_alone set n
 
 pub same_edges : (a b : List Element) (ends : List EdgeEnd) → filter is_an_edge a ≡ filter is_an_edge b → IsAdjacencyOf a ends → IsAdjacencyOf b ends

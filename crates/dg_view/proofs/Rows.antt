@@ -8,7 +8,7 @@ use Rattle.dg_view.specs.declared.ends.EdgeEnd.{EdgeEnd}
 use Rattle.dg_view.specs.EdgeEnds.{edges_ending_at}
 
 graph : List Element
-graph = Node 1 ∷ Node 2 ∷ Edge 5 1 2 true ∷ Edge 6 2 2 true ∷ Edge 7 2 1 false ∷ NodeAttr 1 0 1 ∷ NodeAttr 2 0 1 ∷ []
+graph = Node 1 ∷ Node 2 ∷ Edge true 5 1 2 ∷ Edge true 6 2 2 ∷ Edge false 7 2 1 ∷ NodeAttr 1 0 1 ∷ NodeAttr 2 0 1 ∷ []
 
 counted : counts_of graph ≡ record { nodes = 2; edges = 3; node_attrs = 2; edge_attrs = 0; messages = 0 }
 unfolding graph

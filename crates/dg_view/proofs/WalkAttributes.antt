@@ -67,7 +67,7 @@ no_key_before n key _ e = refl
 -- the element stands behind all values of the key at the node
 abbrev is_past_key : ℕ → ℕ → Element → Bool
 is_past_key n key (Node id) = false
-is_past_key n key (Edge id src dst directed) = false
+is_past_key n key (Edge directed id src dst) = false
 is_past_key n key (NodeAttr id k v) = ltb n id || (eqb id n && ltb key k)
 is_past_key n key _ = true
 
@@ -79,16 +79,16 @@ past_key n key _ e = refl
 
 past_key_on : (n key : ℕ) (x y : Element) → is_past_key n key x ≡ true → IsTrue (before x y) → is_past_key n key y ≡ true
 past_key_on n key (Node id) y e h = cc
-past_key_on n key (Edge id src dst directed) y e h = cc
+past_key_on n key (Edge directed id src dst) y e h = cc
 past_key_on n key (NodeAttr id k v) (NodeAttr id2 k2 v2) e h = grind (arith, nat_tests)
 past_key_on n key x (Node id2) e h = cc
-past_key_on n key x (Edge id2 src dst directed) e h = cc
+past_key_on n key x (Edge directed id2 src dst) e h = cc
 past_key_on n key x (NodeAttr id2 k2 v2) e h = cc
 past_key_on n key x y e h = refl
 
 past_key_start : (n key : ℕ) (x : Element) → before x (NodeAttr n key 0) ≡ false → value_of_key n key x ≡ None → is_past_key n key x ≡ true
 past_key_start n key (Node id) e f = cc
-past_key_start n key (Edge id src dst directed) e f = cc
+past_key_start n key (Edge directed id src dst) e f = cc
 past_key_start n key (NodeAttr id k v) e f = by (eqb id n && eqb k key) refl
   where
     by : (t : Bool) → (eqb id n && eqb k key) ≡ t → (ltb n id || (eqb id n && ltb key k)) ≡ true

@@ -17,8 +17,8 @@ abbrev pub later : Element → List Element → List Element
 later x set = filter (λ y. not (before y x)) set
 
 -- no edge comes before the first one
-none_before : (n : ℕ) (x : Element) → before x (Edge 0 0 0 false) ≡ true → edge_at n x ≡ None
-none_before n (Edge id src dst directed) e = absurd (grind (arith, nat_tests))
+none_before : (n : ℕ) (x : Element) → before x (Edge false 0 0 0) ≡ true → edge_at n x ≡ None
+none_before n (Edge directed id src dst) e = absurd (grind (arith, nat_tests))
 none_before n _ e = refl
 
 -- what gives nothing before an element may be passed over
@@ -30,8 +30,8 @@ passed_over f x (y ∷ set) none = by (before y x) refl (passed_over f x set non
     by true e rest = ap (λ b. filter_map f (cond (not b) (y ∷ later x set) (later x set))) e ∙ rest ∙ sym (ap (λ o. cons_option o (filter_map f set)) (none y e))
     by false e rest = ap (λ b. filter_map f (cond (not b) (y ∷ later x set) (later x set))) e ∙ ap (cons_option (f y)) rest
 
-pub edges_from_first : (n : ℕ) (set : List Element) → filter_map (edge_at n) (later (Edge 0 0 0 false) set) ≡ neighbours_of set n
-edges_from_first n set = passed_over (edge_at n) (Edge 0 0 0 false) set (none_before n)
+pub edges_from_first : (n : ℕ) (set : List Element) → filter_map (edge_at n) (later (Edge false 0 0 0) set) ≡ neighbours_of set n
+edges_from_first n set = passed_over (edge_at n) (Edge false 0 0 0) set (none_before n)
 
 -- what gives nothing behind an element gives nothing where none is left up to it
 pub none_up_to : {B : Type 0} (f : Element → Option B) (x : Element) (set : List Element) → ((y : Element) → before x y ≡ true → f y ≡ None) → up_to set (Some x) ≡ [] → filter_map f set ≡ []
@@ -47,12 +47,12 @@ none_up_to f x (y ∷ set) none e = by (before x y) refl (none_up_to f x set non
 
 -- no edge comes behind the first attribute
 pub no_edge_behind : (n : ℕ) (x : Element) → before (NodeAttr 0 0 0) x ≡ true → edge_at n x ≡ None
-no_edge_behind n (Edge id src dst directed) e = cc
+no_edge_behind n (Edge directed id src dst) e = cc
 no_edge_behind n _ e = refl
 
 -- a node has no more edges than the graph
 one_edge : (n : ℕ) (x : Element) (list : List Neighbour) → length (cons_option (edge_at n x) list) ≤ cond (is_an_edge x) 1 0 + length list
-one_edge n (Edge id src dst directed) list = by (eqb src n) (eqb dst n)
+one_edge n (Edge directed id src dst) list = by (eqb src n) (eqb dst n)
   where
     by : (a b : Bool) → length (cons_option (cond a (Some (record { edge = id; node = dst; side = side_as directed side.Out })) (cond b (Some (record { edge = id; node = src; side = side_as directed side.Inward })) None)) list) ≤ 1 + length list
     by true b = omega arith

@@ -1,8 +1,7 @@
-use Rattle.std.proofs.Common.{get_or, sym, ap, ◌∙◌}
+use Rattle.std.proofs.Common.{sym, ap, ◌∙◌}
 use Rattle.std.proofs.lemmas.List.{drop_more}
 use Rattle.dg_graph.specs.declared.element.Element.TheVariants.{Node}
 use Rattle.dg_set.specs.Indices.{first_cmp}
-use Rattle.dg_set.proofs.Indices.{derived_is}
 use Rattle.dg_set.proofs.replace.order_at.Goals as goal
 
 pub returns-then-index-items-clause-order : goal.returns-then-index-items-clause-order
@@ -10,5 +9,4 @@ returns-then-index-items-clause-order c =
     let x = c.args.element.now in
     let items = c.args.items.now in
     c.cmp.ensures
-    ∙ derived_is x (get_or items c.args.index (Node 0))
     ∙ ap (first_cmp x) (sym (drop_more items c.args.index (Node 0) c.if-index-items.true))

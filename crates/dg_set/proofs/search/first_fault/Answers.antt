@@ -1,7 +1,7 @@
 use Rattle.std.proofs.Common.{ap, ◌∙◌, sym, get_or, ◌-◌}
 use Rattle.std.specs.Ordering.{is_ge}
 use Rattle.dg_graph.specs.declared.element.Element.TheVariants.{Node}
-use Rattle.dg_set.proofs.Indices.{derived_is, rises_past, fault_at}
+use Rattle.dg_set.proofs.Indices.{rises_past, fault_at}
 use Rattle.dg_set.proofs.search.first_fault.Goals as goal
 
 pub loop-index-preserved : goal.loop-index-preserved
@@ -11,7 +11,7 @@ loop-index-preserved c =
     let x = get_or xs (index - 1) (Node 0) in
     let y = get_or xs index (Node 0) in
     rises_past xs index (Node 0) c.loop-index.auto.index c.loop-index-test.true c.loop-index.invariant
-    (ap is_ge (sym (derived_is x y) ∙ sym c.cmp.ensures) ∙ sym c.is_ge.ensures ∙ c.if-is_ge.false)
+    (ap is_ge (sym c.cmp.ensures) ∙ sym c.is_ge.ensures ∙ c.if-is_ge.false)
 
 pub returns-then-is_ge-clause-fault : goal.returns-then-is_ge-clause-fault
 returns-then-is_ge-clause-fault c =
@@ -20,4 +20,4 @@ returns-then-is_ge-clause-fault c =
     let x = get_or xs (index - 1) (Node 0) in
     let y = get_or xs index (Node 0) in
     fault_at xs index (Node 0) c.loop-index.auto.index c.loop-index-test.true c.loop-index.invariant
-    (ap is_ge (sym (derived_is x y) ∙ sym c.cmp.ensures) ∙ sym c.is_ge.ensures ∙ c.if-is_ge.true)
+    (ap is_ge (sym c.cmp.ensures) ∙ sym c.is_ge.ensures ∙ c.if-is_ge.true)

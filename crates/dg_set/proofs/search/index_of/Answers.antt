@@ -1,8 +1,4 @@
-use Rattle.std.proofs.Common.{subst}
-use Rattle.std.specs.declared.cmp.Ordering.{Ordering}
-use Rattle.std.specs.List.Sorted.{IsBinarySearchResult}
-use Rattle.dg_graph.specs.declared.element.Element.{Element}
-use Rattle.dg_set.proofs.Indices.{derived_is, searched_found, searched_lacks}
+use Rattle.dg_set.proofs.Indices.{searched_found, searched_lacks}
 use Rattle.dg_set.proofs.search.index_of.Goals as goal
 
 pub returns-clause-found : goal.returns-clause-found
@@ -11,7 +7,7 @@ returns-clause-found c =
     let xs = c.args.items.now in
     let r = c.binary_search.result in
     searched_found x xs r c.requires c.binary_search.ensures.bound
-    (subst (λ (f : Element → Ordering). IsBinarySearchResult f xs r) (λ i y. derived_is y x i) c.binary_search.ensures.position)
+    c.binary_search.ensures.position
 
 pub returns-clause-lacks : goal.returns-clause-lacks
 returns-clause-lacks c =
@@ -19,4 +15,4 @@ returns-clause-lacks c =
     let xs = c.args.items.now in
     let r = c.binary_search.result in
     searched_lacks x xs r c.requires c.binary_search.ensures.bound
-    (subst (λ (f : Element → Ordering). IsBinarySearchResult f xs r) (λ i y. derived_is y x i) c.binary_search.ensures.position)
+    c.binary_search.ensures.position
