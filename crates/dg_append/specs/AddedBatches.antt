@@ -43,15 +43,12 @@ use Rattle.dg_start.specs.StoredHistory.{IsHeldBy, IsKeptOf, IsSoundHistory, ind
 
 -- the key and the value of a change are below this number of names
 abbrev pub WhatHasNamesThere : ℕ → What → Type 0
-WhatHasNamesThere name_count (what.AddNode id) = Unit {0}
-WhatHasNamesThere name_count (what.RemoveNode id) = Unit {0}
-WhatHasNamesThere name_count (what.AddEdge id src dst directed) = Unit {0}
-WhatHasNamesThere name_count (what.RemoveEdge id) = Unit {0}
 WhatHasNamesThere name_count (what.SetNode id key value) = (key < name_count) × (value < name_count)
 WhatHasNamesThere name_count (what.UnsetNode id key) = key < name_count
 WhatHasNamesThere name_count (what.SetEdge id key value) = (key < name_count) × (value < name_count)
 WhatHasNamesThere name_count (what.UnsetEdge id key) = key < name_count
 WhatHasNamesThere name_count (what.Message src dst value) = value < name_count
+WhatHasNamesThere name_count _ = Unit {0}
 
 -- The batch may be a next one of this history, which has its names already: there is room for its events, the names
 -- behind those that were known may follow them, and its changes name none but these.

@@ -31,11 +31,9 @@ OneOfEachId set = (x y : Element) → has set x ≡ true → has set y ≡ true 
 
 -- the id of the element that a value stands at
 abbrev pub holder_of : Element → Option ElementId
-holder_of (element.Node id) = None
-holder_of (element.Edge directed id src dst) = None
 holder_of (element.NodeAttr id key value) = Some (Node id)
 holder_of (element.EdgeAttr id key value) = Some (Edge id)
-holder_of (element.Message src dst value) = None
+holder_of _ = None
 
 -- what a value stands at is in the set
 abbrev pub is_held : List Element → Element → Bool
@@ -43,11 +41,9 @@ is_held set x = option_map_or (λ p. is_some (at set p)) (holder_of x) true
 
 -- the two ends of an edge are in the set; a message is in no graph
 abbrev pub has_ends : List Element → Element → Bool
-has_ends set (element.Node id) = true
 has_ends set (element.Edge directed id src dst) = has_node set src && has_node set dst
-has_ends set (element.NodeAttr id key value) = true
-has_ends set (element.EdgeAttr id key value) = true
 has_ends set (element.Message src dst value) = false
+has_ends set _ = true
 
 -- the element is a value at the one with the id
 abbrev pub is_value_at : ElementId → Element → Bool
@@ -65,11 +61,8 @@ least_value_at (Message value src dst) = element.NodeAttr 0 0 0
 
 -- the element is an edge with this end
 abbrev pub has_end : ℕ → Element → Bool
-has_end id (element.Node n) = false
 has_end id (element.Edge directed n src dst) = src == id || dst == id
-has_end id (element.NodeAttr n key value) = false
-has_end id (element.EdgeAttr n key value) = false
-has_end id (element.Message src dst value) = false
+has_end id _ = false
 
 -- The numbers are the ends of the edges of the set in their order, each as often as edges have it.
 pub record AreEndsOf (set : List Element) (ends : List ℕ) : Type 0 where

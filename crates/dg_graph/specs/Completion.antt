@@ -26,11 +26,10 @@ edge_of set id = find (is_edge id) set
 
 -- the element needs this node: an edge with this end, or an attribute of the node
 abbrev pub needs_node : ℕ → Element → Bool
-needs_node id (element.Node n) = false
 needs_node id (element.Edge directed n src dst) = src == id || dst == id
 needs_node id (element.NodeAttr n key value) = n == id
 needs_node id (element.EdgeAttr n key value) = false
-needs_node id (element.Message src dst value) = false
+needs_node id _ = false
 
 -- the element needs this edge: an attribute of it
 abbrev pub needs_edge : ℕ → Element → Bool
@@ -53,11 +52,9 @@ is_edge_value id key x = false
 
 -- the value in an element, where it has one
 abbrev pub value_in : Element → Option ℕ
-value_in (element.Node id) = None
-value_in (element.Edge directed id src dst) = None
 value_in (element.NodeAttr id key value) = Some value
 value_in (element.EdgeAttr id key value) = Some value
-value_in (element.Message src dst value) = None
+value_in _ = None
 
 -- the value of the key at the node, and at the edge
 abbrev pub node_value : List Element → ℕ → ℕ → Option ℕ

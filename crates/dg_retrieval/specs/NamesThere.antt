@@ -10,11 +10,10 @@ use Rattle.dg_graph.specs.Elements.{has}
 
 -- the key and the value that an element has, if it has them, are among so many names
 abbrev pub HasNamesThere : ℕ → Element → Type 0
-HasNamesThere name_count (element.Node id) = Unit {0}
-HasNamesThere name_count (element.Edge directed id src dst) = Unit {0}
 HasNamesThere name_count (element.NodeAttr id key value) = (key < name_count) × (value < name_count)
 HasNamesThere name_count (element.EdgeAttr id key value) = (key < name_count) × (value < name_count)
 HasNamesThere name_count (element.Message src dst value) = value < name_count
+HasNamesThere name_count _ = Unit {0}
 
 -- so are those of all elements of the set
 abbrev pub NamesAreThere : ℕ → List Element → Type 0
@@ -26,13 +25,10 @@ ChangeHasNamesThere name_count key old new = (key < name_count) × IfSome old (�
 
 -- and of an event's body
 abbrev pub BodyHasNamesThere : ℕ → Body → Type 0
-BodyHasNamesThere name_count (body.NodeAdded id) = Unit {0}
-BodyHasNamesThere name_count (body.NodeRemoved id) = Unit {0}
-BodyHasNamesThere name_count (body.EdgeAdded id src dst directed) = Unit {0}
-BodyHasNamesThere name_count (body.EdgeRemoved id src dst directed) = Unit {0}
 BodyHasNamesThere name_count (body.NodeAttr id key old new) = ChangeHasNamesThere name_count key old new
 BodyHasNamesThere name_count (body.EdgeAttr id key old new) = ChangeHasNamesThere name_count key old new
 BodyHasNamesThere name_count (body.Message src dst value) = value < name_count
+BodyHasNamesThere name_count _ = Unit {0}
 
 -- and of all these events
 abbrev pub EventNamesAreThere : ℕ → List Event → Type 0
