@@ -48,16 +48,16 @@ module _ (n : ℕ) where
       by : (w : What) → WhatHasNamesThere n w → IsCompletion w set b → BodyHasNamesThere n b
       by (what.AddNode id) names c = so (body.NodeAdded id) c.0 tt
       by (what.RemoveNode id) names c = so (body.NodeRemoved id) c.0 tt
-      by (what.AddEdge id src dst directed) names c = so (body.EdgeAdded id src dst directed) c.0 tt
-      by (what.RemoveEdge id) names c = so (body.EdgeRemoved c.id c.src c.dst c.directed) c.is tt
+      by (what.AddEdge directed id src dst) names c = so (body.EdgeAdded directed id src dst) c.0 tt
+      by (what.RemoveEdge id) names c = so (body.EdgeRemoved c.directed c.id c.src c.dst) c.is tt
       by (what.SetNode id key value) names c =
-          so (body.NodeAttr id key (node_value set id key) (Some value)) c.0 (names.0, value_found n (is_node_value id key) set there, names.1)
+          so (body.NodeAttr key id (node_value set id key) (Some value)) c.0 (names.0, value_found n (is_node_value id key) set there, names.1)
       by (what.UnsetNode id key) names c =
-          so (body.NodeAttr id key (Some c.0.value) None) c.0.is (names, taken (is_node_value id key) c.0.value c.0.found_is, tt)
+          so (body.NodeAttr key id (Some c.0.value) None) c.0.is (names, taken (is_node_value id key) c.0.value c.0.found_is, tt)
       by (what.SetEdge id key value) names c =
-          so (body.EdgeAttr id key (edge_value set id key) (Some value)) c.0 (names.0, value_found n (is_edge_value id key) set there, names.1)
+          so (body.EdgeAttr key id (edge_value set id key) (Some value)) c.0 (names.0, value_found n (is_edge_value id key) set there, names.1)
       by (what.UnsetEdge id key) names c =
-          so (body.EdgeAttr id key (Some c.0.value) None) c.0.is (names, taken (is_edge_value id key) c.0.value c.0.found_is, tt)
+          so (body.EdgeAttr key id (Some c.0.value) None) c.0.is (names, taken (is_edge_value id key) c.0.value c.0.found_is, tt)
       by (what.Message src dst value) names c = so (body.Message src dst value) c.0 names
 
   -- the names of the events of changes over a graph are there, where those of the changes and of the graph are
@@ -80,10 +80,10 @@ value_fits n (Some v) few f = omega (arith, few, f)
 body_fits : (n : ℕ) (b : Body) → n ≤ 2 ^ 30 → BodyHasNamesThere n b → NamesFit b
 body_fits n (body.NodeAdded id) few f = tt
 body_fits n (body.NodeRemoved id) few f = tt
-body_fits n (body.EdgeAdded id src dst directed) few f = tt
-body_fits n (body.EdgeRemoved id src dst directed) few f = tt
-body_fits n (body.NodeAttr id key old new) few f = (omega (arith, few, f.0), value_fits n old few f.1, value_fits n new few f.2)
-body_fits n (body.EdgeAttr id key old new) few f = (omega (arith, few, f.0), value_fits n old few f.1, value_fits n new few f.2)
+body_fits n (body.EdgeAdded directed id src dst) few f = tt
+body_fits n (body.EdgeRemoved directed id src dst) few f = tt
+body_fits n (body.NodeAttr key id old new) few f = (omega (arith, few, f.0), value_fits n old few f.1, value_fits n new few f.2)
+body_fits n (body.EdgeAttr key id old new) few f = (omega (arith, few, f.0), value_fits n old few f.1, value_fits n new few f.2)
 body_fits n (body.Message src dst value) few f = tt
 
 pub events_fit : (n : ℕ) (events : List Event) → n ≤ 2 ^ 30 → EventNamesAreThere n events → All (λ (e : Event). NamesFit e.body) events

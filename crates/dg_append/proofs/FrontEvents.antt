@@ -105,10 +105,10 @@ value_there n m (Some v) le f = omega (arith, le, f)
 body_there : (n m : ℕ) (b : Body) → n ≤ m → BodyHasNamesThere n b → BodyHasNamesThere m b
 body_there n m (body.NodeAdded id) le f = tt
 body_there n m (body.NodeRemoved id) le f = tt
-body_there n m (body.EdgeAdded id src dst directed) le f = tt
-body_there n m (body.EdgeRemoved id src dst directed) le f = tt
-body_there n m (body.NodeAttr id key old new) le f = (omega (arith, le, f.0), value_there n m old le f.1, value_there n m new le f.2)
-body_there n m (body.EdgeAttr id key old new) le f = (omega (arith, le, f.0), value_there n m old le f.1, value_there n m new le f.2)
+body_there n m (body.EdgeAdded directed id src dst) le f = tt
+body_there n m (body.EdgeRemoved directed id src dst) le f = tt
+body_there n m (body.NodeAttr key id old new) le f = (omega (arith, le, f.0), value_there n m old le f.1, value_there n m new le f.2)
+body_there n m (body.EdgeAttr key id old new) le f = (omega (arith, le, f.0), value_there n m old le f.1, value_there n m new le f.2)
 body_there n m (body.Message src dst value) le f = omega (arith, le, f)
 
 pub more_event_names : (n m : ℕ) (events : List Event) → n ≤ m → EventNamesAreThere n events → EventNamesAreThere m events

@@ -110,7 +110,7 @@ tested test text x e = by (test text) refl e
 abbrev pub PlainFits : What → Type 0
 PlainFits (what.AddNode id) = id < 2 ^ 64
 PlainFits (what.RemoveNode id) = id < 2 ^ 64
-PlainFits (what.AddEdge id src dst directed) = (id < 2 ^ 64) × (src < 2 ^ 64) × (dst < 2 ^ 64)
+PlainFits (what.AddEdge directed id src dst) = (id < 2 ^ 64) × (src < 2 ^ 64) × (dst < 2 ^ 64)
 PlainFits (what.RemoveEdge id) = id < 2 ^ 64
 PlainFits (what.SetNode id key value) = ⊥
 PlainFits (what.UnsetNode id key) = ⊥
@@ -164,7 +164,7 @@ each_change = (
   (
     id_gives (λ n. what.RemoveNode n) (λ n h. h),
     (
-      edge_gives id_of direction_of (λ n a b d. Plain (what.AddEdge n a b d)) (λ n. n < 2 ^ 64) AskedFits id_fits (λ n a b d x y z. (x, y, z)),
+      edge_gives id_of direction_of (λ n a b d. Plain (what.AddEdge d n a b)) (λ n. n < 2 ^ 64) AskedFits id_fits (λ n a b d x y z. (x, y, z)),
       (
         id_gives (λ n. what.RemoveEdge n) (λ n h. h),
         (

@@ -32,7 +32,7 @@ use Rattle.dg_append.specs.AddedBatches.{WhatHasNamesThere}
 abbrev pub WhatFits : (ℕ → Type 0) → ℕ → What → Type 0
 WhatFits I n (what.AddNode id) = I id
 WhatFits I n (what.RemoveNode id) = I id
-WhatFits I n (what.AddEdge id src dst directed) = I id × I src × I dst
+WhatFits I n (what.AddEdge directed id src dst) = I id × I src × I dst
 WhatFits I n (what.RemoveEdge id) = I id
 WhatFits I n (what.SetNode id key value) = I id × (key < n) × (value < n)
 WhatFits I n (what.UnsetNode id key) = I id × (key < n)
@@ -50,10 +50,10 @@ ElementFits I n (element.Message src dst value) = Unit {0}
 abbrev pub BodyFits : (ℕ → Type 0) → ℕ → Body → Type 0
 BodyFits I n (body.NodeAdded id) = I id
 BodyFits I n (body.NodeRemoved id) = I id
-BodyFits I n (body.EdgeAdded id src dst directed) = I id × I src × I dst
-BodyFits I n (body.EdgeRemoved id src dst directed) = I id × I src × I dst
-BodyFits I n (body.NodeAttr id key old new) = I id × (key < n) × IfSome old (λ v. v < n) × IfSome new (λ v. v < n)
-BodyFits I n (body.EdgeAttr id key old new) = I id × (key < n) × IfSome old (λ v. v < n) × IfSome new (λ v. v < n)
+BodyFits I n (body.EdgeAdded directed id src dst) = I id × I src × I dst
+BodyFits I n (body.EdgeRemoved directed id src dst) = I id × I src × I dst
+BodyFits I n (body.NodeAttr key id old new) = I id × (key < n) × IfSome old (λ v. v < n) × IfSome new (λ v. v < n)
+BodyFits I n (body.EdgeAttr key id old new) = I id × (key < n) × IfSome old (λ v. v < n) × IfSome new (λ v. v < n)
 BodyFits I n (body.Message src dst value) = I src × I dst × (value < n)
 
 -- ---- what a set has
@@ -96,10 +96,10 @@ moved_fits I n make value other fits h = by (option_eq nat_eq value other) value
 added_fits : (I : ℕ → Type 0) (n : ℕ) (b : Body) → BodyFits I n b → IfSome (added_by b) (ElementFits I n)
 added_fits I n (body.NodeAdded id) h = tt
 added_fits I n (body.NodeRemoved id) h = tt
-added_fits I n (body.EdgeAdded id src dst directed) h = h
-added_fits I n (body.EdgeRemoved id src dst directed) h = tt
-added_fits I n (body.NodeAttr id key old new) h = moved_fits I n (element.NodeAttr id key) new old (λ v k. k) h.3
-added_fits I n (body.EdgeAttr id key old new) h = moved_fits I n (element.EdgeAttr id key) new old (λ v k. k) h.3
+added_fits I n (body.EdgeAdded directed id src dst) h = h
+added_fits I n (body.EdgeRemoved directed id src dst) h = tt
+added_fits I n (body.NodeAttr key id old new) h = moved_fits I n (element.NodeAttr id key) new old (λ v k. k) h.3
+added_fits I n (body.EdgeAttr key id old new) h = moved_fits I n (element.EdgeAttr id key) new old (λ v k. k) h.3
 added_fits I n (body.Message src dst value) h = tt
 
 pub set_fits : (I : ℕ → Type 0) (n : ℕ) (set : List Element) (e : Event) → BodyFits I n e.body → All (ElementFits I n) set → All (ElementFits I n) (forwards set e)
@@ -137,17 +137,17 @@ body_fits I n w set b f all h = by w f (completion w set b h)
     by : (w : What) → WhatFits I n w → IsCompletion w set b → BodyFits I n b
     by (what.AddNode id) f c = so (body.NodeAdded id) c.0 f
     by (what.RemoveNode id) f c = so (body.NodeRemoved id) c.0 f
-    by (what.AddEdge id src dst directed) f c = so (body.EdgeAdded id src dst directed) c.0 f
+    by (what.AddEdge directed id src dst) f c = so (body.EdgeAdded directed id src dst) c.0 f
     by (what.RemoveEdge id) f c =
-        so (body.EdgeRemoved c.id c.src c.dst c.directed) c.is (found_fits I n (is_edge id) set (element.Edge c.directed c.id c.src c.dst) all c.found_is)
+        so (body.EdgeRemoved c.directed c.id c.src c.dst) c.is (found_fits I n (is_edge id) set (element.Edge c.directed c.id c.src c.dst) all c.found_is)
     by (what.SetNode id key value) f c =
-        so (body.NodeAttr id key (node_value set id key) (Some value)) c.0 (f.0, f.1, found (is_node_value id key), f.2)
+        so (body.NodeAttr key id (node_value set id key) (Some value)) c.0 (f.0, f.1, found (is_node_value id key), f.2)
     by (what.UnsetNode id key) f c =
-        so (body.NodeAttr id key (Some c.0.value) None) c.0.is (f.0, f.1, taken (is_node_value id key) c.0.value c.0.found_is, tt)
+        so (body.NodeAttr key id (Some c.0.value) None) c.0.is (f.0, f.1, taken (is_node_value id key) c.0.value c.0.found_is, tt)
     by (what.SetEdge id key value) f c =
-        so (body.EdgeAttr id key (edge_value set id key) (Some value)) c.0 (f.0, f.1, found (is_edge_value id key), f.2)
+        so (body.EdgeAttr key id (edge_value set id key) (Some value)) c.0 (f.0, f.1, found (is_edge_value id key), f.2)
     by (what.UnsetEdge id key) f c =
-        so (body.EdgeAttr id key (Some c.0.value) None) c.0.is (f.0, f.1, taken (is_edge_value id key) c.0.value c.0.found_is, tt)
+        so (body.EdgeAttr key id (Some c.0.value) None) c.0.is (f.0, f.1, taken (is_edge_value id key) c.0.value c.0.found_is, tt)
     by (what.Message src dst value) f c = so (body.Message src dst value) c.0 f
 
 pub events_fit : (I : ℕ → Type 0) (n earliest : ℕ) (set : List Element) (changes : List (Option Change)) (events : List Event)
@@ -167,7 +167,7 @@ events_fit I n earliest set (Some c ∷ changes) (e ∷ events) h f all =
 abbrev pub HasKey : List (List ℕ) → What → Type 0
 HasKey names (what.AddNode id) = Unit {0}
 HasKey names (what.RemoveNode id) = Unit {0}
-HasKey names (what.AddEdge id src dst directed) = Unit {0}
+HasKey names (what.AddEdge directed id src dst) = Unit {0}
 HasKey names (what.RemoveEdge id) = Unit {0}
 HasKey names (what.SetNode id key value) = is_key (name_text names key) ≡ true
 HasKey names (what.UnsetNode id key) = is_key (name_text names key) ≡ true
@@ -184,12 +184,12 @@ body_key names w set b f h = by w f (completion w set b h)
     by : (w : What) → HasKey names w → IsCompletion w set b → IsTrue (has_key names b)
     by (what.AddNode id) f c = so (body.NodeAdded id) c.0 refl
     by (what.RemoveNode id) f c = so (body.NodeRemoved id) c.0 refl
-    by (what.AddEdge id src dst directed) f c = so (body.EdgeAdded id src dst directed) c.0 refl
-    by (what.RemoveEdge id) f c = so (body.EdgeRemoved c.id c.src c.dst c.directed) c.is refl
-    by (what.SetNode id key value) f c = so (body.NodeAttr id key (node_value set id key) (Some value)) c.0 f
-    by (what.UnsetNode id key) f c = so (body.NodeAttr id key (Some c.0.value) None) c.0.is f
-    by (what.SetEdge id key value) f c = so (body.EdgeAttr id key (edge_value set id key) (Some value)) c.0 f
-    by (what.UnsetEdge id key) f c = so (body.EdgeAttr id key (Some c.0.value) None) c.0.is f
+    by (what.AddEdge directed id src dst) f c = so (body.EdgeAdded directed id src dst) c.0 refl
+    by (what.RemoveEdge id) f c = so (body.EdgeRemoved c.directed c.id c.src c.dst) c.is refl
+    by (what.SetNode id key value) f c = so (body.NodeAttr key id (node_value set id key) (Some value)) c.0 f
+    by (what.UnsetNode id key) f c = so (body.NodeAttr key id (Some c.0.value) None) c.0.is f
+    by (what.SetEdge id key value) f c = so (body.EdgeAttr key id (edge_value set id key) (Some value)) c.0 f
+    by (what.UnsetEdge id key) f c = so (body.EdgeAttr key id (Some c.0.value) None) c.0.is f
     by (what.Message src dst value) f c = so (body.Message src dst value) c.0 refl
 
 pub events_keys : (names : List (List ℕ)) (earliest : ℕ) (set : List Element) (changes : List (Option Change)) (events : List Event)
@@ -232,7 +232,7 @@ pub record ChangeFits (names : List (List ℕ)) (c : Change) : Type 0 where
 plain_fits : (n : ℕ) (w : What) → PlainFits w → WhatFits (λ n. n < 2 ^ 64) n w
 plain_fits n (what.AddNode id) f = f
 plain_fits n (what.RemoveNode id) f = f
-plain_fits n (what.AddEdge id src dst directed) f = f
+plain_fits n (what.AddEdge directed id src dst) f = f
 plain_fits n (what.RemoveEdge id) f = f
 plain_fits n (what.SetNode id key value) f = absurd f
 plain_fits n (what.UnsetNode id key) f = absurd f
@@ -243,7 +243,7 @@ plain_fits n (what.Message src dst value) f = absurd f
 plain_key : (names : List (List ℕ)) (w : What) → PlainFits w → HasKey names w
 plain_key names (what.AddNode id) f = tt
 plain_key names (what.RemoveNode id) f = tt
-plain_key names (what.AddEdge id src dst directed) f = tt
+plain_key names (what.AddEdge directed id src dst) f = tt
 plain_key names (what.RemoveEdge id) f = tt
 plain_key names (what.SetNode id key value) f = absurd f
 plain_key names (what.UnsetNode id key) f = absurd f
@@ -297,25 +297,25 @@ changes_fit names new (Some s ∷ lines) f g =
 pub legal_body : (n : ℕ) (b : Body) → BodyFits (λ n. n < 2 ^ 64) n b → FitsBody n b
 legal_body n (body.NodeAdded id) h = h
 legal_body n (body.NodeRemoved id) h = h
-legal_body n (body.EdgeAdded id src dst directed) h = h
-legal_body n (body.EdgeRemoved id src dst directed) h = h
-legal_body n (body.NodeAttr id key old new) h = h
-legal_body n (body.EdgeAttr id key old new) h = h
+legal_body n (body.EdgeAdded directed id src dst) h = h
+legal_body n (body.EdgeRemoved directed id src dst) h = h
+legal_body n (body.NodeAttr key id old new) h = h
+legal_body n (body.EdgeAttr key id old new) h = h
 legal_body n (body.Message src dst value) h = h
 
 pub from_legal : (n : ℕ) (b : Body) → FitsBody n b → BodyFits (λ n. n < 2 ^ 64) n b
 from_legal n (body.NodeAdded id) h = h
 from_legal n (body.NodeRemoved id) h = h
-from_legal n (body.EdgeAdded id src dst directed) h = h
-from_legal n (body.EdgeRemoved id src dst directed) h = h
-from_legal n (body.NodeAttr id key old new) h = h
-from_legal n (body.EdgeAttr id key old new) h = h
+from_legal n (body.EdgeAdded directed id src dst) h = h
+from_legal n (body.EdgeRemoved directed id src dst) h = h
+from_legal n (body.NodeAttr key id old new) h = h
+from_legal n (body.EdgeAttr key id old new) h = h
 from_legal n (body.Message src dst value) h = h
 
 pub what_named : (n : ℕ) (w : What) → WhatFits (λ n. n < 2 ^ 64) n w → WhatHasNamesThere n w
 what_named n (what.AddNode id) h = tt
 what_named n (what.RemoveNode id) h = tt
-what_named n (what.AddEdge id src dst directed) h = tt
+what_named n (what.AddEdge directed id src dst) h = tt
 what_named n (what.RemoveEdge id) h = tt
 what_named n (what.SetNode id key value) h = (h.1, h.2)
 what_named n (what.UnsetNode id key) h = h.1
@@ -331,10 +331,10 @@ some_more n m (Some v) le h = omega (arith, le, h)
 pub body_more : (n m : ℕ) (b : Body) → n ≤ m → FitsBody n b → FitsBody m b
 body_more n m (body.NodeAdded id) le h = h
 body_more n m (body.NodeRemoved id) le h = h
-body_more n m (body.EdgeAdded id src dst directed) le h = h
-body_more n m (body.EdgeRemoved id src dst directed) le h = h
-body_more n m (body.NodeAttr id key old new) le h = (h.0, omega (arith, le, h.1), some_more n m old le h.2, some_more n m new le h.3)
-body_more n m (body.EdgeAttr id key old new) le h = (h.0, omega (arith, le, h.1), some_more n m old le h.2, some_more n m new le h.3)
+body_more n m (body.EdgeAdded directed id src dst) le h = h
+body_more n m (body.EdgeRemoved directed id src dst) le h = h
+body_more n m (body.NodeAttr key id old new) le h = (h.0, omega (arith, le, h.1), some_more n m old le h.2, some_more n m new le h.3)
+body_more n m (body.EdgeAttr key id old new) le h = (h.0, omega (arith, le, h.1), some_more n m old le h.2, some_more n m new le h.3)
 body_more n m (body.Message src dst value) le h = (h.0, h.1, omega (arith, le, h.2))
 
 -- and the keys of old names stay
@@ -344,8 +344,8 @@ key_more names more key lt h = subst (λ (t : List ℕ). IsTrue (is_key t)) (sym
 pub has_key_more : (names more : List (List ℕ)) (b : Body) → FitsBody (length names) b → IsTrue (has_key names b) → IsTrue (has_key (names ++ more) b)
 has_key_more names more (body.NodeAdded id) f h = h
 has_key_more names more (body.NodeRemoved id) f h = h
-has_key_more names more (body.EdgeAdded id src dst directed) f h = h
-has_key_more names more (body.EdgeRemoved id src dst directed) f h = h
-has_key_more names more (body.NodeAttr id key old new) f h = key_more names more key f.1 h
-has_key_more names more (body.EdgeAttr id key old new) f h = key_more names more key f.1 h
+has_key_more names more (body.EdgeAdded directed id src dst) f h = h
+has_key_more names more (body.EdgeRemoved directed id src dst) f h = h
+has_key_more names more (body.NodeAttr key id old new) f h = key_more names more key f.1 h
+has_key_more names more (body.EdgeAttr key id old new) f h = key_more names more key f.1 h
 has_key_more names more (body.Message src dst value) f h = h

@@ -43,7 +43,7 @@ one_id make words = one id_of (λ n. Plain (make n)) words
 
 -- `ID SRC DST dir` or `ID SRC DST undir`
 abbrev pub new_edge : List (List ℕ) → Option WhatByText
-new_edge words = four_words id_of id_of id_of direction_of (λ n a b d. Plain (AddEdge n a b d)) words
+new_edge words = four_words id_of id_of id_of direction_of (λ n a b d. Plain (AddEdge d n a b)) words
 
 abbrev pub key_text_of : List ℕ → Option (List ℕ)
 key_text_of word = if is_key word then Some word else None

@@ -27,7 +27,7 @@ abbrev pub generated_what : ℕ → ℕ → ℕ → WhatByText
 generated_what kind g r =
     if kind == 0 then Plain (AddNode (2 * g + 1))
     else (if kind == 1 then Plain (AddNode (2 * g + 2))
-    else (if kind == 2 then Plain (AddEdge (g + 1) (2 * g + 1) (r % (2 * g + 2) + 1) (r % 2 == 0))
+    else (if kind == 2 then Plain (AddEdge (r % 2 == 0) (g + 1) (2 * g + 1) (r % (2 * g + 2) + 1))
     else (if kind == 3 then Sets_node (2 * g + 1) (codes "kind") (lettered (codes "v") (r % 5))
     else (if kind == 4 then Sets_node (r % (2 * g + 2) + 1) (codes "kind") (lettered (codes "v") (r % 5))
     else (if kind == 5 then Sets_edge (g + 1) (codes "w") (decimal (r % 100))

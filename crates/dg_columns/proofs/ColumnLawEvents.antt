@@ -138,18 +138,18 @@ body_again names bytes at (body.NodeRemoved id) rest few fits e =
     let f1 = byte_again (λ n. nat_le 1 n && nat_le n 4) bytes at 2 (at + 1) (eight id ++ rest) (omega arith) refl refl e in
     let f2 = eight_again any_number bytes (at + 1) id (at + 9) rest fits (omega arith) refl f1.1 in
     (and_then (one_byte (λ n. nat_le 1 n && nat_le n 4) bytes at) _ 2 (body.NodeRemoved id) f1.0 (one_read (λ id. body.NodeRemoved id) (eight_bytes any_number bytes (at + 1)) id f2.0), f2.1, f2.2)
-body_again names bytes at (body.EdgeAdded id src dst d) rest few fits e =
+body_again names bytes at (body.EdgeAdded d id src dst) rest few fits e =
     let f1 = byte_again (λ n. nat_le 1 n && nat_le n 4) bytes at 3 (at + 1) ((eight id ++ (eight src ++ (eight dst ++ bit d ∷ []))) ++ rest) (omega arith) refl refl e in
-    let f2 = edge_again (λ id src dst d. body.EdgeAdded id src dst d) bytes (at + 1) id src dst d (at + 26) rest fits (omega arith) f1.1 in
-    (and_then (one_byte (λ n. nat_le 1 n && nat_le n 4) bytes at) _ 3 (body.EdgeAdded id src dst d) f1.0 f2.0, f2.1, f2.2)
-body_again names bytes at (body.EdgeRemoved id src dst d) rest few fits e =
+    let f2 = edge_again (λ id src dst d. body.EdgeAdded d id src dst) bytes (at + 1) id src dst d (at + 26) rest fits (omega arith) f1.1 in
+    (and_then (one_byte (λ n. nat_le 1 n && nat_le n 4) bytes at) _ 3 (body.EdgeAdded d id src dst) f1.0 f2.0, f2.1, f2.2)
+body_again names bytes at (body.EdgeRemoved d id src dst) rest few fits e =
     let f1 = byte_again (λ n. nat_le 1 n && nat_le n 4) bytes at 4 (at + 1) ((eight id ++ (eight src ++ (eight dst ++ bit d ∷ []))) ++ rest) (omega arith) refl refl e in
-    let f2 = edge_again (λ id src dst d. body.EdgeRemoved id src dst d) bytes (at + 1) id src dst d (at + 26) rest fits (omega arith) f1.1 in
-    (and_then (one_byte (λ n. nat_le 1 n && nat_le n 4) bytes at) _ 4 (body.EdgeRemoved id src dst d) f1.0 f2.0, f2.1, f2.2)
-body_again names bytes at (body.NodeAttr id key old new) rest few fits e =
-    change_again (λ id key old new. body.NodeAttr id key old new) names bytes at id key old new rest few fits e
-body_again names bytes at (body.EdgeAttr id key old new) rest few fits e =
-    change_again (λ id key old new. body.EdgeAttr id key old new) names bytes at id key old new rest few fits e
+    let f2 = edge_again (λ id src dst d. body.EdgeRemoved d id src dst) bytes (at + 1) id src dst d (at + 26) rest fits (omega arith) f1.1 in
+    (and_then (one_byte (λ n. nat_le 1 n && nat_le n 4) bytes at) _ 4 (body.EdgeRemoved d id src dst) f1.0 f2.0, f2.1, f2.2)
+body_again names bytes at (body.NodeAttr key id old new) rest few fits e =
+    change_again (λ id key old new. body.NodeAttr key id old new) names bytes at id key old new rest few fits e
+body_again names bytes at (body.EdgeAttr key id old new) rest few fits e =
+    change_again (λ id key old new. body.EdgeAttr key id old new) names bytes at id key old new rest few fits e
 body_again names bytes at (body.Message src dst value) rest few fits e =
     let is_name : ℕ → Bool = λ n. nat_lt n names in
     let e1 = e ∙ append_assoc (eight src) (eight dst ++ four value) rest in

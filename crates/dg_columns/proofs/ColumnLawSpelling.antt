@@ -146,9 +146,9 @@ structure_stands (suc zero) bytes at what right fits first e =
 structure_stands (suc (suc zero)) bytes at what right fits first e =
     node_body 2 (λ id. body.NodeRemoved id) bytes at what (λ id. refl) (λ id. refl) fits first e
 structure_stands (suc (suc (suc zero))) bytes at what right fits first e =
-    edge_body 3 (λ id src dst d. body.EdgeAdded id src dst d) bytes at what (λ id src dst d. refl) (λ id src dst d. refl) fits first e
+    edge_body 3 (λ id src dst d. body.EdgeAdded d id src dst) bytes at what (λ id src dst d. refl) (λ id src dst d. refl) fits first e
 structure_stands (suc (suc (suc (suc zero)))) bytes at what right fits first e =
-    edge_body 4 (λ id src dst d. body.EdgeRemoved id src dst d) bytes at what (λ id src dst d. refl) (λ id src dst d. refl) fits first e
+    edge_body 4 (λ id src dst d. body.EdgeRemoved d id src dst) bytes at what (λ id src dst d. refl) (λ id src dst d. refl) fits first e
 structure_stands (suc (suc (suc (suc (suc k))))) bytes at what right fits first e =
     absurd (omega (arith, leb-true _ 4 (and_second (nat_le 1 (suc (suc (suc (suc (suc k)))))) (nat_le (suc (suc (suc (suc (suc k))))) 4) right)))
 
@@ -158,10 +158,10 @@ body_stands column.Structure names bytes at what fits e =
     let s = field_stands w8 1 256 one spelling8 (λ n. nat_le 1 n && nat_le n 4) bytes at a.0 (at + 1) fits refl a.1 in
     structure_stands a.0 bytes at what s.1 fits s.0 a.2
 body_stands column.NodeAttr names bytes at what fits e =
-    let r = value_read (λ id key old new. body.NodeAttr id key old new) names bytes at what fits e in
+    let r = value_read (λ id key old new. body.NodeAttr key id old new) names bytes at what fits e in
     subst (BodyStands bytes at) r.is r.stands
 body_stands column.EdgeAttr names bytes at what fits e =
-    let r = value_read (λ id key old new. body.EdgeAttr id key old new) names bytes at what fits e in
+    let r = value_read (λ id key old new. body.EdgeAttr key id old new) names bytes at what fits e in
     subst (BodyStands bytes at) r.is r.stands
 body_stands column.Transient names bytes at what fits e =
     let is_name : ℕ → Bool = λ n. nat_lt n names in

@@ -87,20 +87,20 @@ edge_fits make names bytes at what made fits e =
 structure_fits : (kind names : ℕ) (bytes : List ℕ) (at : ℕ) (what : Body) → IsBytes bytes → structure_body kind bytes at ≡ Ok what → Fit column.Structure names what
 structure_fits kind names bytes at what fits e = by (kind == 1) (kind == 2) (kind == 3) e
   where
-    by : (a b c : Bool) → cond a (and_read (eight_bytes any_number bytes at) (λ id. Ok (body.NodeAdded id))) (cond b (and_read (eight_bytes any_number bytes at) (λ id. Ok (body.NodeRemoved id))) (cond c (edge_fields (λ id src dst d. body.EdgeAdded id src dst d) bytes at) (edge_fields (λ id src dst d. body.EdgeRemoved id src dst d) bytes at))) ≡ Ok what → Fit column.Structure names what
+    by : (a b c : Bool) → cond a (and_read (eight_bytes any_number bytes at) (λ id. Ok (body.NodeAdded id))) (cond b (and_read (eight_bytes any_number bytes at) (λ id. Ok (body.NodeRemoved id))) (cond c (edge_fields (λ id src dst d. body.EdgeAdded d id src dst) bytes at) (edge_fields (λ id src dst d. body.EdgeRemoved d id src dst) bytes at))) ≡ Ok what → Fit column.Structure names what
     by true b c e = node_fits (λ id. body.NodeAdded id) names bytes at what (λ id h. (refl, h)) fits e
     by false true c e = node_fits (λ id. body.NodeRemoved id) names bytes at what (λ id h. (refl, h)) fits e
-    by false false true e = edge_fits (λ id src dst d. body.EdgeAdded id src dst d) names bytes at what (λ id src dst d h. (refl, h)) fits e
-    by false false false e = edge_fits (λ id src dst d. body.EdgeRemoved id src dst d) names bytes at what (λ id src dst d h. (refl, h)) fits e
+    by false false true e = edge_fits (λ id src dst d. body.EdgeAdded d id src dst) names bytes at what (λ id src dst d h. (refl, h)) fits e
+    by false false false e = edge_fits (λ id src dst d. body.EdgeRemoved d id src dst) names bytes at what (λ id src dst d h. (refl, h)) fits e
 
 body_fits : (col : Column) (names : ℕ) (bytes : List ℕ) (at : ℕ) (what : Body) → IsBytes bytes → body_at col names bytes at ≡ Ok what → Fit col names what
 body_fits column.Structure names bytes at what fits e =
     let k = bind_ok (one_byte (λ n. nat_le 1 n && nat_le n 4) bytes at) (λ kind. structure_body kind bytes (at + 1)) what e in
     structure_fits k.0 names bytes (at + 1) what fits k.2
 body_fits column.NodeAttr names bytes at what fits e =
-    change_fits column.NodeAttr (λ id key old new. body.NodeAttr id key old new) names bytes at what (λ id key old new h. (refl, h)) fits e
+    change_fits column.NodeAttr (λ id key old new. body.NodeAttr key id old new) names bytes at what (λ id key old new h. (refl, h)) fits e
 body_fits column.EdgeAttr names bytes at what fits e =
-    change_fits column.EdgeAttr (λ id key old new. body.EdgeAttr id key old new) names bytes at what (λ id key old new h. (refl, h)) fits e
+    change_fits column.EdgeAttr (λ id key old new. body.EdgeAttr key id old new) names bytes at what (λ id key old new h. (refl, h)) fits e
 body_fits column.Transient names bytes at what fits e =
     let is_name : ℕ → Bool = λ n. nat_lt n names in
     let last : ℕ → ℕ → ℕ → Result Body ℕ = λ src dst value. Ok (body.Message src dst value) in

@@ -11,8 +11,8 @@ ValueNamesFit key old new = (key < 2 ^ 30) × IfSome old (λ n. n < 2 ^ 30) × I
 abbrev pub NamesFit : Body → Type 0
 NamesFit (body.NodeAdded id) = Unit {0}
 NamesFit (body.NodeRemoved id) = Unit {0}
-NamesFit (body.EdgeAdded id src dst directed) = Unit {0}
-NamesFit (body.EdgeRemoved id src dst directed) = Unit {0}
-NamesFit (body.NodeAttr id key old new) = ValueNamesFit key old new
-NamesFit (body.EdgeAttr id key old new) = ValueNamesFit key old new
+NamesFit (body.EdgeAdded directed id src dst) = Unit {0}
+NamesFit (body.EdgeRemoved directed id src dst) = Unit {0}
+NamesFit (body.NodeAttr key id old new) = ValueNamesFit key old new
+NamesFit (body.EdgeAttr key id old new) = ValueNamesFit key old new
 NamesFit (body.Message src dst value) = Unit {0}

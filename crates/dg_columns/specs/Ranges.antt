@@ -23,10 +23,10 @@ pub record ChangeFits (names id key : ℕ) (old new : Option ℕ) : Type 0 where
 abbrev pub BodyFits : ℕ → Body → Type 0
 BodyFits names (body.NodeAdded id) = id < 2 ^ 64
 BodyFits names (body.NodeRemoved id) = id < 2 ^ 64
-BodyFits names (body.EdgeAdded id src dst directed) = EdgeFits id src dst
-BodyFits names (body.EdgeRemoved id src dst directed) = EdgeFits id src dst
-BodyFits names (body.NodeAttr id key old new) = ChangeFits names id key old new
-BodyFits names (body.EdgeAttr id key old new) = ChangeFits names id key old new
+BodyFits names (body.EdgeAdded directed id src dst) = EdgeFits id src dst
+BodyFits names (body.EdgeRemoved directed id src dst) = EdgeFits id src dst
+BodyFits names (body.NodeAttr key id old new) = ChangeFits names id key old new
+BodyFits names (body.EdgeAttr key id old new) = ChangeFits names id key old new
 BodyFits names (body.Message src dst value) = (src < 2 ^ 64) × (dst < 2 ^ 64) × (value < names)
 
 -- instants do not fall, from the earliest on and up to the last instant

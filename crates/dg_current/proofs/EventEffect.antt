@@ -36,23 +36,23 @@ if_some (Some x) P h = h x refl
 pub before_has_id : (b : Body) (x : Element) → element_before b ≡ Some x → element_id_of x ≡ changed_id b
 before_has_id (body.NodeAdded id) x e = absurd (some_none (sym e))
 before_has_id (body.NodeRemoved id) x e = ap element_id_of (sym (some_is _ x e))
-before_has_id (body.EdgeAdded id s d b) x e = absurd (some_none (sym e))
-before_has_id (body.EdgeRemoved id s d b) x e = ap element_id_of (sym (some_is _ x e))
-before_has_id (body.NodeAttr id key None new) x e = absurd (some_none (sym e))
-before_has_id (body.NodeAttr id key (Some v) new) x e = ap element_id_of (sym (some_is _ x e))
-before_has_id (body.EdgeAttr id key None new) x e = absurd (some_none (sym e))
-before_has_id (body.EdgeAttr id key (Some v) new) x e = ap element_id_of (sym (some_is _ x e))
+before_has_id (body.EdgeAdded b id s d) x e = absurd (some_none (sym e))
+before_has_id (body.EdgeRemoved b id s d) x e = ap element_id_of (sym (some_is _ x e))
+before_has_id (body.NodeAttr key id None new) x e = absurd (some_none (sym e))
+before_has_id (body.NodeAttr key id (Some v) new) x e = ap element_id_of (sym (some_is _ x e))
+before_has_id (body.EdgeAttr key id None new) x e = absurd (some_none (sym e))
+before_has_id (body.EdgeAttr key id (Some v) new) x e = ap element_id_of (sym (some_is _ x e))
 before_has_id (body.Message s d v) x e = absurd (some_none (sym e))
 
 pub after_has_id : (b : Body) (x : Element) → element_after b ≡ Some x → element_id_of x ≡ changed_id b
 after_has_id (body.NodeRemoved id) x e = absurd (some_none (sym e))
 after_has_id (body.NodeAdded id) x e = ap element_id_of (sym (some_is _ x e))
-after_has_id (body.EdgeRemoved id s d b) x e = absurd (some_none (sym e))
-after_has_id (body.EdgeAdded id s d b) x e = ap element_id_of (sym (some_is _ x e))
-after_has_id (body.NodeAttr id key old None) x e = absurd (some_none (sym e))
-after_has_id (body.NodeAttr id key old (Some v)) x e = ap element_id_of (sym (some_is _ x e))
-after_has_id (body.EdgeAttr id key old None) x e = absurd (some_none (sym e))
-after_has_id (body.EdgeAttr id key old (Some v)) x e = ap element_id_of (sym (some_is _ x e))
+after_has_id (body.EdgeRemoved b id s d) x e = absurd (some_none (sym e))
+after_has_id (body.EdgeAdded b id s d) x e = ap element_id_of (sym (some_is _ x e))
+after_has_id (body.NodeAttr key id old None) x e = absurd (some_none (sym e))
+after_has_id (body.NodeAttr key id old (Some v)) x e = ap element_id_of (sym (some_is _ x e))
+after_has_id (body.EdgeAttr key id old None) x e = absurd (some_none (sym e))
+after_has_id (body.EdgeAttr key id old (Some v)) x e = ap element_id_of (sym (some_is _ x e))
 after_has_id (body.Message s d v) x e = absurd (some_none (sym e))
 
 -- an event takes the element before it away and leaves the one after it, or it changes nothing
@@ -85,15 +85,15 @@ eqb_apart m n e = by (eqb n m) refl
 pub shape : (b : Body) → Swaps b ⊎ Stays b
 shape (body.NodeAdded id) = inl (record { removed = refl; added = refl; apart = λ x e f. some_none (sym e) })
 shape (body.NodeRemoved id) = inl (record { removed = refl; added = refl; apart = λ x e f. some_none (sym f) })
-shape (body.EdgeAdded id s d b) = inl (record { removed = refl; added = refl; apart = λ x e f. some_none (sym e) })
-shape (body.EdgeRemoved id s d b) = inl (record { removed = refl; added = refl; apart = λ x e f. some_none (sym f) })
+shape (body.EdgeAdded b id s d) = inl (record { removed = refl; added = refl; apart = λ x e f. some_none (sym e) })
+shape (body.EdgeRemoved b id s d) = inl (record { removed = refl; added = refl; apart = λ x e f. some_none (sym f) })
 shape (body.Message s d v) = inr (record { removed = refl; added = refl; same = refl })
-shape (body.NodeAttr id key None None) = inr (record { removed = refl; added = refl; same = refl })
-shape (body.NodeAttr id key None (Some n)) = inl (record { removed = refl; added = refl; apart = λ x e f. some_none (sym e) })
-shape (body.NodeAttr id key (Some m) None) = inl (record { removed = refl; added = refl; apart = λ x e f. some_none (sym f) })
-shape (body.NodeAttr id key (Some m) (Some n)) = by (eqb m n) refl
+shape (body.NodeAttr key id None None) = inr (record { removed = refl; added = refl; same = refl })
+shape (body.NodeAttr key id None (Some n)) = inl (record { removed = refl; added = refl; apart = λ x e f. some_none (sym e) })
+shape (body.NodeAttr key id (Some m) None) = inl (record { removed = refl; added = refl; apart = λ x e f. some_none (sym f) })
+shape (body.NodeAttr key id (Some m) (Some n)) = by (eqb m n) refl
   where
-    by : (t : Bool) → eqb m n ≡ t → Swaps (body.NodeAttr id key (Some m) (Some n)) ⊎ Stays (body.NodeAttr id key (Some m) (Some n))
+    by : (t : Bool) → eqb m n ≡ t → Swaps (body.NodeAttr key id (Some m) (Some n)) ⊎ Stays (body.NodeAttr key id (Some m) (Some n))
     by true e = inr (record {
       removed = ap (λ t. cond t None (Some (element.NodeAttr id key m))) e;
       added = ap (λ t. cond t None (Some (element.NodeAttr id key n))) (eqb_flip m n e);
@@ -104,12 +104,12 @@ shape (body.NodeAttr id key (Some m) (Some n)) = by (eqb m n) refl
       added = ap (λ t. cond t None (Some (element.NodeAttr id key n))) (eqb_apart m n e);
       apart = λ x f g. true≢false (sym (eq-eqb m n (node_values id key m n (some_is _ _ (f ∙ sym g)))) ∙ e);
     })
-shape (body.EdgeAttr id key None None) = inr (record { removed = refl; added = refl; same = refl })
-shape (body.EdgeAttr id key None (Some n)) = inl (record { removed = refl; added = refl; apart = λ x e f. some_none (sym e) })
-shape (body.EdgeAttr id key (Some m) None) = inl (record { removed = refl; added = refl; apart = λ x e f. some_none (sym f) })
-shape (body.EdgeAttr id key (Some m) (Some n)) = by (eqb m n) refl
+shape (body.EdgeAttr key id None None) = inr (record { removed = refl; added = refl; same = refl })
+shape (body.EdgeAttr key id None (Some n)) = inl (record { removed = refl; added = refl; apart = λ x e f. some_none (sym e) })
+shape (body.EdgeAttr key id (Some m) None) = inl (record { removed = refl; added = refl; apart = λ x e f. some_none (sym f) })
+shape (body.EdgeAttr key id (Some m) (Some n)) = by (eqb m n) refl
   where
-    by : (t : Bool) → eqb m n ≡ t → Swaps (body.EdgeAttr id key (Some m) (Some n)) ⊎ Stays (body.EdgeAttr id key (Some m) (Some n))
+    by : (t : Bool) → eqb m n ≡ t → Swaps (body.EdgeAttr key id (Some m) (Some n)) ⊎ Stays (body.EdgeAttr key id (Some m) (Some n))
     by true e = inr (record {
       removed = ap (λ t. cond t None (Some (element.EdgeAttr id key m))) e;
       added = ap (λ t. cond t None (Some (element.EdgeAttr id key n))) (eqb_flip m n e);
@@ -144,10 +144,10 @@ added_has_id b x e = by (shape b)
 pub id_free : (set : List Element) (b : Body) → CanHappen set b → (x : Element) → element_before b ≡ Some x → list_any (needs_id (changed_id b)) set ≡ false
 id_free set (body.NodeAdded id) h x e = absurd (some_none (sym e))
 id_free set (body.NodeRemoved id) h x e = h.free refl
-id_free set (body.EdgeAdded id s d b) h x e = absurd (some_none (sym e))
-id_free set (body.EdgeRemoved id s d b) h x e = h.free refl
-id_free set (body.NodeAttr id key old new) h x e = none_needs set
-id_free set (body.EdgeAttr id key old new) h x e = none_needs set
+id_free set (body.EdgeAdded b id s d) h x e = absurd (some_none (sym e))
+id_free set (body.EdgeRemoved b id s d) h x e = h.free refl
+id_free set (body.NodeAttr key id old new) h x e = none_needs set
+id_free set (body.EdgeAttr key id old new) h x e = none_needs set
 id_free set (body.Message s d v) h x e = absurd (some_none (sym e))
 
 -- no element needs itself
@@ -397,14 +397,14 @@ moved_from make value other x e = by (option_eq nat_eq value other) value e
 alike : (b : Body) (x y : Element) → removed_by b ≡ Some x → added_by b ≡ Some y → Alike x y
 alike (body.NodeAdded id) x y e f = absurd (some_none (sym e))
 alike (body.NodeRemoved id) x y e f = absurd (some_none (sym f))
-alike (body.EdgeAdded id s d b) x y e f = absurd (some_none (sym e))
-alike (body.EdgeRemoved id s d b) x y e f = absurd (some_none (sym f))
+alike (body.EdgeAdded b id s d) x y e f = absurd (some_none (sym e))
+alike (body.EdgeRemoved b id s d) x y e f = absurd (some_none (sym f))
 alike (body.Message s d v) x y e f = absurd (some_none (sym e))
-alike (body.NodeAttr id key old new) x y e f =
+alike (body.NodeAttr key id old new) x y e f =
     let out = moved_from (element.NodeAttr id key) old new x e in
     let into = moved_from (element.NodeAttr id key) new old y f in
     subst (λ q. Alike q y) (sym out.1) (subst (λ q. Alike (element.NodeAttr id key out.0) q) (sym into.1) (node_values_alike id key out.0 into.0))
-alike (body.EdgeAttr id key old new) x y e f =
+alike (body.EdgeAttr key id old new) x y e f =
     let out = moved_from (element.EdgeAttr id key) old new x e in
     let into = moved_from (element.EdgeAttr id key) new old y f in
     subst (λ q. Alike q y) (sym out.1) (subst (λ q. Alike (element.EdgeAttr id key out.0) q) (sym into.1) (edge_values_alike id key out.0 into.0))

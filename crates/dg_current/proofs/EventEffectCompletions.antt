@@ -149,15 +149,15 @@ module _ (set : List Element) where
             free = λ none. k;
           }) f
 
-  add_edge : (id s d : ℕ) (b : Bool) (c : Body) → complete (AddEdge id s d b) set ≡ Ok c → CanHappen set c
+  add_edge : (id s d : ℕ) (b : Bool) (c : Body) → complete (AddEdge b id s d) set ≡ Ok c → CanHappen set c
   add_edge id s d b c e = by (is_some (edge_of set id)) refl (has_node set s && has_node set d) refl e
     where
       by : (t : Bool) → is_some (edge_of set id) ≡ t → (n : Bool) → (has_node set s && has_node set d) ≡ n
-          → cond t (Err REASON_EDGE_EXISTS) (cond n (Ok (body.EdgeAdded id s d b)) (Err REASON_NO_END)) ≡ Ok c → CanHappen set c
+          → cond t (Err REASON_EDGE_EXISTS) (cond n (Ok (body.EdgeAdded b id s d)) (Err REASON_NO_END)) ≡ Ok c → CanHappen set c
       by true h n k f = absurd (err_ok _ c f)
       by false h false k f = absurd (err_ok _ c f)
       by false h true k f =
-          as_body (body.EdgeAdded id s d b) c (record {
+          as_body (body.EdgeAdded b id s d) c (record {
             before = none_from (at set (Edge id)) h;
             fed = k;
             free = λ none. cc;
@@ -175,7 +175,7 @@ module _ (set : List Element) where
       by (Some (element.Edge b m s d)) is true k f = absurd (err_ok _ c f)
       by (Some (element.Edge b m s d)) is false k f =
           let same = edge_at (element.Edge b m s d) id (at_has set (Edge id) (element.Edge b m s d) is).1 m s d b refl in
-          as_body (body.EdgeRemoved m s d b) c (record {
+          as_body (body.EdgeRemoved b m s d) c (record {
             before = ap (λ q. at set (Edge q)) same ∙ is;
             fed = tt;
             free = λ none. ap (λ q. list_any (needs_id (Edge q)) set) same ∙ k;
@@ -184,10 +184,10 @@ module _ (set : List Element) where
   set_node : (id key v : ℕ) (c : Body) → complete (SetNode id key v) set ≡ Ok c → CanHappen set c
   set_node id key v c e = by (has_node set id) refl e
     where
-      by : (t : Bool) → has_node set id ≡ t → cond t (Ok (body.NodeAttr id key (node_value set id key) (Some v))) (Err REASON_NO_NODE) ≡ Ok c → CanHappen set c
+      by : (t : Bool) → has_node set id ≡ t → cond t (Ok (body.NodeAttr key id (node_value set id key) (Some v))) (Err REASON_NO_NODE) ≡ Ok c → CanHappen set c
       by false h f = absurd (err_ok _ c f)
       by true h f =
-          as_body (body.NodeAttr id key (node_value set id key) (Some v)) c (record {
+          as_body (body.NodeAttr key id (node_value set id key) (Some v)) c (record {
             before = node_value_at id key;
             fed = h;
             free = λ none. cc;
@@ -197,11 +197,11 @@ module _ (set : List Element) where
   unset_node id key c e = by (has_node set id) refl (node_value set id key) refl e
     where
       by : (t : Bool) → has_node set id ≡ t → (o : Option ℕ) → node_value set id key ≡ o
-          → cond t (value_removal (λ old new. body.NodeAttr id key old new) o) (Err REASON_NO_NODE) ≡ Ok c → CanHappen set c
+          → cond t (value_removal (λ old new. body.NodeAttr key id old new) o) (Err REASON_NO_NODE) ≡ Ok c → CanHappen set c
       by false h o is f = absurd (err_ok _ c f)
       by true h None is f = absurd (err_ok _ c f)
       by true h (Some v) is f =
-          as_body (body.NodeAttr id key (Some v) None) c (record {
+          as_body (body.NodeAttr key id (Some v) None) c (record {
             before = node_value_at id key ∙ ap (option_map (element.NodeAttr id key)) is;
             fed = tt;
             free = λ none. none_needs set;
@@ -210,10 +210,10 @@ module _ (set : List Element) where
   set_edge : (id key v : ℕ) (c : Body) → complete (SetEdge id key v) set ≡ Ok c → CanHappen set c
   set_edge id key v c e = by (is_some (edge_of set id)) refl e
     where
-      by : (t : Bool) → is_some (edge_of set id) ≡ t → cond t (Ok (body.EdgeAttr id key (edge_value set id key) (Some v))) (Err REASON_NO_EDGE) ≡ Ok c → CanHappen set c
+      by : (t : Bool) → is_some (edge_of set id) ≡ t → cond t (Ok (body.EdgeAttr key id (edge_value set id key) (Some v))) (Err REASON_NO_EDGE) ≡ Ok c → CanHappen set c
       by false h f = absurd (err_ok _ c f)
       by true h f =
-          as_body (body.EdgeAttr id key (edge_value set id key) (Some v)) c (record {
+          as_body (body.EdgeAttr key id (edge_value set id key) (Some v)) c (record {
             before = edge_value_at id key;
             fed = h;
             free = λ none. cc;
@@ -223,11 +223,11 @@ module _ (set : List Element) where
   unset_edge id key c e = by (is_some (edge_of set id)) refl (edge_value set id key) refl e
     where
       by : (t : Bool) → is_some (edge_of set id) ≡ t → (o : Option ℕ) → edge_value set id key ≡ o
-          → cond t (value_removal (λ old new. body.EdgeAttr id key old new) o) (Err REASON_NO_EDGE) ≡ Ok c → CanHappen set c
+          → cond t (value_removal (λ old new. body.EdgeAttr key id old new) o) (Err REASON_NO_EDGE) ≡ Ok c → CanHappen set c
       by false h o is f = absurd (err_ok _ c f)
       by true h None is f = absurd (err_ok _ c f)
       by true h (Some v) is f =
-          as_body (body.EdgeAttr id key (Some v) None) c (record {
+          as_body (body.EdgeAttr key id (Some v) None) c (record {
             before = edge_value_at id key ∙ ap (option_map (element.EdgeAttr id key)) is;
             fed = tt;
             free = λ none. none_needs set;
@@ -250,7 +250,7 @@ module _ (set : List Element) where
   completed_happens : IsGraph set → (w : What) (c : Body) → complete w set ≡ Ok c → CanHappen set c
   completed_happens g (AddNode id) c e = add_node id c e
   completed_happens g (RemoveNode id) c e = remove_node id c e
-  completed_happens g (AddEdge id s d b) c e = add_edge id s d b c e
+  completed_happens g (AddEdge b id s d) c e = add_edge id s d b c e
   completed_happens g (RemoveEdge id) c e = remove_edge id c e
   completed_happens g (SetNode id key v) c e = set_node id key v c e
   completed_happens g (UnsetNode id key) c e = unset_node id key c e
@@ -286,7 +286,7 @@ module _ (set : List Element) where
         free = λ none. not_true (list_any (needs_node id) set) parts.1;
       }
 
-  added_edge : (id s d : ℕ) (b : Bool) → is_change_of set (body.EdgeAdded id s d b) ≡ true → CanHappen set (body.EdgeAdded id s d b)
+  added_edge : (id s d : ℕ) (b : Bool) → is_change_of set (body.EdgeAdded b id s d) ≡ true → CanHappen set (body.EdgeAdded b id s d)
   added_edge id s d b e =
       let parts = both (not (is_some (edge_of set id))) (has_node set s && has_node set d) e in
       record {
@@ -295,7 +295,7 @@ module _ (set : List Element) where
         free = λ none. cc;
       }
 
-  removed_edge : (id s d : ℕ) (b : Bool) → is_change_of set (body.EdgeRemoved id s d b) ≡ true → CanHappen set (body.EdgeRemoved id s d b)
+  removed_edge : (id s d : ℕ) (b : Bool) → is_change_of set (body.EdgeRemoved b id s d) ≡ true → CanHappen set (body.EdgeRemoved b id s d)
   removed_edge id s d b e =
       let parts = both (is_found (edge_of set id) (element.Edge b id s d)) (not (list_any (needs_edge id) set)) e in
       record {
@@ -304,7 +304,7 @@ module _ (set : List Element) where
         free = λ none. not_true (list_any (needs_edge id) set) parts.1;
       }
 
-  moved_node_value : (id key : ℕ) (old new : Option ℕ) → is_change_of set (body.NodeAttr id key old new) ≡ true → CanHappen set (body.NodeAttr id key old new)
+  moved_node_value : (id key : ℕ) (old new : Option ℕ) → is_change_of set (body.NodeAttr key id old new) ≡ true → CanHappen set (body.NodeAttr key id old new)
   moved_node_value id key old new e =
       let parts = both (has_node set id) (is_value_change (node_value set id key) old new) e in
       record {
@@ -313,7 +313,7 @@ module _ (set : List Element) where
         free = λ none. none_needs set;
       }
 
-  moved_edge_value : (id key : ℕ) (old new : Option ℕ) → is_change_of set (body.EdgeAttr id key old new) ≡ true → CanHappen set (body.EdgeAttr id key old new)
+  moved_edge_value : (id key : ℕ) (old new : Option ℕ) → is_change_of set (body.EdgeAttr key id old new) ≡ true → CanHappen set (body.EdgeAttr key id old new)
   moved_edge_value id key old new e =
       let parts = both (is_some (edge_of set id)) (is_value_change (edge_value set id key) old new) e in
       record {
@@ -326,10 +326,10 @@ module _ (set : List Element) where
   followed_happens : IsGraph set → (b : Body) → is_change_of set b ≡ true → CanHappen set b
   followed_happens g (body.NodeAdded id) e = added_node id e
   followed_happens g (body.NodeRemoved id) e = removed_node id e
-  followed_happens g (body.EdgeAdded id s d b) e = added_edge id s d b e
-  followed_happens g (body.EdgeRemoved id s d b) e = removed_edge id s d b e
-  followed_happens g (body.NodeAttr id key old new) e = moved_node_value id key old new e
-  followed_happens g (body.EdgeAttr id key old new) e = moved_edge_value id key old new e
+  followed_happens g (body.EdgeAdded b id s d) e = added_edge id s d b e
+  followed_happens g (body.EdgeRemoved b id s d) e = removed_edge id s d b e
+  followed_happens g (body.NodeAttr key id old new) e = moved_node_value id key old new e
+  followed_happens g (body.EdgeAttr key id old new) e = moved_edge_value id key old new e
   followed_happens g (body.Message s d v) e = told g s d v
 
 -- the same by an answer that was given in a set that is this one

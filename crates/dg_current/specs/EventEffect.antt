@@ -19,30 +19,30 @@ use Rattle.dg_current.specs.HeldGraph.{HeldGraphState, IsKnown}
 abbrev pub changed_id : Body → ElementId
 changed_id (body.NodeAdded id) = element_id.Node id
 changed_id (body.NodeRemoved id) = element_id.Node id
-changed_id (body.EdgeAdded id src dst directed) = element_id.Edge id
-changed_id (body.EdgeRemoved id src dst directed) = element_id.Edge id
-changed_id (body.NodeAttr id key old new) = element_id.NodeValue key id
-changed_id (body.EdgeAttr id key old new) = element_id.EdgeValue key id
+changed_id (body.EdgeAdded directed id src dst) = element_id.Edge id
+changed_id (body.EdgeRemoved directed id src dst) = element_id.Edge id
+changed_id (body.NodeAttr key id old new) = element_id.NodeValue key id
+changed_id (body.EdgeAttr key id old new) = element_id.EdgeValue key id
 changed_id (body.Message src dst value) = element_id.Message value src dst
 
 -- the element with that id before the event
 abbrev pub element_before : Body → Option Element
 element_before (body.NodeAdded id) = None
 element_before (body.NodeRemoved id) = Some (element.Node id)
-element_before (body.EdgeAdded id src dst directed) = None
-element_before (body.EdgeRemoved id src dst directed) = Some (element.Edge directed id src dst)
-element_before (body.NodeAttr id key old new) = option_map (element.NodeAttr id key) old
-element_before (body.EdgeAttr id key old new) = option_map (element.EdgeAttr id key) old
+element_before (body.EdgeAdded directed id src dst) = None
+element_before (body.EdgeRemoved directed id src dst) = Some (element.Edge directed id src dst)
+element_before (body.NodeAttr key id old new) = option_map (element.NodeAttr id key) old
+element_before (body.EdgeAttr key id old new) = option_map (element.EdgeAttr id key) old
 element_before (body.Message src dst value) = None
 
 -- the element with that id after it
 abbrev pub element_after : Body → Option Element
 element_after (body.NodeAdded id) = Some (element.Node id)
 element_after (body.NodeRemoved id) = None
-element_after (body.EdgeAdded id src dst directed) = Some (element.Edge directed id src dst)
-element_after (body.EdgeRemoved id src dst directed) = None
-element_after (body.NodeAttr id key old new) = option_map (element.NodeAttr id key) new
-element_after (body.EdgeAttr id key old new) = option_map (element.EdgeAttr id key) new
+element_after (body.EdgeAdded directed id src dst) = Some (element.Edge directed id src dst)
+element_after (body.EdgeRemoved directed id src dst) = None
+element_after (body.NodeAttr key id old new) = option_map (element.NodeAttr id key) new
+element_after (body.EdgeAttr key id old new) = option_map (element.EdgeAttr id key) new
 element_after (body.Message src dst value) = None
 
 -- The event can happen in the graph: the element that it changes is as the event says, the one that

@@ -114,7 +114,7 @@ fn remove_node(graph: &HeldGraph, id: u64) -> Result<Body, u8>
 }
 
 fn add_edge(graph: &HeldGraph, id: u64, src: u64, dst: u64, directed: bool) -> Result<Body, u8>
-    ensures { result ≡ complete (what.AddEdge id src dst directed) graph.now.set }
+    ensures { result ≡ complete (what.AddEdge directed id src dst) graph.now.set }
 {
     if edge_of(graph, id).is_some() {
         return Err(REASON_EDGE_EXISTS);

@@ -25,12 +25,12 @@ use Rattle.dg_fold.specs.HistoryTrees.{LegalIsIndexed}
 body_fits : (n : ℕ) (set : List Element) (b : Body) → FitsBody n b → is_change_of set b ≡ true → BodyFits n b
 body_fits n set (body.NodeAdded id) h c = h
 body_fits n set (body.NodeRemoved id) h c = h
-body_fits n set (body.EdgeAdded id src dst directed) h c = h
-body_fits n set (body.EdgeRemoved id src dst directed) h c = h
-body_fits n set (body.NodeAttr id key old new) h c =
+body_fits n set (body.EdgeAdded directed id src dst) h c = h
+body_fits n set (body.EdgeRemoved directed id src dst) h c = h
+body_fits n set (body.NodeAttr key id old new) h c =
     let change = (and_parts (has_node set id) (is_value_change (node_value set id key) old new) c).1 in
     record { id_fits = h.0; key_fits = h.1; old_fits = h.2; new_fits = h.3; some = (and_parts (option_eq nat_eq old (node_value set id key)) (is_some old || is_some new) change).1 }
-body_fits n set (body.EdgeAttr id key old new) h c =
+body_fits n set (body.EdgeAttr key id old new) h c =
     let change = (and_parts (is_some (edge_of set id)) (is_value_change (edge_value set id key) old new) c).1 in
     record { id_fits = h.0; key_fits = h.1; old_fits = h.2; new_fits = h.3; some = (and_parts (option_eq nat_eq old (edge_value set id key)) (is_some old || is_some new) change).1 }
 body_fits n set (body.Message src dst value) h c = h

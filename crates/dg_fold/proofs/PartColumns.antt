@@ -100,19 +100,19 @@ moved_in c make in_c value other = by (option_eq nat_eq value other) value
 added_in : (b : Body) → IfSome (added_by b) (λ y. column_of y ≡ column_of_body b)
 added_in (body.NodeAdded id) = refl
 added_in (body.NodeRemoved id) = tt
-added_in (body.EdgeAdded id src dst directed) = refl
-added_in (body.EdgeRemoved id src dst directed) = tt
-added_in (body.NodeAttr id key old new) = moved_in column.NodeAttr (element.NodeAttr id key) (λ n. refl) new old
-added_in (body.EdgeAttr id key old new) = moved_in column.EdgeAttr (element.EdgeAttr id key) (λ n. refl) new old
+added_in (body.EdgeAdded directed id src dst) = refl
+added_in (body.EdgeRemoved directed id src dst) = tt
+added_in (body.NodeAttr key id old new) = moved_in column.NodeAttr (element.NodeAttr id key) (λ n. refl) new old
+added_in (body.EdgeAttr key id old new) = moved_in column.EdgeAttr (element.EdgeAttr id key) (λ n. refl) new old
 added_in (body.Message src dst value) = tt
 
 removed_in : (b : Body) → IfSome (removed_by b) (λ y. column_of y ≡ column_of_body b)
 removed_in (body.NodeAdded id) = tt
 removed_in (body.NodeRemoved id) = refl
-removed_in (body.EdgeAdded id src dst directed) = tt
-removed_in (body.EdgeRemoved id src dst directed) = refl
-removed_in (body.NodeAttr id key old new) = moved_in column.NodeAttr (element.NodeAttr id key) (λ n. refl) old new
-removed_in (body.EdgeAttr id key old new) = moved_in column.EdgeAttr (element.EdgeAttr id key) (λ n. refl) old new
+removed_in (body.EdgeAdded directed id src dst) = tt
+removed_in (body.EdgeRemoved directed id src dst) = refl
+removed_in (body.NodeAttr key id old new) = moved_in column.NodeAttr (element.NodeAttr id key) (λ n. refl) old new
+removed_in (body.EdgeAttr key id old new) = moved_in column.EdgeAttr (element.EdgeAttr id key) (λ n. refl) old new
 removed_in (body.Message src dst value) = tt
 
 -- an event says nothing of an element of another column
@@ -138,10 +138,10 @@ IsSilent f = (e : Event) (x : Element) → same_column (column_of_body e.body) c
 unmoved : (b : Body) → same_column (column_of_body b) column.Transient ≡ true → (added_by b ≡ None) × (removed_by b ≡ None)
 unmoved (body.NodeAdded id) is = absurd (false≢true is)
 unmoved (body.NodeRemoved id) is = absurd (false≢true is)
-unmoved (body.EdgeAdded id src dst directed) is = absurd (false≢true is)
-unmoved (body.EdgeRemoved id src dst directed) is = absurd (false≢true is)
-unmoved (body.NodeAttr id key old new) is = absurd (false≢true is)
-unmoved (body.EdgeAttr id key old new) is = absurd (false≢true is)
+unmoved (body.EdgeAdded directed id src dst) is = absurd (false≢true is)
+unmoved (body.EdgeRemoved directed id src dst) is = absurd (false≢true is)
+unmoved (body.NodeAttr key id old new) is = absurd (false≢true is)
+unmoved (body.EdgeAttr key id old new) is = absurd (false≢true is)
 unmoved (body.Message src dst value) is = (refl, refl)
 
 effect_silent : IsSilent effect_of

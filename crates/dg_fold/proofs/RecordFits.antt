@@ -65,10 +65,10 @@ moved_fits names make value other fits h = by (option_eq nat_eq value other) val
 added_fits : (names : ℕ) (b : Body) → BodyFits names b → IfSome (added_by b) (ElementFits names)
 added_fits names (body.NodeAdded id) f = f
 added_fits names (body.NodeRemoved id) f = tt
-added_fits names (body.EdgeAdded id src dst directed) f = f
-added_fits names (body.EdgeRemoved id src dst directed) f = tt
-added_fits names (body.NodeAttr id k old new) f = moved_fits names (element.NodeAttr id k) new old (λ n h. (f.id_fits, f.key_fits, h)) f.new_fits
-added_fits names (body.EdgeAttr id k old new) f = moved_fits names (element.EdgeAttr id k) new old (λ n h. (f.id_fits, f.key_fits, h)) f.new_fits
+added_fits names (body.EdgeAdded directed id src dst) f = f
+added_fits names (body.EdgeRemoved directed id src dst) f = tt
+added_fits names (body.NodeAttr k id old new) f = moved_fits names (element.NodeAttr id k) new old (λ n h. (f.id_fits, f.key_fits, h)) f.new_fits
+added_fits names (body.EdgeAttr k id old new) f = moved_fits names (element.EdgeAttr id k) new old (λ n h. (f.id_fits, f.key_fits, h)) f.new_fits
 added_fits names (body.Message src dst value) f = tt
 
 one_fits : (names : ℕ) (o : Option Element) (q : Element) → IfSome o (ElementFits names) → has (option_to_list o) q ≡ true → ElementFits names q
@@ -102,10 +102,10 @@ moved_quiet make quiet value other = by (option_eq nat_eq value other) value
 added_quiet : (b : Body) → IfSome (added_by b) IsNoMessage
 added_quiet (body.NodeAdded id) = refl
 added_quiet (body.NodeRemoved id) = tt
-added_quiet (body.EdgeAdded id src dst directed) = refl
-added_quiet (body.EdgeRemoved id src dst directed) = tt
-added_quiet (body.NodeAttr id k old new) = moved_quiet (element.NodeAttr id k) (λ n. refl) new old
-added_quiet (body.EdgeAttr id k old new) = moved_quiet (element.EdgeAttr id k) (λ n. refl) new old
+added_quiet (body.EdgeAdded directed id src dst) = refl
+added_quiet (body.EdgeRemoved directed id src dst) = tt
+added_quiet (body.NodeAttr k id old new) = moved_quiet (element.NodeAttr id k) (λ n. refl) new old
+added_quiet (body.EdgeAttr k id old new) = moved_quiet (element.EdgeAttr id k) (λ n. refl) new old
 added_quiet (body.Message src dst value) = tt
 
 one_quiet : (o : Option Element) (q : Element) → IfSome o IsNoMessage → has (option_to_list o) q ≡ true → IsNoMessage q

@@ -17,8 +17,8 @@ two_nodes = refl
 -- an edge at 30, and the value 1 of the key 0 at 40
 edge_and_value : List Event
 edge_and_value =
-    record { time = 30; body = body.EdgeAdded 5 1 2 true }
-    ∷ record { time = 40; body = body.NodeAttr 1 0 None (Some 1) } ∷ []
+    record { time = 30; body = body.EdgeAdded true 5 1 2 }
+    ∷ record { time = 40; body = body.NodeAttr 0 1 None (Some 1) } ∷ []
 
 edge_column : events_column column.Structure edge_and_value
     ≡ 0 ∷ 0 ∷ 0 ∷ 1 ∷ 0 ∷ 0 ∷ 0 ∷ 0 ∷ 0 ∷ 0 ∷ 0 ∷ 0 ∷ 0 ∷ 30 ∷ 3 ∷ 0 ∷ 0 ∷ 0 ∷ 0 ∷ 0 ∷ 0 ∷ 0 ∷ 5

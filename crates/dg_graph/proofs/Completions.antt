@@ -57,7 +57,7 @@ pub record IsEdgeRemoval (needed : Bool) (found : Option Element) (b : Body) : T
   pub src : ℕ
   pub dst : ℕ
   pub directed : Bool
-  pub is : body.EdgeRemoved id src dst directed ≡ b
+  pub is : body.EdgeRemoved directed id src dst ≡ b
   pub found_is : found ≡ Some (element.Edge directed id src dst)
   pub free : needed ≡ false
 
@@ -71,13 +71,13 @@ pub record IsValueRemoval (make : Option ℕ → Option ℕ → Body) (found : O
 abbrev pub IsCompletion : What → List Element → Body → Type 0
 IsCompletion (what.AddNode id) set b = (body.NodeAdded id ≡ b) × (has_node set id ≡ false)
 IsCompletion (what.RemoveNode id) set b = (body.NodeRemoved id ≡ b) × (has_node set id ≡ true) × (list_any (needs_node id) set ≡ false)
-IsCompletion (what.AddEdge id src dst directed) set b =
-    (body.EdgeAdded id src dst directed ≡ b) × (is_some (edge_of set id) ≡ false) × ((has_node set src && has_node set dst) ≡ true)
+IsCompletion (what.AddEdge directed id src dst) set b =
+    (body.EdgeAdded directed id src dst ≡ b) × (is_some (edge_of set id) ≡ false) × ((has_node set src && has_node set dst) ≡ true)
 IsCompletion (what.RemoveEdge id) set b = IsEdgeRemoval (list_any (needs_edge id) set) (edge_of set id) b
-IsCompletion (what.SetNode id key value) set b = (body.NodeAttr id key (node_value set id key) (Some value) ≡ b) × (has_node set id ≡ true)
-IsCompletion (what.UnsetNode id key) set b = IsValueRemoval (body.NodeAttr id key) (node_value set id key) b × (has_node set id ≡ true)
-IsCompletion (what.SetEdge id key value) set b = (body.EdgeAttr id key (edge_value set id key) (Some value) ≡ b) × (is_some (edge_of set id) ≡ true)
-IsCompletion (what.UnsetEdge id key) set b = IsValueRemoval (body.EdgeAttr id key) (edge_value set id key) b × (is_some (edge_of set id) ≡ true)
+IsCompletion (what.SetNode id key value) set b = (body.NodeAttr key id (node_value set id key) (Some value) ≡ b) × (has_node set id ≡ true)
+IsCompletion (what.UnsetNode id key) set b = IsValueRemoval (body.NodeAttr key id) (node_value set id key) b × (has_node set id ≡ true)
+IsCompletion (what.SetEdge id key value) set b = (body.EdgeAttr key id (edge_value set id key) (Some value) ≡ b) × (is_some (edge_of set id) ≡ true)
+IsCompletion (what.UnsetEdge id key) set b = IsValueRemoval (body.EdgeAttr key id) (edge_value set id key) b × (is_some (edge_of set id) ≡ true)
 IsCompletion (what.Message src dst value) set b = (body.Message src dst value ≡ b) × ((has_node set src && has_node set dst) ≡ true)
 
 -- a test with a reason on one side
@@ -114,25 +114,25 @@ completion (what.RemoveNode id) set b h =
     let t = unless (not (has_node set id)) _ _ b h in
     let u = unless (list_any (needs_node id) set) _ (Ok (body.NodeRemoved id)) b t.0 in
     (ok_is (body.NodeRemoved id) b u.0, not-false (has_node set id) t.1, u.1)
-completion (what.AddEdge id src dst directed) set b h =
+completion (what.AddEdge directed id src dst) set b h =
     let t = unless (is_some (edge_of set id)) _ _ b h in
-    let u = where_so (has_node set src && has_node set dst) _ (Ok (body.EdgeAdded id src dst directed)) b t.0 in
-    (ok_is (body.EdgeAdded id src dst directed) b u.0, t.1, u.1)
+    let u = where_so (has_node set src && has_node set dst) _ (Ok (body.EdgeAdded directed id src dst)) b t.0 in
+    (ok_is (body.EdgeAdded directed id src dst) b u.0, t.1, u.1)
 completion (what.RemoveEdge id) set b h = edge_removed (list_any (needs_edge id) set) (edge_of set id) b h
 completion (what.SetNode id key value) set b h =
-    let x : Body = body.NodeAttr id key (node_value set id key) (Some value) in
+    let x : Body = body.NodeAttr key id (node_value set id key) (Some value) in
     let t = where_so (has_node set id) _ (Ok x) b h in
     (ok_is x b t.0, t.1)
 completion (what.UnsetNode id key) set b h =
     let t = where_so (has_node set id) _ _ b h in
-    (value_removed (body.NodeAttr id key) (node_value set id key) b t.0, t.1)
+    (value_removed (body.NodeAttr key id) (node_value set id key) b t.0, t.1)
 completion (what.SetEdge id key value) set b h =
-    let x : Body = body.EdgeAttr id key (edge_value set id key) (Some value) in
+    let x : Body = body.EdgeAttr key id (edge_value set id key) (Some value) in
     let t = where_so (is_some (edge_of set id)) _ (Ok x) b h in
     (ok_is x b t.0, t.1)
 completion (what.UnsetEdge id key) set b h =
     let t = where_so (is_some (edge_of set id)) _ _ b h in
-    (value_removed (body.EdgeAttr id key) (edge_value set id key) b t.0, t.1)
+    (value_removed (body.EdgeAttr key id) (edge_value set id key) b t.0, t.1)
 completion (what.Message src dst value) set b h =
     let t = where_so (has_node set src && has_node set dst) _ (Ok (body.Message src dst value)) b h in
     (ok_is (body.Message src dst value) b t.0, t.1)
@@ -170,23 +170,23 @@ comes_to w set b h = by w (completion w set b h)
     by (what.AddNode id) c = so (body.NodeAdded id) c.0 (not_from_false (has_node set id) c.1)
     by (what.RemoveNode id) c =
         so (body.NodeRemoved id) c.0 (and_from (has_node set id) _ c.1 (not_from_false (list_any (needs_node id) set) c.2))
-    by (what.AddEdge id src dst directed) c =
-        so (body.EdgeAdded id src dst directed) c.0 (and_from (not (is_some (edge_of set id))) _ (not_from_false (is_some (edge_of set id)) c.1) c.2)
+    by (what.AddEdge directed id src dst) c =
+        so (body.EdgeAdded directed id src dst) c.0 (and_from (not (is_some (edge_of set id))) _ (not_from_false (is_some (edge_of set id)) c.1) c.2)
     by (what.RemoveEdge id) c =
         let x = element.Edge c.directed c.id c.src c.dst in
         let same_id : c.id ≡ id = eqb-true c.id id (found_in (is_edge id) set x c.found_is).1 in
         let there : is_found (edge_of set c.id) x ≡ true =
         ap (λ (k : ℕ). is_found (edge_of set k) x) same_id ∙ ap (λ (o : Option Element). is_found o x) c.found_is ∙ same_itself x in
         let free : list_any (needs_edge c.id) set ≡ false = ap (λ (k : ℕ). list_any (needs_edge k) set) same_id ∙ c.free in
-        so (body.EdgeRemoved c.id c.src c.dst c.directed) c.is (and_from (is_found (edge_of set c.id) x) _ there (not_from_false (list_any (needs_edge c.id) set) free))
+        so (body.EdgeRemoved c.directed c.id c.src c.dst) c.is (and_from (is_found (edge_of set c.id) x) _ there (not_from_false (list_any (needs_edge c.id) set) free))
     by (what.SetNode id key value) c =
-        so (body.NodeAttr id key (node_value set id key) (Some value)) c.0 (and_from (has_node set id) _ c.1 (value_set (node_value set id key) value))
+        so (body.NodeAttr key id (node_value set id key) (Some value)) c.0 (and_from (has_node set id) _ c.1 (value_set (node_value set id key) value))
     by (what.UnsetNode id key) c =
-        so (body.NodeAttr id key (Some c.0.value) None) c.0.is (and_from (has_node set id) _ c.1 (value_taken (node_value set id key) c.0.value c.0.found_is))
+        so (body.NodeAttr key id (Some c.0.value) None) c.0.is (and_from (has_node set id) _ c.1 (value_taken (node_value set id key) c.0.value c.0.found_is))
     by (what.SetEdge id key value) c =
-        so (body.EdgeAttr id key (edge_value set id key) (Some value)) c.0 (and_from (is_some (edge_of set id)) _ c.1 (value_set (edge_value set id key) value))
+        so (body.EdgeAttr key id (edge_value set id key) (Some value)) c.0 (and_from (is_some (edge_of set id)) _ c.1 (value_set (edge_value set id key) value))
     by (what.UnsetEdge id key) c =
-        so (body.EdgeAttr id key (Some c.0.value) None) c.0.is (and_from (is_some (edge_of set id)) _ c.1 (value_taken (edge_value set id key) c.0.value c.0.found_is))
+        so (body.EdgeAttr key id (Some c.0.value) None) c.0.is (and_from (is_some (edge_of set id)) _ c.1 (value_taken (edge_value set id key) c.0.value c.0.found_is))
     by (what.Message src dst value) c = so (body.Message src dst value) c.0 c.1
 
 -- ---- what a list of changes comes to

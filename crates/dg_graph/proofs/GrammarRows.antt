@@ -11,9 +11,9 @@ use Rattle.dg_graph.specs.ColumnGrammar.{events_in, delta_in}
 history : List Event
 history =
     record { time = 10; body = body.NodeAdded 1 }
-    ∷ record { time = 30; body = body.EdgeAdded 5 1 2 true }
-    ∷ record { time = 40; body = body.NodeAttr 1 0 None (Some 1) }
-    ∷ record { time = 50; body = body.EdgeRemoved 5 1 2 true } ∷ []
+    ∷ record { time = 30; body = body.EdgeAdded true 5 1 2 }
+    ∷ record { time = 40; body = body.NodeAttr 0 1 None (Some 1) }
+    ∷ record { time = 50; body = body.EdgeRemoved true 5 1 2 } ∷ []
 
 structure_back : events_in column.Structure 2 (events_column column.Structure history) ≡ Ok (placed_in column.Structure history)
 unfolding history

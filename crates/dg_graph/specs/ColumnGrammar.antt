@@ -66,14 +66,14 @@ abbrev pub structure_body : ℕ → List ℕ → ℕ → Result Body ℕ
 structure_body kind bytes at =
     if kind == 1 then and_read (eight_bytes any_number bytes at) (λ id. Ok (body.NodeAdded id))
     else (if kind == 2 then and_read (eight_bytes any_number bytes at) (λ id. Ok (body.NodeRemoved id))
-    else (if kind == 3 then edge_fields (λ id src dst directed. body.EdgeAdded id src dst directed) bytes at
-    else edge_fields (λ id src dst directed. body.EdgeRemoved id src dst directed) bytes at))
+    else (if kind == 3 then edge_fields (λ id src dst directed. body.EdgeAdded directed id src dst) bytes at
+    else edge_fields (λ id src dst directed. body.EdgeRemoved directed id src dst) bytes at))
 
 abbrev pub body_at : Column → ℕ → List ℕ → ℕ → Result Body ℕ
 body_at column.Structure names bytes at =
     and_read (one_byte (λ n. nat_le 1 n && nat_le n 4) bytes at) (λ kind. structure_body kind bytes (at + 1))
-body_at column.NodeAttr names bytes at = value_fields (λ id key old new. body.NodeAttr id key old new) names bytes at
-body_at column.EdgeAttr names bytes at = value_fields (λ id key old new. body.EdgeAttr id key old new) names bytes at
+body_at column.NodeAttr names bytes at = value_fields (λ id key old new. body.NodeAttr key id old new) names bytes at
+body_at column.EdgeAttr names bytes at = value_fields (λ id key old new. body.EdgeAttr key id old new) names bytes at
 body_at column.Transient names bytes at =
     and_read (eight_bytes any_number bytes at) (λ src.
     and_read (eight_bytes any_number bytes (at + 8)) (λ dst.
@@ -83,10 +83,10 @@ body_at column.Transient names bytes at =
 abbrev pub body_size : Body → ℕ
 body_size (body.NodeAdded id) = 9
 body_size (body.NodeRemoved id) = 9
-body_size (body.EdgeAdded id src dst directed) = 26
-body_size (body.EdgeRemoved id src dst directed) = 26
-body_size (body.NodeAttr id key old new) = 20
-body_size (body.EdgeAttr id key old new) = 20
+body_size (body.EdgeAdded directed id src dst) = 26
+body_size (body.EdgeRemoved directed id src dst) = 26
+body_size (body.NodeAttr key id old new) = 20
+body_size (body.EdgeAttr key id old new) = 20
 body_size (body.Message src dst value) = 20
 
 -- the end: no byte stands behind the last field

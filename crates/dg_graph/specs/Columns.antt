@@ -59,10 +59,10 @@ delta_column col d = parts_bytes (in_column col d.minus) (in_column col d.plus)
 abbrev pub column_of_body : Body → Column
 column_of_body (body.NodeAdded id) = column.Structure
 column_of_body (body.NodeRemoved id) = column.Structure
-column_of_body (body.EdgeAdded id src dst directed) = column.Structure
-column_of_body (body.EdgeRemoved id src dst directed) = column.Structure
-column_of_body (body.NodeAttr id key old new) = column.NodeAttr
-column_of_body (body.EdgeAttr id key old new) = column.EdgeAttr
+column_of_body (body.EdgeAdded directed id src dst) = column.Structure
+column_of_body (body.EdgeRemoved directed id src dst) = column.Structure
+column_of_body (body.NodeAttr key id old new) = column.NodeAttr
+column_of_body (body.EdgeAttr key id old new) = column.EdgeAttr
 column_of_body (body.Message src dst value) = column.Transient
 
 -- a value's name, one more than its number, or 0 for none
@@ -74,10 +74,10 @@ value_bytes (Some n) = four (n + 1)
 abbrev pub body_bytes : Body → List ℕ
 body_bytes (body.NodeAdded id) = 1 ∷ eight id
 body_bytes (body.NodeRemoved id) = 2 ∷ eight id
-body_bytes (body.EdgeAdded id src dst directed) = 3 ∷ (eight id ++ (eight src ++ (eight dst ++ bit directed ∷ [])))
-body_bytes (body.EdgeRemoved id src dst directed) = 4 ∷ (eight id ++ (eight src ++ (eight dst ++ bit directed ∷ [])))
-body_bytes (body.NodeAttr id key old new) = eight id ++ (four key ++ (value_bytes old ++ value_bytes new))
-body_bytes (body.EdgeAttr id key old new) = eight id ++ (four key ++ (value_bytes old ++ value_bytes new))
+body_bytes (body.EdgeAdded directed id src dst) = 3 ∷ (eight id ++ (eight src ++ (eight dst ++ bit directed ∷ [])))
+body_bytes (body.EdgeRemoved directed id src dst) = 4 ∷ (eight id ++ (eight src ++ (eight dst ++ bit directed ∷ [])))
+body_bytes (body.NodeAttr key id old new) = eight id ++ (four key ++ (value_bytes old ++ value_bytes new))
+body_bytes (body.EdgeAttr key id old new) = eight id ++ (four key ++ (value_bytes old ++ value_bytes new))
 body_bytes (body.Message src dst value) = eight src ++ (eight dst ++ four value)
 
 -- the events with their positions, from n on

@@ -38,7 +38,7 @@ needs_edge id x = false
 
 -- the removal of the edge that was found
 abbrev pub edge_removal : Bool → Option Element → Result Body ℕ
-edge_removal needed (Some (element.Edge directed id src dst)) = if needed then Err REASON_EDGE_IN_USE else Ok (body.EdgeRemoved id src dst directed)
+edge_removal needed (Some (element.Edge directed id src dst)) = if needed then Err REASON_EDGE_IN_USE else Ok (body.EdgeRemoved directed id src dst)
 edge_removal needed found = Err REASON_NO_EDGE
 
 -- the element is a value of this key at this node, or at this edge
@@ -74,18 +74,18 @@ complete (AddNode id) set = if has_node set id then Err REASON_NODE_EXISTS else 
 complete (RemoveNode id) set =
     if not (has_node set id) then Err REASON_NO_NODE
     else (if list_any (needs_node id) set then Err REASON_NODE_IN_USE else Ok (body.NodeRemoved id))
-complete (AddEdge id src dst directed) set =
+complete (AddEdge directed id src dst) set =
     if is_some (edge_of set id) then Err REASON_EDGE_EXISTS
-    else (if has_node set src && has_node set dst then Ok (body.EdgeAdded id src dst directed) else Err REASON_NO_END)
+    else (if has_node set src && has_node set dst then Ok (body.EdgeAdded directed id src dst) else Err REASON_NO_END)
 complete (RemoveEdge id) set = edge_removal (list_any (needs_edge id) set) (edge_of set id)
 complete (SetNode id key value) set =
-    if has_node set id then Ok (body.NodeAttr id key (node_value set id key) (Some value)) else Err REASON_NO_NODE
+    if has_node set id then Ok (body.NodeAttr key id (node_value set id key) (Some value)) else Err REASON_NO_NODE
 complete (UnsetNode id key) set =
-    if has_node set id then value_removal (λ old new. body.NodeAttr id key old new) (node_value set id key) else Err REASON_NO_NODE
+    if has_node set id then value_removal (λ old new. body.NodeAttr key id old new) (node_value set id key) else Err REASON_NO_NODE
 complete (SetEdge id key value) set =
-    if is_some (edge_of set id) then Ok (body.EdgeAttr id key (edge_value set id key) (Some value)) else Err REASON_NO_EDGE
+    if is_some (edge_of set id) then Ok (body.EdgeAttr key id (edge_value set id key) (Some value)) else Err REASON_NO_EDGE
 complete (UnsetEdge id key) set =
-    if is_some (edge_of set id) then value_removal (λ old new. body.EdgeAttr id key old new) (edge_value set id key) else Err REASON_NO_EDGE
+    if is_some (edge_of set id) then value_removal (λ old new. body.EdgeAttr key id old new) (edge_value set id key) else Err REASON_NO_EDGE
 complete (Message src dst value) set =
     if has_node set src && has_node set dst then Ok (body.Message src dst value) else Err REASON_NO_END
 
@@ -102,21 +102,21 @@ is_value_change there old new = option_eq nat_eq old there && (is_some old || is
 abbrev pub has_key : List (List ℕ) → Body → Bool
 has_key names (body.NodeAdded id) = true
 has_key names (body.NodeRemoved id) = true
-has_key names (body.EdgeAdded id src dst directed) = true
-has_key names (body.EdgeRemoved id src dst directed) = true
-has_key names (body.NodeAttr id key old new) = is_key (name_text names key)
-has_key names (body.EdgeAttr id key old new) = is_key (name_text names key)
+has_key names (body.EdgeAdded directed id src dst) = true
+has_key names (body.EdgeRemoved directed id src dst) = true
+has_key names (body.NodeAttr key id old new) = is_key (name_text names key)
+has_key names (body.EdgeAttr key id old new) = is_key (name_text names key)
 has_key names (body.Message src dst value) = true
 
 -- whether this is what some change comes to after the set, whatever the key's text
 abbrev pub is_change_of : List Element → Body → Bool
 is_change_of set (body.NodeAdded id) = not (has_node set id)
 is_change_of set (body.NodeRemoved id) = has_node set id && not (list_any (needs_node id) set)
-is_change_of set (body.EdgeAdded id src dst directed) = not (is_some (edge_of set id)) && (has_node set src && has_node set dst)
-is_change_of set (body.EdgeRemoved id src dst directed) =
+is_change_of set (body.EdgeAdded directed id src dst) = not (is_some (edge_of set id)) && (has_node set src && has_node set dst)
+is_change_of set (body.EdgeRemoved directed id src dst) =
     is_found (edge_of set id) (element.Edge directed id src dst) && not (list_any (needs_edge id) set)
-is_change_of set (body.NodeAttr id key old new) = has_node set id && is_value_change (node_value set id key) old new
-is_change_of set (body.EdgeAttr id key old new) = is_some (edge_of set id) && is_value_change (edge_value set id key) old new
+is_change_of set (body.NodeAttr key id old new) = has_node set id && is_value_change (node_value set id key) old new
+is_change_of set (body.EdgeAttr key id old new) = is_some (edge_of set id) && is_value_change (edge_value set id key) old new
 is_change_of set (body.Message src dst value) = has_node set src && has_node set dst
 
 -- whether some change comes to this after the set, in a history with these names

@@ -16,20 +16,20 @@ moved make value other = if option_eq nat_eq value other then None else option_m
 abbrev pub removed_by : Body → Option Element
 removed_by (body.NodeAdded id) = None
 removed_by (body.NodeRemoved id) = Some (element.Node id)
-removed_by (body.EdgeAdded id src dst directed) = None
-removed_by (body.EdgeRemoved id src dst directed) = Some (element.Edge directed id src dst)
-removed_by (body.NodeAttr id key old new) = moved (element.NodeAttr id key) old new
-removed_by (body.EdgeAttr id key old new) = moved (element.EdgeAttr id key) old new
+removed_by (body.EdgeAdded directed id src dst) = None
+removed_by (body.EdgeRemoved directed id src dst) = Some (element.Edge directed id src dst)
+removed_by (body.NodeAttr key id old new) = moved (element.NodeAttr id key) old new
+removed_by (body.EdgeAttr key id old new) = moved (element.EdgeAttr id key) old new
 removed_by (body.Message src dst value) = None
 
 -- the element that the event adds
 abbrev pub added_by : Body → Option Element
 added_by (body.NodeAdded id) = Some (element.Node id)
 added_by (body.NodeRemoved id) = None
-added_by (body.EdgeAdded id src dst directed) = Some (element.Edge directed id src dst)
-added_by (body.EdgeRemoved id src dst directed) = None
-added_by (body.NodeAttr id key old new) = moved (element.NodeAttr id key) new old
-added_by (body.EdgeAttr id key old new) = moved (element.EdgeAttr id key) new old
+added_by (body.EdgeAdded directed id src dst) = Some (element.Edge directed id src dst)
+added_by (body.EdgeRemoved directed id src dst) = None
+added_by (body.NodeAttr key id old new) = moved (element.NodeAttr id key) new old
+added_by (body.EdgeAttr key id old new) = moved (element.EdgeAttr id key) new old
 added_by (body.Message src dst value) = None
 
 -- the set after the event: without what it removes, and with what it adds

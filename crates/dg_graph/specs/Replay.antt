@@ -30,10 +30,10 @@ replay_at events t = replay (events_until events t)
 abbrev pub message_of : Body → Option Element
 message_of (body.NodeAdded id) = None
 message_of (body.NodeRemoved id) = None
-message_of (body.EdgeAdded id src dst directed) = None
-message_of (body.EdgeRemoved id src dst directed) = None
-message_of (body.NodeAttr id key old new) = None
-message_of (body.EdgeAttr id key old new) = None
+message_of (body.EdgeAdded directed id src dst) = None
+message_of (body.EdgeRemoved directed id src dst) = None
+message_of (body.NodeAttr key id old new) = None
+message_of (body.EdgeAttr key id old new) = None
 message_of (body.Message src dst value) = Some (element.Message src dst value)
 
 -- the messages of exactly the instant, as a set

@@ -99,10 +99,10 @@ IsMessage x = column_of x ≡ column.Transient
 pub message_is : (b : Body) → IfSome (message_of b) IsMessage
 message_is (body.NodeAdded id) = tt
 message_is (body.NodeRemoved id) = tt
-message_is (body.EdgeAdded id src dst directed) = tt
-message_is (body.EdgeRemoved id src dst directed) = tt
-message_is (body.NodeAttr id key old new) = tt
-message_is (body.EdgeAttr id key old new) = tt
+message_is (body.EdgeAdded directed id src dst) = tt
+message_is (body.EdgeRemoved directed id src dst) = tt
+message_is (body.NodeAttr key id old new) = tt
+message_is (body.EdgeAttr key id old new) = tt
 message_is (body.Message src dst value) = refl
 
 one_is : (t : ℕ) (e : Event) → IfSome (message_at t e) IsMessage

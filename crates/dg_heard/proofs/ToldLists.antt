@@ -59,10 +59,10 @@ messages_of events = map (λ (p : Placed). p.event) (placed_in column.Transient 
 no_message : (b : Body) → same_column (column_of_body b) column.Transient ≡ false → message_of b ≡ None
 no_message (body.NodeAdded id) other = refl
 no_message (body.NodeRemoved id) other = refl
-no_message (body.EdgeAdded id src dst directed) other = refl
-no_message (body.EdgeRemoved id src dst directed) other = refl
-no_message (body.NodeAttr id key old new) other = refl
-no_message (body.EdgeAttr id key old new) other = refl
+no_message (body.EdgeAdded directed id src dst) other = refl
+no_message (body.EdgeRemoved directed id src dst) other = refl
+no_message (body.NodeAttr key id old new) other = refl
+no_message (body.EdgeAttr key id old new) other = refl
 no_message (body.Message src dst value) other = absurd (false≢true (sym other))
 
 none_at : (t : ℕ) (e : Event) → message_of e.body ≡ None → message_at t e ≡ None

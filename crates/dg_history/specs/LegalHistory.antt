@@ -18,11 +18,11 @@ use Rattle.dg_graph.specs.Replay.{replay}
 abbrev pub FitsBody : ℕ → Body → Type 0
 FitsBody names (body.NodeAdded id) = id < 2 ^ 64
 FitsBody names (body.NodeRemoved id) = id < 2 ^ 64
-FitsBody names (body.EdgeAdded id src dst directed) = (id < 2 ^ 64) × (src < 2 ^ 64) × (dst < 2 ^ 64)
-FitsBody names (body.EdgeRemoved id src dst directed) = (id < 2 ^ 64) × (src < 2 ^ 64) × (dst < 2 ^ 64)
-FitsBody names (body.NodeAttr id key old new) =
+FitsBody names (body.EdgeAdded directed id src dst) = (id < 2 ^ 64) × (src < 2 ^ 64) × (dst < 2 ^ 64)
+FitsBody names (body.EdgeRemoved directed id src dst) = (id < 2 ^ 64) × (src < 2 ^ 64) × (dst < 2 ^ 64)
+FitsBody names (body.NodeAttr key id old new) =
     (id < 2 ^ 64) × (key < names) × IfSome old (λ n. n < names) × IfSome new (λ n. n < names)
-FitsBody names (body.EdgeAttr id key old new) =
+FitsBody names (body.EdgeAttr key id old new) =
     (id < 2 ^ 64) × (key < names) × IfSome old (λ n. n < names) × IfSome new (λ n. n < names)
 FitsBody names (body.Message src dst value) = (src < 2 ^ 64) × (dst < 2 ^ 64) × (value < names)
 
@@ -46,10 +46,10 @@ AreLegalAfter names before (b ∷ more) = IsLegalBatch names before b × AreLega
 abbrev pub is_message : Body → Bool
 is_message (body.NodeAdded id) = false
 is_message (body.NodeRemoved id) = false
-is_message (body.EdgeAdded id src dst directed) = false
-is_message (body.EdgeRemoved id src dst directed) = false
-is_message (body.NodeAttr id key old new) = false
-is_message (body.EdgeAttr id key old new) = false
+is_message (body.EdgeAdded directed id src dst) = false
+is_message (body.EdgeRemoved directed id src dst) = false
+is_message (body.NodeAttr key id old new) = false
+is_message (body.EdgeAttr key id old new) = false
 is_message (body.Message src dst value) = true
 
 -- none of the events is a message

@@ -22,10 +22,10 @@ value_long (Some n) = refl
 body_fits : (b : Body) → length (body_bytes b) ≤ 26
 body_fits (body.NodeAdded id) = omega arith
 body_fits (body.NodeRemoved id) = omega arith
-body_fits (body.EdgeAdded id src dst directed) = omega arith
-body_fits (body.EdgeRemoved id src dst directed) = omega arith
-body_fits (body.NodeAttr id key old new) = omega (arith, value_long old, value_long new, length-append (value_bytes old) (value_bytes new))
-body_fits (body.EdgeAttr id key old new) = omega (arith, value_long old, value_long new, length-append (value_bytes old) (value_bytes new))
+body_fits (body.EdgeAdded directed id src dst) = omega arith
+body_fits (body.EdgeRemoved directed id src dst) = omega arith
+body_fits (body.NodeAttr key id old new) = omega (arith, value_long old, value_long new, length-append (value_bytes old) (value_bytes new))
+body_fits (body.EdgeAttr key id old new) = omega (arith, value_long old, value_long new, length-append (value_bytes old) (value_bytes new))
 body_fits (body.Message src dst value) = omega arith
 
 placed_fits : (p : Placed) → length (placed_bytes p) ≤ 36
@@ -64,10 +64,10 @@ one_more : (at time : ℕ) (b : Body) (messages : List Placed) → Short message
     → Short (cond (same_column (column_of_body b) column.Transient) (record { at = at; event = record { time = time; body = b } } ∷ messages) messages)
 one_more at time (body.NodeAdded id) messages h = h
 one_more at time (body.NodeRemoved id) messages h = h
-one_more at time (body.EdgeAdded id src dst directed) messages h = h
-one_more at time (body.EdgeRemoved id src dst directed) messages h = h
-one_more at time (body.NodeAttr id key old new) messages h = h
-one_more at time (body.EdgeAttr id key old new) messages h = h
+one_more at time (body.EdgeAdded directed id src dst) messages h = h
+one_more at time (body.EdgeRemoved directed id src dst) messages h = h
+one_more at time (body.NodeAttr key id old new) messages h = h
+one_more at time (body.EdgeAttr key id old new) messages h = h
 one_more at time (body.Message src dst value) messages h = omega (arith, h)
 
 messages_short : (placed : List Placed) → Short (messages_in placed)

@@ -97,10 +97,10 @@ silent_take (suc n) (x ∷ xs) e =
 other_column : (b : Body) → not (is_message b) ≡ true → same_column (column_of_body b) column.Transient ≡ false
 other_column (body.NodeAdded id) e = refl
 other_column (body.NodeRemoved id) e = refl
-other_column (body.EdgeAdded id src dst directed) e = refl
-other_column (body.EdgeRemoved id src dst directed) e = refl
-other_column (body.NodeAttr id key old new) e = refl
-other_column (body.EdgeAttr id key old new) e = refl
+other_column (body.EdgeAdded directed id src dst) e = refl
+other_column (body.EdgeRemoved directed id src dst) e = refl
+other_column (body.NodeAttr key id old new) e = refl
+other_column (body.EdgeAttr key id old new) e = refl
 other_column (body.Message src dst value) e = absurd (false≢true e)
 
 none_placed : (n : ℕ) (events : List Event) → are_silent events ≡ true → filter (λ (p : Placed). same_column (column_of_body p.event.body) column.Transient) (placed_from n events) ≡ []

@@ -77,10 +77,10 @@ module _ (names : ℕ) (image bytes : List ℕ) (o : Opening) (i : ℕ) (is : by
 body_named : (names : ℕ) (b : Body) → BodyFits names b → BodyHasNamesThere names b
 body_named names (body.NodeAdded id) h = tt
 body_named names (body.NodeRemoved id) h = tt
-body_named names (body.EdgeAdded id src dst directed) h = tt
-body_named names (body.EdgeRemoved id src dst directed) h = tt
-body_named names (body.NodeAttr id key old new) h = (h.key_fits, h.old_fits, h.new_fits)
-body_named names (body.EdgeAttr id key old new) h = (h.key_fits, h.old_fits, h.new_fits)
+body_named names (body.EdgeAdded directed id src dst) h = tt
+body_named names (body.EdgeRemoved directed id src dst) h = tt
+body_named names (body.NodeAttr key id old new) h = (h.key_fits, h.old_fits, h.new_fits)
+body_named names (body.EdgeAttr key id old new) h = (h.key_fits, h.old_fits, h.new_fits)
 body_named names (body.Message src dst value) h = h.2
 
 pub events_named : (names earliest : ℕ) (events : List Event) → EventsFit names earliest events → EventNamesAreThere names events

@@ -47,10 +47,10 @@ moved_of make value other made = by (option_eq nat_eq value other) value
 added_of : (b : Body) → IfSome (added_by b) IsOfGraph
 added_of (body.NodeAdded id) = refl
 added_of (body.NodeRemoved id) = tt
-added_of (body.EdgeAdded id src dst directed) = refl
-added_of (body.EdgeRemoved id src dst directed) = tt
-added_of (body.NodeAttr id key old new) = moved_of (element.NodeAttr id key) new old (λ n. refl)
-added_of (body.EdgeAttr id key old new) = moved_of (element.EdgeAttr id key) new old (λ n. refl)
+added_of (body.EdgeAdded directed id src dst) = refl
+added_of (body.EdgeRemoved directed id src dst) = tt
+added_of (body.NodeAttr key id old new) = moved_of (element.NodeAttr id key) new old (λ n. refl)
+added_of (body.EdgeAttr key id old new) = moved_of (element.EdgeAttr id key) new old (λ n. refl)
 added_of (body.Message src dst value) = tt
 
 without_of : (set : List Element) (o : Option Element) → All IsOfGraph set → All IsOfGraph (without set o)

@@ -29,10 +29,10 @@ told_is t (e ∷ events) = first_put [] (message_at t e) (messages_at t events) 
 message_named : (names : ℕ) (b : Body) → BodyHasNamesThere names b → IfSome (message_of b) (HasNamesThere names)
 message_named names (body.NodeAdded id) h = tt
 message_named names (body.NodeRemoved id) h = tt
-message_named names (body.EdgeAdded id src dst directed) h = tt
-message_named names (body.EdgeRemoved id src dst directed) h = tt
-message_named names (body.NodeAttr id key old new) h = tt
-message_named names (body.EdgeAttr id key old new) h = tt
+message_named names (body.EdgeAdded directed id src dst) h = tt
+message_named names (body.EdgeRemoved directed id src dst) h = tt
+message_named names (body.NodeAttr key id old new) h = tt
+message_named names (body.EdgeAttr key id old new) h = tt
 message_named names (body.Message src dst value) h = h
 
 one_named : (names : ℕ) (set : List Element) (o : Option Element) → NamesAreThere names set → IfSome o (HasNamesThere names) → NamesAreThere names (with_one set o)

@@ -246,20 +246,20 @@ module _ (set : List Element) (g : IsGraph set) where
   graph_forwards (body.NodeRemoved id) e =
       let free = not-true (list_any (needs_node id) set) (and_parts (has_node set id) (not (list_any (needs_node id) set)) e).1 in
       out_graph (element.Node id) set g (node_spared id free)
-  graph_forwards (body.EdgeAdded id s d b) e =
+  graph_forwards (body.EdgeAdded b id s d) e =
       let parts = and_parts (not (is_some (edge_of set id))) (has_node set s && has_node set d) e in
       let none = none_from (edge_of set id) (not-true (is_some (edge_of set id)) parts.0) in
       put_graph (element.Edge b id s d) set g parts.1 (λ y there. found_none (is_edge id) set none y there)
-  graph_forwards (body.EdgeRemoved id s d b) e =
+  graph_forwards (body.EdgeRemoved b id s d) e =
       let found = is_found (edge_of set id) (element.Edge b id s d) in
       let free = not-true (list_any (needs_edge id) set) (and_parts found (not (list_any (needs_edge id) set)) e).1 in
       out_graph (element.Edge b id s d) set g (edge_spared id s d b free)
-  graph_forwards (body.NodeAttr id key old new) e =
+  graph_forwards (body.NodeAttr key id old new) e =
       let parts = and_parts (has_node set id) (is_value_change (node_value set id key) old new) e in
       value_graph set g (is_node_value id key) (element.NodeAttr id key) (node_attr_found id key) (node_valued id key)
       (g.one_node_value id key) (λ v y. refl) (λ v n is. cc) (λ v n f. false≢true f) (λ v. parts.0) old new
       (old_is (node_value set id key) old new parts.1)
-  graph_forwards (body.EdgeAttr id key old new) e =
+  graph_forwards (body.EdgeAttr key id old new) e =
       let parts = and_parts (is_some (edge_of set id)) (is_value_change (edge_value set id key) old new) e in
       value_graph set g (is_edge_value id key) (element.EdgeAttr id key) (edge_attr_found id key) (edge_valued id key)
       (g.one_edge_value id key) (λ v y. refl) (λ v n is. cc) (λ v n f. false≢true f) (λ v. parts.0) old new

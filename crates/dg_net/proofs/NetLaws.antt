@@ -78,15 +78,15 @@ module _ (set : List Element) (g : IsGraph set) where
   removed_there : (b : Body) → is_change_of set b ≡ true → IfSome (removed_by b) (λ x. has set x ≡ true)
   removed_there (body.NodeAdded id) e = tt
   removed_there (body.NodeRemoved id) e = (and_parts (has_node set id) (not (list_any (needs_node id) set)) e).0
-  removed_there (body.EdgeAdded id s d b) e = tt
-  removed_there (body.EdgeRemoved id s d b) e =
+  removed_there (body.EdgeAdded b id s d) e = tt
+  removed_there (body.EdgeRemoved b id s d) e =
       let x = element.Edge b id s d in
       edge_found set id x (and_parts (is_found (edge_of set id) x) (not (list_any (needs_edge id) set)) e).0
-  removed_there (body.NodeAttr id key old new) e =
+  removed_there (body.NodeAttr key id old new) e =
       let value = (and_parts (has_node set id) (is_value_change (node_value set id key) old new) e).1 in
       value_removed set (is_node_value id key) (element.NodeAttr id key) (node_attr_found id key) (node_valued id key) (λ v. two_itself id key)
       (g.one_node_value id key) old new (old_is (node_value set id key) old new value)
-  removed_there (body.EdgeAttr id key old new) e =
+  removed_there (body.EdgeAttr key id old new) e =
       let value = (and_parts (is_some (edge_of set id)) (is_value_change (edge_value set id key) old new) e).1 in
       value_removed set (is_edge_value id key) (element.EdgeAttr id key) (edge_attr_found id key) (edge_valued id key) (λ v. two_itself id key)
       (g.one_edge_value id key) old new (old_is (edge_value set id key) old new value)
@@ -95,15 +95,15 @@ module _ (set : List Element) (g : IsGraph set) where
   added_absent : (b : Body) → is_change_of set b ≡ true → IfSome (added_by b) (λ x. has set x ≡ false)
   added_absent (body.NodeAdded id) e = not-true (has_node set id) e
   added_absent (body.NodeRemoved id) e = tt
-  added_absent (body.EdgeAdded id s d b) e =
+  added_absent (body.EdgeAdded b id s d) e =
       let none = not-true (is_some (edge_of set id)) (and_parts (not (is_some (edge_of set id))) (has_node set s && has_node set d) e).0 in
       absent (is_edge id) set (element.Edge b id s d) (none_from (edge_of set id) none) (eq-eqb id id refl)
-  added_absent (body.EdgeRemoved id s d b) e = tt
-  added_absent (body.NodeAttr id key old new) e =
+  added_absent (body.EdgeRemoved b id s d) e = tt
+  added_absent (body.NodeAttr key id old new) e =
       let value = (and_parts (has_node set id) (is_value_change (node_value set id key) old new) e).1 in
       value_added set (is_node_value id key) (element.NodeAttr id key) (node_attr_found id key) (node_valued id key) (λ v. two_itself id key)
       (g.one_node_value id key) old new (old_is (node_value set id key) old new value)
-  added_absent (body.EdgeAttr id key old new) e =
+  added_absent (body.EdgeAttr key id old new) e =
       let value = (and_parts (is_some (edge_of set id)) (is_value_change (edge_value set id key) old new) e).1 in
       value_added set (is_edge_value id key) (element.EdgeAttr id key) (edge_attr_found id key) (edge_valued id key) (λ v. two_itself id key)
       (g.one_edge_value id key) old new (old_is (edge_value set id key) old new value)

@@ -120,18 +120,18 @@ module _ (names : ℕ) where
     structure_there : (kind at : ℕ) (what : Body) → structure_body kind bytes at ≡ Ok what → BodyHasNamesThere names what
     structure_there kind at what e = by (kind == 1) (kind == 2) (kind == 3) e
       where
-        by : (a b c : Bool) → cond a (and_read (eight_bytes any_number bytes at) (λ id. Ok (body.NodeAdded id))) (cond b (and_read (eight_bytes any_number bytes at) (λ id. Ok (body.NodeRemoved id))) (cond c (edge_fields (λ id src dst d. body.EdgeAdded id src dst d) bytes at) (edge_fields (λ id src dst d. body.EdgeRemoved id src dst d) bytes at))) ≡ Ok what → BodyHasNamesThere names what
+        by : (a b c : Bool) → cond a (and_read (eight_bytes any_number bytes at) (λ id. Ok (body.NodeAdded id))) (cond b (and_read (eight_bytes any_number bytes at) (λ id. Ok (body.NodeRemoved id))) (cond c (edge_fields (λ id src dst d. body.EdgeAdded d id src dst) bytes at) (edge_fields (λ id src dst d. body.EdgeRemoved d id src dst) bytes at))) ≡ Ok what → BodyHasNamesThere names what
         by true b c e = node_read (BodyHasNamesThere names) (λ id. body.NodeAdded id) at what (λ id. tt) e
         by false true c e = node_read (BodyHasNamesThere names) (λ id. body.NodeRemoved id) at what (λ id. tt) e
-        by false false true e = edge_read (BodyHasNamesThere names) (λ id src dst d. body.EdgeAdded id src dst d) at what (λ id src dst d. tt) e
-        by false false false e = edge_read (BodyHasNamesThere names) (λ id src dst d. body.EdgeRemoved id src dst d) at what (λ id src dst d. tt) e
+        by false false true e = edge_read (BodyHasNamesThere names) (λ id src dst d. body.EdgeAdded d id src dst) at what (λ id src dst d. tt) e
+        by false false false e = edge_read (BodyHasNamesThere names) (λ id src dst d. body.EdgeRemoved d id src dst) at what (λ id src dst d. tt) e
 
     body_there : (col : Column) (at : ℕ) (what : Body) → body_at col names bytes at ≡ Ok what → BodyHasNamesThere names what
     body_there column.Structure at what e =
         let k = bind_ok (one_byte (λ n. nat_le 1 n && nat_le n 4) bytes at) (λ kind. structure_body kind bytes (at + 1)) what e in
         structure_there k.0 (at + 1) what k.2
-    body_there column.NodeAttr at what e = change_there (λ id key old new. body.NodeAttr id key old new) at what (λ id key old new h. h) e
-    body_there column.EdgeAttr at what e = change_there (λ id key old new. body.EdgeAttr id key old new) at what (λ id key old new h. h) e
+    body_there column.NodeAttr at what e = change_there (λ id key old new. body.NodeAttr key id old new) at what (λ id key old new h. h) e
+    body_there column.EdgeAttr at what e = change_there (λ id key old new. body.EdgeAttr key id old new) at what (λ id key old new h. h) e
     body_there column.Transient at what e =
         let last : ℕ → ℕ → ℕ → Result Body ℕ = λ src dst value. Ok (body.Message src dst value) in
         let is_value : ℕ → Bool = λ n. nat_lt n names in

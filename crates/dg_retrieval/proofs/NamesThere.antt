@@ -47,19 +47,19 @@ module _ (names : ℕ) where
   added_there : (b : Body) → BodyHasNamesThere names b → IfSome (added_by b) (HasNamesThere names)
   added_there (body.NodeAdded id) f = tt
   added_there (body.NodeRemoved id) f = tt
-  added_there (body.EdgeAdded id src dst directed) f = tt
-  added_there (body.EdgeRemoved id src dst directed) f = tt
-  added_there (body.NodeAttr id key old new) f = moved_value names (HasNamesThere names) (element.NodeAttr id key) new old (λ n h. (f.0, h)) f.2
-  added_there (body.EdgeAttr id key old new) f = moved_value names (HasNamesThere names) (element.EdgeAttr id key) new old (λ n h. (f.0, h)) f.2
+  added_there (body.EdgeAdded directed id src dst) f = tt
+  added_there (body.EdgeRemoved directed id src dst) f = tt
+  added_there (body.NodeAttr key id old new) f = moved_value names (HasNamesThere names) (element.NodeAttr id key) new old (λ n h. (f.0, h)) f.2
+  added_there (body.EdgeAttr key id old new) f = moved_value names (HasNamesThere names) (element.EdgeAttr id key) new old (λ n h. (f.0, h)) f.2
   added_there (body.Message src dst value) f = tt
 
   removed_there : (b : Body) → BodyHasNamesThere names b → IfSome (removed_by b) (HasNamesThere names)
   removed_there (body.NodeAdded id) f = tt
   removed_there (body.NodeRemoved id) f = tt
-  removed_there (body.EdgeAdded id src dst directed) f = tt
-  removed_there (body.EdgeRemoved id src dst directed) f = tt
-  removed_there (body.NodeAttr id key old new) f = moved_value names (HasNamesThere names) (element.NodeAttr id key) old new (λ n h. (f.0, h)) f.1
-  removed_there (body.EdgeAttr id key old new) f = moved_value names (HasNamesThere names) (element.EdgeAttr id key) old new (λ n h. (f.0, h)) f.1
+  removed_there (body.EdgeAdded directed id src dst) f = tt
+  removed_there (body.EdgeRemoved directed id src dst) f = tt
+  removed_there (body.NodeAttr key id old new) f = moved_value names (HasNamesThere names) (element.NodeAttr id key) old new (λ n h. (f.0, h)) f.1
+  removed_there (body.EdgeAttr key id old new) f = moved_value names (HasNamesThere names) (element.EdgeAttr id key) old new (λ n h. (f.0, h)) f.1
   removed_there (body.Message src dst value) f = tt
 
   -- the graph past the event

@@ -29,10 +29,10 @@ values_fit name_count few set there x h = own x (there x h)
 added_value : (b : Body) → NamesFit b → IfSome (added_by b) ValueFits
 added_value (body.NodeAdded id) f = tt
 added_value (body.NodeRemoved id) f = tt
-added_value (body.EdgeAdded id src dst directed) f = tt
-added_value (body.EdgeRemoved id src dst directed) f = tt
-added_value (body.NodeAttr id key old new) f = moved_value (2 ^ 30) ValueFits (element.NodeAttr id key) new old (λ n h. h) f.2
-added_value (body.EdgeAttr id key old new) f = moved_value (2 ^ 30) ValueFits (element.EdgeAttr id key) new old (λ n h. h) f.2
+added_value (body.EdgeAdded directed id src dst) f = tt
+added_value (body.EdgeRemoved directed id src dst) f = tt
+added_value (body.NodeAttr key id old new) f = moved_value (2 ^ 30) ValueFits (element.NodeAttr id key) new old (λ n h. h) f.2
+added_value (body.EdgeAttr key id old new) f = moved_value (2 ^ 30) ValueFits (element.EdgeAttr id key) new old (λ n h. h) f.2
 added_value (body.Message src dst value) f = tt
 
 -- the graph past the event

@@ -25,8 +25,8 @@ ChangeHasNamesThere name_count key old new = (key < name_count) × IfSome old (�
 
 -- and of an event's body
 abbrev pub BodyHasNamesThere : ℕ → Body → Type 0
-BodyHasNamesThere name_count (body.NodeAttr id key old new) = ChangeHasNamesThere name_count key old new
-BodyHasNamesThere name_count (body.EdgeAttr id key old new) = ChangeHasNamesThere name_count key old new
+BodyHasNamesThere name_count (body.NodeAttr key id old new) = ChangeHasNamesThere name_count key old new
+BodyHasNamesThere name_count (body.EdgeAttr key id old new) = ChangeHasNamesThere name_count key old new
 BodyHasNamesThere name_count (body.Message src dst value) = value < name_count
 BodyHasNamesThere name_count _ = Unit {0}
 

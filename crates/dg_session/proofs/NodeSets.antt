@@ -35,10 +35,10 @@ moved_quiet make quiet value other = by (option_eq nat_eq value other) value
 added_quiet : (b : Body) → IfSome (added_by b) IsNoMessage
 added_quiet (body.NodeAdded id) = refl
 added_quiet (body.NodeRemoved id) = tt
-added_quiet (body.EdgeAdded id src dst directed) = refl
-added_quiet (body.EdgeRemoved id src dst directed) = tt
-added_quiet (body.NodeAttr id k old new) = moved_quiet (element.NodeAttr id k) (λ n. refl) new old
-added_quiet (body.EdgeAttr id k old new) = moved_quiet (element.EdgeAttr id k) (λ n. refl) new old
+added_quiet (body.EdgeAdded directed id src dst) = refl
+added_quiet (body.EdgeRemoved directed id src dst) = tt
+added_quiet (body.NodeAttr k id old new) = moved_quiet (element.NodeAttr id k) (λ n. refl) new old
+added_quiet (body.EdgeAttr k id old new) = moved_quiet (element.EdgeAttr id k) (λ n. refl) new old
 added_quiet (body.Message src dst value) = tt
 
 -- an element of a set, or one that is put into it

@@ -22,9 +22,9 @@ p = record {
     events =
         record { time = 10; body = body.NodeAdded 1 }
         ∷ record { time = 20; body = body.NodeAdded 2 }
-        ∷ record { time = 30; body = body.EdgeAdded 5 1 2 true }
-        ∷ record { time = 40; body = body.NodeAttr 1 0 None (Some 1) }
-        ∷ record { time = 50; body = body.EdgeRemoved 5 1 2 true } ∷ [];
+        ∷ record { time = 30; body = body.EdgeAdded true 5 1 2 }
+        ∷ record { time = 40; body = body.NodeAttr 0 1 None (Some 1) }
+        ∷ record { time = 50; body = body.EdgeRemoved true 5 1 2 } ∷ [];
   } ∷ [];
 }
 

@@ -27,7 +27,7 @@ use Rattle.dg_sound.specs.OwnEvents.{are_completions}
 abbrev pub IsMade : List Element → Body → Type 0
 IsMade set b = (w : What) × (complete w set ≡ Ok b)
 
-edge_made : (id src dst : ℕ) (directed : Bool) (found : Option Element) → is_found found (element.Edge directed id src dst) ≡ true → edge_removal false found ≡ Ok (body.EdgeRemoved id src dst directed)
+edge_made : (id src dst : ℕ) (directed : Bool) (found : Option Element) → is_found found (element.Edge directed id src dst) ≡ true → edge_removal false found ≡ Ok (body.EdgeRemoved directed id src dst)
 edge_made id src dst directed None e = absurd cc
 edge_made id src dst directed (Some y) e = ap (λ (y : Element). edge_removal false (Some y)) (element_exact y (element.Edge directed id src dst) e)
 
@@ -52,20 +52,20 @@ made set (body.NodeRemoved id) e =
     let t = and_parts (has_node set id) _ e in
     let free = not-true (list_any (needs_node id) set) t.1 in
     (RemoveNode id, λ i. cond (not (t.0 i)) (Err REASON_NO_NODE) (cond (free i) (Err REASON_NODE_IN_USE) (Ok (body.NodeRemoved id))))
-made set (body.EdgeAdded id src dst directed) e =
+made set (body.EdgeAdded directed id src dst) e =
     let t = and_parts (not (is_some (edge_of set id))) _ e in
     let free = not-true (is_some (edge_of set id)) t.0 in
-    (AddEdge id src dst directed, λ i. cond (free i) (Err REASON_EDGE_EXISTS) (cond (t.1 i) (Ok (body.EdgeAdded id src dst directed)) (Err REASON_NO_END)))
-made set (body.EdgeRemoved id src dst directed) e =
+    (AddEdge directed id src dst, λ i. cond (free i) (Err REASON_EDGE_EXISTS) (cond (t.1 i) (Ok (body.EdgeAdded directed id src dst)) (Err REASON_NO_END)))
+made set (body.EdgeRemoved directed id src dst) e =
     let t = and_parts (is_found (edge_of set id) (element.Edge directed id src dst)) _ e in
     let free = not-true (list_any (needs_edge id) set) t.1 in
     (RemoveEdge id, ap (λ b. edge_removal b (edge_of set id)) free ∙ edge_made id src dst directed (edge_of set id) t.0)
-made set (body.NodeAttr id key old new) e =
+made set (body.NodeAttr key id old new) e =
     let t = and_parts (has_node set id) _ e in
-    value_made set (has_node set id) (node_value set id key) (λ old new. body.NodeAttr id key old new) (λ v. SetNode id key v) (UnsetNode id key) REASON_NO_NODE (λ v. refl) refl t.0 old new t.1
-made set (body.EdgeAttr id key old new) e =
+    value_made set (has_node set id) (node_value set id key) (λ old new. body.NodeAttr key id old new) (λ v. SetNode id key v) (UnsetNode id key) REASON_NO_NODE (λ v. refl) refl t.0 old new t.1
+made set (body.EdgeAttr key id old new) e =
     let t = and_parts (is_some (edge_of set id)) _ e in
-    value_made set (is_some (edge_of set id)) (edge_value set id key) (λ old new. body.EdgeAttr id key old new) (λ v. SetEdge id key v) (UnsetEdge id key) REASON_NO_EDGE (λ v. refl) refl t.0 old new t.1
+    value_made set (is_some (edge_of set id)) (edge_value set id key) (λ old new. body.EdgeAttr key id old new) (λ v. SetEdge id key v) (UnsetEdge id key) REASON_NO_EDGE (λ v. refl) refl t.0 old new t.1
 made set (body.Message src dst value) e =
     (Message src dst value, ap (λ b. cond b (Ok (body.Message src dst value)) (Err REASON_NO_END)) e)
 

@@ -46,10 +46,10 @@ merged_is None events e = absurd cc
 fits_body : (names : ℕ) (b : Body) → BodyFits names b → FitsBody names b
 fits_body names (body.NodeAdded id) h = h
 fits_body names (body.NodeRemoved id) h = h
-fits_body names (body.EdgeAdded id src dst directed) h = h
-fits_body names (body.EdgeRemoved id src dst directed) h = h
-fits_body names (body.NodeAttr id key old new) h = (h.id_fits, h.key_fits, h.old_fits, h.new_fits)
-fits_body names (body.EdgeAttr id key old new) h = (h.id_fits, h.key_fits, h.old_fits, h.new_fits)
+fits_body names (body.EdgeAdded directed id src dst) h = h
+fits_body names (body.EdgeRemoved directed id src dst) h = h
+fits_body names (body.NodeAttr key id old new) h = (h.id_fits, h.key_fits, h.old_fits, h.new_fits)
+fits_body names (body.EdgeAttr key id old new) h = (h.id_fits, h.key_fits, h.old_fits, h.new_fits)
 fits_body names (body.Message src dst value) h = h
 
 fits_each : (names earliest : ℕ) (placed : List Placed) → EventsFit names earliest (map (λ (p : Placed). p.event) placed) → Each (λ (p : Placed). FitsEvent names p.event) placed

@@ -37,10 +37,10 @@ silent_rest n events e = (silent_parts (take n events) (drop n events) (ap are_s
 column_told : (b : Body) → same_column (column_of_body b) column.Transient ≡ is_message b
 column_told (body.NodeAdded id) = refl
 column_told (body.NodeRemoved id) = refl
-column_told (body.EdgeAdded id src dst directed) = refl
-column_told (body.EdgeRemoved id src dst directed) = refl
-column_told (body.NodeAttr id key old new) = refl
-column_told (body.EdgeAttr id key old new) = refl
+column_told (body.EdgeAdded directed id src dst) = refl
+column_told (body.EdgeRemoved directed id src dst) = refl
+column_told (body.NodeAttr key id old new) = refl
+column_told (body.EdgeAttr key id old new) = refl
 column_told (body.Message src dst value) = refl
 
 nothing_counted : (placed : List Placed) → counted placed ≡ [] → placed ≡ []

@@ -35,10 +35,10 @@ value_fits names (Some n) few h = omega (arith, h, few)
 body_fits : (names : ℕ) (b : Body) → names ≤ 2 ^ 30 → BodyFits names b → NamesFit b
 body_fits names (body.NodeAdded id) few h = tt
 body_fits names (body.NodeRemoved id) few h = tt
-body_fits names (body.EdgeAdded id src dst directed) few h = tt
-body_fits names (body.EdgeRemoved id src dst directed) few h = tt
-body_fits names (body.NodeAttr id key old new) few h = (omega (arith, h.key_fits, few), value_fits names old few h.old_fits, value_fits names new few h.new_fits)
-body_fits names (body.EdgeAttr id key old new) few h = (omega (arith, h.key_fits, few), value_fits names old few h.old_fits, value_fits names new few h.new_fits)
+body_fits names (body.EdgeAdded directed id src dst) few h = tt
+body_fits names (body.EdgeRemoved directed id src dst) few h = tt
+body_fits names (body.NodeAttr key id old new) few h = (omega (arith, h.key_fits, few), value_fits names old few h.old_fits, value_fits names new few h.new_fits)
+body_fits names (body.EdgeAttr key id old new) few h = (omega (arith, h.key_fits, few), value_fits names old few h.old_fits, value_fits names new few h.new_fits)
 body_fits names (body.Message src dst value) few h = tt
 
 pub spelled : (names : ℕ) (events : List Event) → names ≤ 2 ^ 30 → All (EventBodyFits names) events → All (λ (e : Event). NamesFit e.body) events
@@ -49,10 +49,10 @@ spelled names (e ∷ events) few f =
 body_there : (names : ℕ) (b : Body) → BodyFits names b → BodyHasNamesThere names b
 body_there names (body.NodeAdded id) h = tt
 body_there names (body.NodeRemoved id) h = tt
-body_there names (body.EdgeAdded id src dst directed) h = tt
-body_there names (body.EdgeRemoved id src dst directed) h = tt
-body_there names (body.NodeAttr id key old new) h = (h.key_fits, h.old_fits, h.new_fits)
-body_there names (body.EdgeAttr id key old new) h = (h.key_fits, h.old_fits, h.new_fits)
+body_there names (body.EdgeAdded directed id src dst) h = tt
+body_there names (body.EdgeRemoved directed id src dst) h = tt
+body_there names (body.NodeAttr key id old new) h = (h.key_fits, h.old_fits, h.new_fits)
+body_there names (body.EdgeAttr key id old new) h = (h.key_fits, h.old_fits, h.new_fits)
 body_there names (body.Message src dst value) h = h.2
 
 pub names_there : (names : ℕ) (events : List Event) → All (EventBodyFits names) events → EventNamesAreThere names events
