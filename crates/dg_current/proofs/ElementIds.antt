@@ -48,14 +48,11 @@ has_id_is (EdgeValue key id) (element.EdgeAttr n k v) e =
     let parts = both (eqb n id) (eqb k key) e in
     λ i. EdgeValue (eqb-true k key parts.1 i) (eqb-true n id parts.0 i)
 has_id_is (EdgeValue key id) (element.Message s d v) e = absurd (false≢true e)
-has_id_is (Message v s d) (element.Node n) e = absurd (false≢true e)
-has_id_is (Message v s d) (element.Edge b n t f) e = absurd (false≢true e)
-has_id_is (Message v s d) (element.NodeAttr n k w) e = absurd (false≢true e)
-has_id_is (Message v s d) (element.EdgeAttr n k w) e = absurd (false≢true e)
-has_id_is (Message v s d) (element.Message t f w) e =
-    let parts = both (eqb t s) (eqb f d && eqb w v) e in
-    let rest = both (eqb f d) (eqb w v) parts.1 in
-    λ i. Message (eqb-true w v rest.1 i) (eqb-true t s parts.0 i) (eqb-true f d rest.0 i)
+has_id_is Message (element.Node n) e = absurd (false≢true e)
+has_id_is Message (element.Edge b n s d) e = absurd (false≢true e)
+has_id_is Message (element.NodeAttr n k v) e = absurd (false≢true e)
+has_id_is Message (element.EdgeAttr n k v) e = absurd (false≢true e)
+has_id_is Message (element.Message s d v) e = refl
 
 two : (m n : ℕ) → (eqb m m && eqb n n) ≡ true
 two m n = λ i. eq-eqb m m refl i && eq-eqb n n refl i
@@ -65,7 +62,7 @@ has_id_itself (element.Node n) = eq-eqb n n refl
 has_id_itself (element.Edge b n s d) = eq-eqb n n refl
 has_id_itself (element.NodeAttr n k v) = two n k
 has_id_itself (element.EdgeAttr n k v) = two n k
-has_id_itself (element.Message s d v) = λ i. eq-eqb s s refl i && two d v i
+has_id_itself (element.Message s d v) = refl
 
 -- ---- look-ups in a list
 
@@ -183,7 +180,7 @@ needs_live set (element.Message s d v) (Node id) h e = absurd (false≢true e)
 needs_live set (element.Message s d v) (Edge id) h e = absurd (false≢true e)
 needs_live set x (NodeValue key id) h e = absurd (false≢true e)
 needs_live set x (EdgeValue key id) h e = absurd (false≢true e)
-needs_live set x (Message value src dst) h e = absurd (false≢true e)
+needs_live set x Message h e = absurd (false≢true e)
 
 -- what an element of one set needs in another
 pub live_needs : (old set : List Element) (x : Element) → has_needs old x ≡ true → ((p : ElementId) → needs_id p x ≡ true → Lives set p) → has_needs set x ≡ true

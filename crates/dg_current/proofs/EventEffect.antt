@@ -373,7 +373,7 @@ node_values_alike id key v w = record { ids = refl; needs = same_needs }
     same_needs (Edge n) = refl
     same_needs (NodeValue k n) = refl
     same_needs (EdgeValue k n) = refl
-    same_needs (Message w s d) = refl
+    same_needs Message = refl
 
 edge_values_alike : (id key v w : ℕ) → Alike (element.EdgeAttr id key v) (element.EdgeAttr id key w)
 edge_values_alike id key v w = record { ids = refl; needs = same_needs }
@@ -383,7 +383,7 @@ edge_values_alike id key v w = record { ids = refl; needs = same_needs }
     same_needs (Edge n) = refl
     same_needs (NodeValue k n) = refl
     same_needs (EdgeValue k n) = refl
-    same_needs (Message w s d) = refl
+    same_needs Message = refl
 
 moved_from : (make : ℕ → Element) (value other : Option ℕ) (x : Element) → moved make value other ≡ Some x → (v : ℕ) × (x ≡ make v)
 moved_from make value other x e = by (option_eq nat_eq value other) value e

@@ -64,16 +64,15 @@ edge_attr_at (element.EdgeAttr n k v) id key e =
 none_some : {X : Type 0} {x : X} → None ≡ Some x → ⊥
 none_some e = cc
 
-not_message : (set : List Element) (x : Element) → has_needs set x ≡ true → (s d v : ℕ) → element_id_of x ≡ Message v s d → ⊥
-not_message set (element.Node n) h s d v e = cc
-not_message set (element.Edge b n t f) h s d v e = cc
-not_message set (element.NodeAttr n k w) h s d v e = cc
-not_message set (element.EdgeAttr n k w) h s d v e = cc
-not_message set (element.Message t f w) h s d v e = false≢true h
+not_message : (set : List Element) (x : Element) → has_needs set x ≡ true → element_id_of x ≡ Message → ⊥
+not_message set (element.Node n) h e = cc
+not_message set (element.Edge b n s d) h e = cc
+not_message set (element.NodeAttr n k v) h e = cc
+not_message set (element.EdgeAttr n k v) h e = cc
+not_message set (element.Message s d v) h e = false≢true h
 
-no_message : (set : List Element) → IsGraph set → (s d v : ℕ) → at set (Message v s d) ≡ None
-no_message set g s d v =
-    at_is set (Message v s d) None (λ x e. absurd (none_some e)) (λ x there is. absurd (not_message set x (g.needs x there) s d v is))
+no_message : (set : List Element) → IsGraph set → at set Message ≡ None
+no_message set g = at_is set Message None (λ x e. absurd (none_some e)) (λ x there is. absurd (not_message set x (g.needs x there) is))
 
 not_true : (b : Bool) → not b ≡ true → b ≡ false
 not_true true e = absurd (false≢true e)
@@ -235,7 +234,7 @@ module _ (set : List Element) where
 
   told : IsGraph set → (s d v : ℕ) → CanHappen set (body.Message s d v)
   told g s d v = record {
-    before = no_message set g s d v;
+    before = no_message set g;
     fed = tt;
     free = λ none. none_needs set;
   }

@@ -27,41 +27,38 @@ same_id_exact (Node m) (Node n) e = ap Node (eqb-true m n e)
 same_id_exact (Node m) (Edge n) e = absurd (false≢true e)
 same_id_exact (Node m) (NodeValue d n) e = absurd (false≢true e)
 same_id_exact (Node m) (EdgeValue d n) e = absurd (false≢true e)
-same_id_exact (Node m) (Message w t f) e = absurd (false≢true e)
+same_id_exact (Node m) Message e = absurd (false≢true e)
 same_id_exact (Edge m) (Node n) e = absurd (false≢true e)
 same_id_exact (Edge m) (Edge n) e = ap Edge (eqb-true m n e)
 same_id_exact (Edge m) (NodeValue d n) e = absurd (false≢true e)
 same_id_exact (Edge m) (EdgeValue d n) e = absurd (false≢true e)
-same_id_exact (Edge m) (Message w t f) e = absurd (false≢true e)
+same_id_exact (Edge m) Message e = absurd (false≢true e)
 same_id_exact (NodeValue c m) (Node n) e = absurd (false≢true e)
 same_id_exact (NodeValue c m) (Edge n) e = absurd (false≢true e)
 same_id_exact (NodeValue c m) (NodeValue d n) e =
     let parts = both (eqb c d) (eqb m n) e in
     λ i. NodeValue (eqb-true c d parts.0 i) (eqb-true m n parts.1 i)
 same_id_exact (NodeValue c m) (EdgeValue d n) e = absurd (false≢true e)
-same_id_exact (NodeValue c m) (Message w t f) e = absurd (false≢true e)
+same_id_exact (NodeValue c m) Message e = absurd (false≢true e)
 same_id_exact (EdgeValue c m) (Node n) e = absurd (false≢true e)
 same_id_exact (EdgeValue c m) (Edge n) e = absurd (false≢true e)
 same_id_exact (EdgeValue c m) (NodeValue d n) e = absurd (false≢true e)
 same_id_exact (EdgeValue c m) (EdgeValue d n) e =
     let parts = both (eqb c d) (eqb m n) e in
     λ i. EdgeValue (eqb-true c d parts.0 i) (eqb-true m n parts.1 i)
-same_id_exact (EdgeValue c m) (Message w t f) e = absurd (false≢true e)
-same_id_exact (Message v s d) (Node n) e = absurd (false≢true e)
-same_id_exact (Message v s d) (Edge n) e = absurd (false≢true e)
-same_id_exact (Message v s d) (NodeValue c n) e = absurd (false≢true e)
-same_id_exact (Message v s d) (EdgeValue c n) e = absurd (false≢true e)
-same_id_exact (Message v s d) (Message w t f) e =
-    let parts = both (eqb v w) (eqb s t && eqb d f) e in
-    let rest = both (eqb s t) (eqb d f) parts.1 in
-    λ i. Message (eqb-true v w parts.0 i) (eqb-true s t rest.0 i) (eqb-true d f rest.1 i)
+same_id_exact (EdgeValue c m) Message e = absurd (false≢true e)
+same_id_exact Message (Node n) e = absurd (false≢true e)
+same_id_exact Message (Edge n) e = absurd (false≢true e)
+same_id_exact Message (NodeValue c n) e = absurd (false≢true e)
+same_id_exact Message (EdgeValue c n) e = absurd (false≢true e)
+same_id_exact Message Message e = refl
 
 pub same_id_itself : (p : ElementId) → same_id p p ≡ true
 same_id_itself (Node m) = eq-eqb m m refl
 same_id_itself (Edge m) = eq-eqb m m refl
 same_id_itself (NodeValue c m) = λ i. eq-eqb c c refl i && eq-eqb m m refl i
 same_id_itself (EdgeValue c m) = λ i. eq-eqb c c refl i && eq-eqb m m refl i
-same_id_itself (Message v s d) = λ i. eq-eqb v v refl i && (eq-eqb s s refl i && eq-eqb d d refl i)
+same_id_itself Message = refl
 
 pub same_id_from : (p q : ElementId) → p ≡ q → same_id p q ≡ true
 same_id_from p q e = ap (same_id p) (sym e) ∙ same_id_itself p
@@ -72,27 +69,27 @@ derived_is (Node m) (Node n) = refl
 derived_is (Node m) (Edge n) = refl
 derived_is (Node m) (NodeValue d n) = refl
 derived_is (Node m) (EdgeValue d n) = refl
-derived_is (Node m) (Message w t f) = refl
+derived_is (Node m) Message = refl
 derived_is (Edge m) (Node n) = refl
 derived_is (Edge m) (Edge n) = refl
 derived_is (Edge m) (NodeValue d n) = refl
 derived_is (Edge m) (EdgeValue d n) = refl
-derived_is (Edge m) (Message w t f) = refl
+derived_is (Edge m) Message = refl
 derived_is (NodeValue c m) (Node n) = refl
 derived_is (NodeValue c m) (Edge n) = refl
 derived_is (NodeValue c m) (NodeValue d n) = refl
 derived_is (NodeValue c m) (EdgeValue d n) = refl
-derived_is (NodeValue c m) (Message w t f) = refl
+derived_is (NodeValue c m) Message = refl
 derived_is (EdgeValue c m) (Node n) = refl
 derived_is (EdgeValue c m) (Edge n) = refl
 derived_is (EdgeValue c m) (NodeValue d n) = refl
 derived_is (EdgeValue c m) (EdgeValue d n) = refl
-derived_is (EdgeValue c m) (Message w t f) = refl
-derived_is (Message v s d) (Node n) = refl
-derived_is (Message v s d) (Edge n) = refl
-derived_is (Message v s d) (NodeValue c n) = refl
-derived_is (Message v s d) (EdgeValue c n) = refl
-derived_is (Message v s d) (Message w t f) = refl
+derived_is (EdgeValue c m) Message = refl
+derived_is Message (Node n) = refl
+derived_is Message (Edge n) = refl
+derived_is Message (NodeValue c n) = refl
+derived_is Message (EdgeValue c n) = refl
+derived_is Message Message = refl
 
 pub equal_ids : (p q : ElementId) (b : Bool) → b ≡ (of_ids.ghosts).eq p q → b ≡ true → p ≡ q
 equal_ids p q b is e = same_id_exact p q (sym (derived_is p q) ∙ sym is ∙ e)

@@ -6,11 +6,10 @@ use Rattle.std.proofs.lemmas.Cmp.{tied_itself}
 use Rattle.std.proofs.lemmas.List.Folds.{list_any_at}
 use Rattle.std.specs.Cmp.Lexicographic.{slice_cmp}
 use Rattle.std.specs.Ordering.{is_lt, nat_cmp, ordering_then}
-use Rattle.std.specs.declared.cmp.Ordering.{Ordering}
 use Rattle.std.specs.declared.cmp.Ordering.TheVariants.{Less, Equal, Greater}
 use Rattle.dg_graph.specs.declared.element.Element.{Element}
 use Rattle.dg_graph.specs.declared.element.Element.TheVariants as element
-use Rattle.dg_graph.specs.Elements.{bit, spelled, element_cmp, before, same, has, IsSet, IsBelowFirst}
+use Rattle.dg_graph.specs.Elements.{bit, spelled, before, same, has, IsSet, IsBelowFirst}
 use Rattle.dg_graph.proofs.Sets.{element_total, element_exact, same_itself, Greater_from_before, IsBelowFirst-trans}
 use Rattle.dg_current.specs.declared.element_id.ElementId.{ElementId}
 use Rattle.dg_current.specs.declared.element_id.ElementId.TheVariants.{Node, Edge, NodeValue, EdgeValue, Message}
@@ -148,14 +147,14 @@ id_spelled (Node id) = 0 ∷ id ∷ []
 id_spelled (Edge id) = 1 ∷ id ∷ []
 id_spelled (NodeValue key id) = 2 ∷ id ∷ key ∷ []
 id_spelled (EdgeValue key id) = 3 ∷ id ∷ key ∷ []
-id_spelled (Message value src dst) = 4 ∷ src ∷ dst ∷ value ∷ []
+id_spelled Message = 4 ∷ []
 
 id_begins : (x : Element) → Begins (id_spelled (element_id_of x)) (spelled x)
 id_begins (element.Node n) = ([], refl)
 id_begins (element.Edge b n s d) = (s ∷ d ∷ bit b ∷ [], refl)
 id_begins (element.NodeAttr n k v) = (v ∷ [], refl)
 id_begins (element.EdgeAttr n k v) = (v ∷ [], refl)
-id_begins (element.Message s d v) = ([], refl)
+id_begins (element.Message s d v) = (s ∷ d ∷ v ∷ [], refl)
 
 has_begins : (p : ElementId) (x : Element) → element_id_of x ≡ p → Begins (id_spelled p) (spelled x)
 has_begins p x is = subst (λ q. Begins (id_spelled q) (spelled x)) is (id_begins x)
@@ -186,16 +185,11 @@ begins_id (EdgeValue key id) (element.NodeAttr n k v) (rest, is) = let kind = nt
 begins_id (EdgeValue key id) (element.EdgeAttr n k v) (rest, is) =
     λ i. EdgeValue (nth_is 2 (3 ∷ n ∷ k ∷ v ∷ []) (3 ∷ id ∷ key ∷ rest) is i) (nth_is 1 (3 ∷ n ∷ k ∷ v ∷ []) (3 ∷ id ∷ key ∷ rest) is i)
 begins_id (EdgeValue key id) (element.Message s d v) (rest, is) = let kind = nth_is 0 _ (3 ∷ id ∷ key ∷ rest) is in absurd (omega arith)
-begins_id (Message v s d) (element.Node n) (rest, is) = let kind = nth_is 0 _ (4 ∷ s ∷ d ∷ v ∷ rest) is in absurd (omega arith)
-begins_id (Message v s d) (element.Edge b n t f) (rest, is) = let kind = nth_is 0 _ (4 ∷ s ∷ d ∷ v ∷ rest) is in absurd (omega arith)
-begins_id (Message v s d) (element.NodeAttr n k w) (rest, is) = let kind = nth_is 0 _ (4 ∷ s ∷ d ∷ v ∷ rest) is in absurd (omega arith)
-begins_id (Message v s d) (element.EdgeAttr n k w) (rest, is) = let kind = nth_is 0 _ (4 ∷ s ∷ d ∷ v ∷ rest) is in absurd (omega arith)
-begins_id (Message v s d) (element.Message t f w) (rest, is) =
-    let read : ℕ → ℕ → Type 0 = λ k n. get_or (4 ∷ t ∷ f ∷ w ∷ []) k 0 ≡ n in
-    let src : read 1 s = nth_is 1 (4 ∷ t ∷ f ∷ w ∷ []) (4 ∷ s ∷ d ∷ v ∷ rest) is in
-    let dst : read 2 d = nth_is 2 (4 ∷ t ∷ f ∷ w ∷ []) (4 ∷ s ∷ d ∷ v ∷ rest) is in
-    let value : read 3 v = nth_is 3 (4 ∷ t ∷ f ∷ w ∷ []) (4 ∷ s ∷ d ∷ v ∷ rest) is in
-    λ i. Message (value i) (src i) (dst i)
+begins_id Message (element.Node n) (rest, is) = let kind = nth_is 0 _ (4 ∷ rest) is in absurd (omega arith)
+begins_id Message (element.Edge b n s d) (rest, is) = let kind = nth_is 0 _ (4 ∷ rest) is in absurd (omega arith)
+begins_id Message (element.NodeAttr n k v) (rest, is) = let kind = nth_is 0 _ (4 ∷ rest) is in absurd (omega arith)
+begins_id Message (element.EdgeAttr n k v) (rest, is) = let kind = nth_is 0 _ (4 ∷ rest) is in absurd (omega arith)
+begins_id Message (element.Message s d v) (rest, is) = refl
 
 pub id_between : (p : ElementId) (x y z : Element) → element_id_of x ≡ p → element_id_of y ≡ p → before z x ≡ false → before y z ≡ false → element_id_of z ≡ p
 id_between p x y z is at h k = begins_id p z (between (id_spelled p) x y z (has_begins p x is) (has_begins p y at) h k)
@@ -205,7 +199,7 @@ id_of_least (Node id) = refl
 id_of_least (Edge id) = refl
 id_of_least (NodeValue key id) = refl
 id_of_least (EdgeValue key id) = refl
-id_of_least (Message value src dst) = refl
+id_of_least Message = refl
 
 -- no element is before the least one with its id
 not_below : (x : Element) → before x (least (element_id_of x)) ≡ false
@@ -217,7 +211,8 @@ not_below (element.NodeAttr n k v) =
     same_more 2 (n ∷ k ∷ v ∷ []) (n ∷ k ∷ 0 ∷ []) (same_more n (k ∷ v ∷ []) (k ∷ 0 ∷ []) (same_more k (v ∷ []) (0 ∷ []) (zero_more v [] [] refl)))
 not_below (element.EdgeAttr n k v) =
     same_more 3 (n ∷ k ∷ v ∷ []) (n ∷ k ∷ 0 ∷ []) (same_more n (k ∷ v ∷ []) (k ∷ 0 ∷ []) (same_more k (v ∷ []) (0 ∷ []) (zero_more v [] [] refl)))
-not_below (element.Message s d v) = not_itself (element.Message s d v)
+not_below (element.Message s d v) =
+    same_more 4 (s ∷ d ∷ v ∷ []) (0 ∷ 0 ∷ 0 ∷ []) (zero_more s (d ∷ v ∷ []) (0 ∷ 0 ∷ []) (zero_more d (v ∷ []) (0 ∷ []) (zero_more v [] [] refl)))
 
 pub below_least : (p : ElementId) (x : Element) → IsTrue (before x (least p)) → has_id p x ≡ false
 below_least p x e = by (has_id p x) refl
@@ -233,7 +228,7 @@ value_spelled (Node id) = 2 ∷ id ∷ []
 value_spelled (Edge id) = 3 ∷ id ∷ []
 value_spelled (NodeValue key id) = 2 ∷ id ∷ []
 value_spelled (EdgeValue key id) = 3 ∷ id ∷ []
-value_spelled (Message value src dst) = 2 ∷ []
+value_spelled Message = 2 ∷ []
 
 value_begins : (p : ElementId) (x : Element) → is_value_at p x ≡ true → Begins (value_spelled p) (spelled x)
 value_begins (Node id) (element.Node n) e = absurd (false≢true e)
@@ -248,7 +243,7 @@ value_begins (Edge id) (element.EdgeAttr n k v) e = (k ∷ v ∷ [], λ i. 3 ∷
 value_begins (Edge id) (element.Message s d v) e = absurd (false≢true e)
 value_begins (NodeValue key id) x e = absurd (false≢true e)
 value_begins (EdgeValue key id) x e = absurd (false≢true e)
-value_begins (Message value src dst) x e = absurd (false≢true e)
+value_begins Message x e = absurd (false≢true e)
 
 begins_node_value : (id : ℕ) (x : Element) → Begins (2 ∷ id ∷ []) (spelled x) → is_value_at (Node id) x ≡ true
 begins_node_value id (element.Node n) (rest, is) = let kind = nth_is 0 _ (2 ∷ id ∷ rest) is in absurd (omega arith)
@@ -272,7 +267,7 @@ value_between (Edge id) y z at h k =
     begins_edge_value id z (between (3 ∷ id ∷ []) (least_value_at (Edge id)) y z (0 ∷ 0 ∷ [], refl) (value_begins (Edge id) y at) h k)
 value_between (NodeValue key id) y z at h k = absurd (false≢true at)
 value_between (EdgeValue key id) y z at h k = absurd (false≢true at)
-value_between (Message value src dst) y z at h k = absurd (false≢true at)
+value_between Message y z at h k = absurd (false≢true at)
 
 value_not_below : (p : ElementId) (x : Element) → is_value_at p x ≡ true → before x (least_value_at p) ≡ false
 value_not_below (Node id) (element.Node n) e = absurd (false≢true e)
@@ -291,7 +286,7 @@ value_not_below (Edge id) (element.EdgeAttr n k v) e =
 value_not_below (Edge id) (element.Message s d v) e = absurd (false≢true e)
 value_not_below (NodeValue key id) x e = absurd (false≢true e)
 value_not_below (EdgeValue key id) x e = absurd (false≢true e)
-value_not_below (Message value src dst) x e = absurd (false≢true e)
+value_not_below Message x e = absurd (false≢true e)
 
 pub below_value : (p : ElementId) (x : Element) → IsTrue (before x (least_value_at p)) → is_value_at p x ≡ false
 below_value p x e = by (is_value_at p x) refl

@@ -15,7 +15,7 @@ use Rattle.dg_graph.specs.declared.element.Element.TheVariants as element
 use Rattle.dg_graph.specs.Elements.{bit, element_cmp, before, IsSet}
 use Rattle.dg_graph.proofs.Sets.{element_total, tied_exact, before_trans}
 use Rattle.dg_current.specs.declared.element_id.ElementId.{ElementId}
-use Rattle.dg_current.specs.declared.element_id.ElementId.TheVariants.{Node, Edge}
+use Rattle.dg_current.specs.declared.element_id.ElementId.TheVariants.{Node, Edge, NodeValue, EdgeValue, Message}
 use Rattle.dg_current.specs.ElementIds.{element_id_of, has_id, at, needs_id}
 use Rattle.dg_current.specs.Sorted.{IsFirstFrom, least, least_value_at, is_value_at, has_end}
 use Rattle.dg_current.proofs.ElementIds.{has_id_is, has_id_itself}
@@ -243,8 +243,16 @@ edge_uses id (element.NodeAttr n k v) = refl
 edge_uses id (element.EdgeAttr n k v) = refl
 edge_uses id (element.Message s d v) = refl
 
-pub uses_of_edge : (id : ℕ) (xs : List Element) → count_by (needs_id (Edge id)) xs ≡ count_by (is_value_at (Edge id)) xs
+uses_of_edge : (id : ℕ) (xs : List Element) → count_by (needs_id (Edge id)) xs ≡ count_by (is_value_at (Edge id)) xs
 uses_of_edge id xs i = count_by (λ x. edge_uses id x i) xs
+
+-- all else that is needed is needed by its values alone
+pub uses_of_other : (p : ElementId) (xs : List Element) → ((id : ℕ) → p ≡ Node id → ⊥) → count_by (needs_id p) xs ≡ count_by (is_value_at p) xs
+uses_of_other (Node id) xs not = absurd (not id refl)
+uses_of_other (Edge id) xs not = uses_of_edge id xs
+uses_of_other (NodeValue key id) xs not = refl
+uses_of_other (EdgeValue key id) xs not = refl
+uses_of_other Message xs not = refl
 
 -- ---- rising numbers
 

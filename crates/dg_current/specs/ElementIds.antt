@@ -1,6 +1,6 @@
 -- The ids of elements. A graph has one node and one edge of each number, and one value of each key at a
--- node or an edge, so one element at the most has an id. A message, which no graph has, is its own id.
-use Rattle.std.specs.Prelude.{ℕ, ◌+◌, ◌*◌, ◌%◌, ◌^◌, Bool, false, ◌&&◌, ◌==◌, List, Option, find}
+-- node or an edge, so one element of a graph at the most has an id. All messages, which no graph has, have one id.
+use Rattle.std.specs.Prelude.{ℕ, ◌+◌, ◌*◌, ◌%◌, ◌^◌, Bool, true, false, ◌&&◌, ◌==◌, List, Option, find}
 use Rattle.dg_graph.specs.declared.element.Element.{Element}
 use Rattle.dg_graph.specs.declared.element.Element.TheVariants as element
 use Rattle.dg_graph.specs.Completion.{is_edge, is_node_value, is_edge_value, needs_node, needs_edge}
@@ -13,15 +13,15 @@ element_id_of (element.Node id) = Node id
 element_id_of (element.Edge directed id src dst) = Edge id
 element_id_of (element.NodeAttr id key value) = NodeValue key id
 element_id_of (element.EdgeAttr id key value) = EdgeValue key id
-element_id_of (element.Message src dst value) = Message value src dst
+element_id_of (element.Message src dst value) = Message
 
 abbrev pub is_node : ℕ → Element → Bool
 is_node id (element.Node n) = n == id
 is_node id x = false
 
-abbrev pub is_message : ℕ → ℕ → ℕ → Element → Bool
-is_message src dst value (element.Message s d v) = s == src && (d == dst && v == value)
-is_message src dst value x = false
+abbrev pub is_message : Element → Bool
+is_message (element.Message src dst value) = true
+is_message x = false
 
 -- the element has the id
 abbrev pub has_id : ElementId → Element → Bool
@@ -29,9 +29,9 @@ has_id (Node id) = is_node id
 has_id (Edge id) = is_edge id
 has_id (NodeValue key id) = is_node_value id key
 has_id (EdgeValue key id) = is_edge_value id key
-has_id (Message value src dst) = is_message src dst value
+has_id Message = is_message
 
--- the element of the set that has the id
+-- the first element of the set that has the id: of a graph the only one
 abbrev pub at : List Element → ElementId → Option Element
 at set p = find (has_id p) set
 
@@ -41,7 +41,7 @@ needs_id (Node id) = needs_node id
 needs_id (Edge id) = needs_edge id
 needs_id (NodeValue key id) = λ x. false
 needs_id (EdgeValue key id) = λ x. false
-needs_id (Message value src dst) = λ x. false
+needs_id Message = λ x. false
 
 -- both are one id
 abbrev pub same_id : ElementId → ElementId → Bool
@@ -49,7 +49,7 @@ same_id (Node m) (Node n) = m == n
 same_id (Edge m) (Edge n) = m == n
 same_id (NodeValue c m) (NodeValue d n) = c == d && m == n
 same_id (EdgeValue c m) (EdgeValue d n) = c == d && m == n
-same_id (Message v s d) (Message w t e) = v == w && (s == t && d == e)
+same_id Message Message = true
 same_id _ _ = false
 
 -- the id moved on by so many strides: a stride is 2 ^ 64 by the golden ratio
@@ -62,4 +62,4 @@ id_number (Node id) = id
 id_number (Edge id) = moved id 1
 id_number (NodeValue key id) = moved id (2 * key + 2)
 id_number (EdgeValue key id) = moved id (2 * key + 3)
-id_number (Message value src dst) = src
+id_number Message = 0

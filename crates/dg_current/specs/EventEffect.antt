@@ -15,7 +15,7 @@ use Rattle.dg_current.specs.declared.element_id.ElementId.TheVariants as element
 use Rattle.dg_current.specs.ElementIds.{at, needs_id, same_id}
 use Rattle.dg_current.specs.HeldGraph.{HeldGraphState, IsKnown}
 
--- the id of the element that the event changes; that of a message, which changes none, is no element's
+-- the id of the element that the event changes; that of a message, which changes none, no element of a graph has
 abbrev pub changed_id : Body → ElementId
 changed_id (body.NodeAdded id) = element_id.Node id
 changed_id (body.NodeRemoved id) = element_id.Node id
@@ -23,7 +23,7 @@ changed_id (body.EdgeAdded directed id src dst) = element_id.Edge id
 changed_id (body.EdgeRemoved directed id src dst) = element_id.Edge id
 changed_id (body.NodeAttr key id old new) = element_id.NodeValue key id
 changed_id (body.EdgeAttr key id old new) = element_id.EdgeValue key id
-changed_id (body.Message src dst value) = element_id.Message value src dst
+changed_id (body.Message src dst value) = element_id.Message
 
 -- the element with that id before the event
 abbrev pub element_before : Body → Option Element

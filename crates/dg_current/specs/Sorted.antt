@@ -17,7 +17,7 @@ least (Node id) = element.Node id
 least (Edge id) = element.Edge false id 0 0
 least (NodeValue key id) = element.NodeAttr id key 0
 least (EdgeValue key id) = element.EdgeAttr id key 0
-least (Message value src dst) = element.Message src dst value
+least Message = element.Message 0 0 0
 
 -- the items up to the index are before the element, and none from there on is
 pub record IsFirstFrom (x : Element) (items : List Element) (index : ℕ) : Type 0 where
@@ -57,7 +57,7 @@ least_value_at (Node id) = element.NodeAttr id 0 0
 least_value_at (Edge id) = element.EdgeAttr id 0 0
 least_value_at (NodeValue key id) = element.NodeAttr id 0 0
 least_value_at (EdgeValue key id) = element.EdgeAttr id 0 0
-least_value_at (Message value src dst) = element.NodeAttr 0 0 0
+least_value_at Message = element.NodeAttr 0 0 0
 
 -- the element is an edge with this end
 abbrev pub has_end : ℕ → Element → Bool

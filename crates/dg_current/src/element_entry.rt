@@ -31,6 +31,8 @@ pub(crate) struct ElementEntry {
 fn held_at_start(base: &SortedGraph, id: ElementId) -> Held
     ensures { element_in id result ≡ at base.now id }
 {
+    // It is a graph, so it has no message.
+    base.facts();
     match base.element_at(id) {
         Some(element) => Held::of(&element),
         None => Held::Nothing,

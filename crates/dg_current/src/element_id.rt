@@ -14,7 +14,7 @@ use std::hash::{Hash, Hasher};
 const STRIDE: u64 = 0x9e37_79b9_7f4a_7c15;
 
 /// What names an element of a graph: one at the most has an id. The key stands first, beside the kind:
-/// so an id takes 24 bytes, and not 32.
+/// so an id takes 16 bytes, and not 24.
 #[derive(Clone, Copy, PartialEq, Eq)]
 pub(crate) enum ElementId {
     /// The node of this id.
@@ -25,8 +25,8 @@ pub(crate) enum ElementId {
     NodeValue { key: u32, id: u64 },
     /// The value that the edge of this id has of a key.
     EdgeValue { key: u32, id: u64 },
-    /// A message of these ends and this value: no graph has one.
-    Message { value: u32, src: u64, dst: u64 },
+    /// Any message: no graph has one.
+    Message,
 }
 
 impl ElementId {
@@ -39,7 +39,7 @@ impl ElementId {
             Element::Edge { id, .. } => ElementId::Edge(id),
             Element::NodeAttr { id, key, .. } => ElementId::NodeValue { key, id },
             Element::EdgeAttr { id, key, .. } => ElementId::EdgeValue { key, id },
-            Element::Message { src, dst, value } => ElementId::Message { value, src, dst },
+            Element::Message { .. } => ElementId::Message,
         }
     }
 
@@ -52,7 +52,7 @@ impl ElementId {
             ElementId::Edge(id) => moved(id, 1),
             ElementId::NodeValue { key, id } => moved(id, 2 * key as u64 + 2),
             ElementId::EdgeValue { key, id } => moved(id, 2 * key as u64 + 3),
-            ElementId::Message { src, .. } => src,
+            ElementId::Message => 0,
         }
     }
 
@@ -65,7 +65,7 @@ impl ElementId {
             Body::EdgeAdded { id, .. } | Body::EdgeRemoved { id, .. } => ElementId::Edge(id),
             Body::NodeAttr { id, key, .. } => ElementId::NodeValue { key, id },
             Body::EdgeAttr { id, key, .. } => ElementId::EdgeValue { key, id },
-            Body::Message { src, dst, value } => ElementId::Message { value, src, dst },
+            Body::Message { .. } => ElementId::Message,
         }
     }
 }

@@ -16,12 +16,10 @@ pub(crate) enum Held {
     Edge { directed: bool, src: u64, dst: u64 },
     /// The value of the id's key.
     Value(u32),
-    /// The message of the id: no graph has one.
-    Message,
 }
 
 impl Held {
-    /// What is held under the element's id where the element is there.
+    /// What is held under the element's id where the element is there: nothing of a message, which no graph has.
     pub(crate) fn of(element: &Element) -> Held
         ensures { result ≡ held_of element.now }
     {
@@ -34,7 +32,7 @@ impl Held {
                 ..
             } => Held::Edge { directed, src, dst },
             Element::NodeAttr { value, .. } | Element::EdgeAttr { value, .. } => Held::Value(value),
-            Element::Message { .. } => Held::Message,
+            Element::Message { .. } => Held::Nothing,
         }
     }
 
@@ -60,9 +58,6 @@ impl Held {
                 key,
                 value,
             }),
-            (ElementId::Message { value, src, dst }, Held::Message) => {
-                Some(Element::Message { src, dst, value })
-            }
             _ => None,
         }
     }

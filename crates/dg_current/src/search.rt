@@ -23,7 +23,11 @@ pub(crate) fn least(id: ElementId) -> Element
         },
         ElementId::NodeValue { key, id } => Element::NodeAttr { id, key, value: 0 },
         ElementId::EdgeValue { key, id } => Element::EdgeAttr { id, key, value: 0 },
-        ElementId::Message { value, src, dst } => Element::Message { src, dst, value },
+        ElementId::Message => Element::Message {
+            src: 0,
+            dst: 0,
+            value: 0,
+        },
     }
 }
 
@@ -90,7 +94,7 @@ fn first_value(id: ElementId) -> Element
             key: 0,
             value: 0,
         },
-        ElementId::Message { .. } => Element::NodeAttr {
+        ElementId::Message => Element::NodeAttr {
             id: 0,
             key: 0,
             value: 0,

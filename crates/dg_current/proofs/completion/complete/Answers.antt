@@ -2,6 +2,9 @@ use Rattle.std.proofs.Common.{sym, ap, ◌∙◌}
 use Rattle.dg_graph.specs.Completion.{complete}
 use Rattle.dg_current.proofs.completion.complete.Goals as goal
 
+pub returns-in-AddEdge : goal.returns-in-AddEdge
+returns-in-AddEdge c = c.add_edge.ensures ∙ ap (λ w. complete w c.args.graph.now.set) (sym c.in-AddEdge.is)
+
 pub returns-in-SetNode : goal.returns-in-SetNode
 returns-in-SetNode c = c.set_node.ensures ∙ ap (λ w. complete w c.args.graph.now.set) (sym c.in-SetNode.is)
 

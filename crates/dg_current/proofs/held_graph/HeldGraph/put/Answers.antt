@@ -21,7 +21,7 @@ changes : (c : After-count_in) → Changes c.self.inside.base c.self.inside.elem
 changes c p =
     c.count_in.ensures.held c.self.inside.base p ∙ c.set_held.ensures.held c.self.inside.base p
     ∙ (λ i. cond (same_id (c.of-id.ensures i) p) (element_in (c.of-id.ensures i) (c.of-held.ensures i)) (held_at c.self.inside.base c.self.inside.elements.entries p))
-    ∙ ap (λ o. cond (same_id (element_id_of c.args.element) p) o (held_at c.self.inside.base c.self.inside.elements.entries p)) (held_itself c.args.element)
+    ∙ ap (λ o. cond (same_id (element_id_of c.args.element) p) o (held_at c.self.inside.base c.self.inside.elements.entries p)) (held_itself (elements_of c.self.inside.base c.self.inside.elements.entries) c.args.element (fed c))
 
 uses : (c : After-count_in) (p : ElementId)
     → more_at c.count_in.new.elements.entries p + fewer_at c.self.inside.elements.entries p
