@@ -1,11 +1,7 @@
-pub mod DirectoryTexts
 pub mod ImageParts
 pub mod GrowthMoves
 pub mod SegmentText
-pub mod OpenedIndexKeys
-pub mod DirectoryTests
 pub mod InvariantBatches
-pub mod OpenedIndexRows
 pub mod HeaderSegments
 pub mod IndexBytes
 pub mod OpenedBytes
@@ -14,5 +10,4 @@ pub mod ImageSegments
 pub mod ImageUpgrades
 pub mod GrowthCreations
 pub mod GrowthCrashes
-pub mod OpenedIndexLists
 pub mod InvariantLists

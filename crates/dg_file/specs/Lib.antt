@@ -1,7 +1,6 @@
 pub mod Index
 pub mod Images
 pub mod OpeningBytes
-pub mod Directories
 pub mod Headers
 pub mod Invariant
 pub mod Growth

@@ -19,7 +19,7 @@ ghost use Rattle.dg_disk.specs.Image.{HasRange, IsLengthOf};
 ghost use Rattle.dg_catalogue.specs.Additions.{bytes_of_rows, Suits};
 ghost use Rattle.dg_catalogue.specs.Points.{ListsRise};
 ghost use Rattle.dg_file.specs.Calls.{CommitsPart, CommitsSegment, IsOverLimit, LacksMarkerRoom, Upgrades, UpgradesPart};
-ghost use Rattle.dg_file.specs.Directories.{directory_due, FindsDirectory, TakesDirectory, are_marking};
+ghost use Rattle.dg_directory.specs.Directories.{directory_due, FindsDirectory, TakesDirectory, are_marking};
 ghost use Rattle.dg_file.specs.Headers.{IsOpenedSoFar, Misses, is_upgraded};
 ghost use Rattle.dg_file.specs.Index.{HasSegmentRoom, opening_bytes};
 ghost use Rattle.dg_file.specs.Images.{BothTold, Fits, GainsBatchOrNot, GainsUpgradeOrNot, IsMadeInPart, IsOpenedAs, RefusesOpening, taken_after};
@@ -28,18 +28,16 @@ ghost use Rattle.dg_file.specs.OpeningBytes.{StaysWithinOpening, TakesUpToOpenin
 
 use crate::append::{append, append_marker};
 use crate::creation::write_header;
-use crate::directory_batch::{batch_at, may_follow};
-use crate::directory_names::{DirectoryFault, NAMES_OFFSET, read_names};
-use crate::directory_rows::{
-    are_unheard, has_rows, is_measured, list_bytes_max, may_be_listed, rows_in,
-};
 use crate::fault::{CommitFault, CreateFault, FetchFault, ReopenFault};
-use crate::found_directory::FoundDirectory;
 use crate::header::{HEADER_BYTES, OPEN};
-use crate::lengths::{LENGTHS_BYTES, Lengths, MARKER_BYTES};
 use crate::prepared_segment::{PreparedSegment, Ready};
 use crate::reads::{read_byte, read_header, read_lengths, read_range};
 use dg_catalogue::{Catalogue, column_length, column_offset, keys_due, leaves};
+use dg_directory::{
+    DirectoryFault, FoundDirectory, LENGTHS_BYTES, Lengths, MARKER_BYTES, NAMES_OFFSET,
+    are_unheard, batch_at, has_rows, is_measured, list_bytes_max, may_be_listed, may_follow,
+    read_names, rows_in,
+};
 use dg_disk::Disk;
 use dg_graph::Column;
 use dg_history::{Form, Key, Params};

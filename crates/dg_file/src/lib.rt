@@ -3,16 +3,11 @@
 
 mod append;
 mod creation;
-mod directory_batch;
-mod directory_names;
-mod directory_rows;
 mod disk_calls;
 mod fault;
-mod found_directory;
 mod header;
 mod index;
 mod laws;
-mod lengths;
 mod prepared_segment;
 mod reads;
 

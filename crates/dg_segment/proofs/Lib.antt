@@ -1,4 +1,2 @@
 pub mod PackedRecordColumns
-pub mod NewNameBytes
 pub mod SegmentPartSizes
-pub mod DirectoryPartTexts

@@ -1,4 +1,2 @@
-pub mod NewNames
 pub mod PackedRecords
-pub mod DirectoryParts
 pub mod SegmentParts

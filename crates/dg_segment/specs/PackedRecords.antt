@@ -1,7 +1,6 @@
 -- Records one behind another: the rows that tell of them, and their columns in one run of bytes.
-use Rattle.std.specs.Prelude.{◌≡◌, ℕ, Bool, true, false, ◌+◌, ◌<◌, ◌^◌, List, [], ◌∷◌, ◌++◌, Option, Some, None, length, map, slice_index, take, drop}
+use Rattle.std.specs.Prelude.{◌≡◌, ℕ, ◌+◌, ◌<◌, ◌^◌, List, [], ◌∷◌, Option, length, map, slice_index, take, drop}
 use Rattle.std.specs.List.{flat_map}
-use Rattle.dg_graph.specs.Columns.{eight}
 use Rattle.dg_index.specs.declared.entry.Ends.{Ends}
 use Rattle.dg_index.specs.declared.entry.Row.{Row}
 use Rattle.dg_index.specs.FileOfHistory.{Stored, bytes_of}
@@ -45,17 +44,3 @@ pub record ArePacked (rows : List Row) (bytes : List ℕ) : Type 0 where
 pub record IsPacked (row : Row) (bytes : List ℕ) : Type 0 where
   pub row_is : record_row (stored_at row.lengths bytes) ≡ row
   pub bytes_are : bytes_of (stored_at row.lengths bytes) ≡ bytes
-
--- the lengths of the columns, as they stand in a directory of the second form or of the first
-abbrev pub lengths_text : Bool → List ℕ → List ℕ
-lengths_text false lengths = eight (slice_index lengths 0) ++ (eight (slice_index lengths 1) ++ eight (slice_index lengths 2))
-lengths_text true lengths =
-    eight (slice_index lengths 0) ++ (eight (slice_index lengths 1) ++ (eight (slice_index lengths 2) ++ eight (slice_index lengths 3)))
-
-abbrev pub row_text_with : Bool → Option Ends → List ℕ → List ℕ
-row_text_with wide None lengths = lengths_text wide lengths
-row_text_with wide (Some e) lengths = eight e.first ++ (eight e.last ++ lengths_text wide lengths)
-
--- a row as it stands in a directory
-abbrev pub row_text : Bool → Row → List ℕ
-row_text wide r = row_text_with wide r.ends r.lengths

@@ -2,8 +2,7 @@
 //! of its piece.
 #![tactic(auto)]
 
-mod encoding;
-mod names;
+mod columns;
 mod piece;
 mod records;
 mod segment;

@@ -3,7 +3,7 @@ ghost use Rattle.std.specs.Prelude.{◌≡◌, ◌+◌, ◌<◌, ◌^◌, [], le
 ghost use Rattle.dg_index.specs.FileOfHistory.{bytes_of};
 ghost use Rattle.dg_index.specs.OpenedIndex.{record_row};
 
-use crate::encoding::put_columns;
+use crate::columns::put_columns;
 use dg_index::Row;
 use std::alloc::{AllocError, Global};
 use std::marker::Model;

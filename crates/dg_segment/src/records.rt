@@ -2,7 +2,7 @@
 ghost use Rattle.std.specs.Prelude.{◌≡◌, ◌+◌, ◌<◌, ◌^◌, ◌∷◌, ◌++◌, [], length, map, OnOk, OnErr};
 ghost use Rattle.dg_segment.specs.PackedRecords.{stored_bytes, stored_row};
 
-use crate::encoding::put_columns;
+use crate::columns::put_columns;
 use dg_index::{Ends, Row};
 use std::alloc::{AllocError, Global};
 use std::marker::Model;

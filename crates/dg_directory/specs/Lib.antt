@@ -1,0 +1,5 @@
+pub mod RowTexts
+pub mod RowKinds
+pub mod DirectoryParts
+pub mod NewNames
+pub mod Directories
