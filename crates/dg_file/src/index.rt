@@ -636,7 +636,8 @@ impl Index {
     }
 
     /// What the index keeps of each record, and the first and the last instant of its batches. The
-    /// numbers of the lists go from 0 on, and each begins no earlier than the one before it.
+    /// numbers of the lists go from 0 on, none ends before it begins, and none begins before an earlier
+    /// one ends.
     pub fn catalogue(&self) -> &Catalogue
         ensures entries { result.now.entries ≡ self.now.opening.records }
         ensures span { result.now.span ≡ span_in self.now.opening.batches }

@@ -1,5 +1,5 @@
 -- Over an image of a history: the graphs with their messages.
-use Rattle.std.proofs.Common.{◌≡◌, ℕ, true, cond, List, [], ◌∷◌, ◌++◌, Ok, Err, IfErr, inl, inr, length, map, refl, sym, ap, subst, ◌∙◌}
+use Rattle.std.proofs.Common.{◌≡◌, ℕ, true, cond, List, [], ◌∷◌, ◌++◌, Ok, Err, inl, inr, map, refl, sym, ap, subst, ◌∙◌}
 use Rattle.std.specs.Prelude.{IsErr, IsErrAnd, Result}
 use Rattle.std.specs.List.{All}
 use Rattle.std.proofs.lemmas.List.Elements.{All-head, All-tail}
@@ -13,17 +13,17 @@ use Rattle.dg_delta.proofs.Deltas.{IsSet-applied}
 use Rattle.dg_heard.proofs.Told.{IsSet-told, told_messages}
 use Rattle.dg_heard.specs.Heard.{heard_events}
 use Rattle.dg_heard.specs.HistoryLaw.{HearsHistory}
-use Rattle.dg_history.specs.History.{History, events_of, names_of}
+use Rattle.dg_history.specs.History.{History, events_of}
 use Rattle.dg_index.specs.IndexRecords.{recent_of}
-use Rattle.dg_index.specs.OpenedIndex.{Opening, opened_of}
+use Rattle.dg_index.specs.OpenedIndex.{Opening}
 use Rattle.dg_messages.proofs.ShownMessages.{replayed_of, shown_behind}
-use Rattle.dg_messages.specs.Calls.{HearsOver, IsFirstMessageDamage, TellsMessageDamage}
-use Rattle.dg_messages.specs.Told.{AreToldIn, TellBehind, TellsBehind, shown_with_messages, telling}
+use Rattle.dg_messages.specs.Calls.{HearsOver, IsFirstMessageDamage}
+use Rattle.dg_messages.specs.Told.{AreToldIn, TellBehind, TellsBehind}
 use Rattle.dg_retrieval.specs.Beginnings.{GraphLead, begun_with, leads_in, led_to}
 use Rattle.dg_retrieval.specs.declared.fault.RetrievalFault.{RetrievalFault}
 use Rattle.dg_retrieval.specs.declared.fault.RetrievalFault.TheVariants as fault
 use Rattle.dg_retrieval.specs.declared.retrieval.Retrieved.{Retrieved}
-use Rattle.dg_retrieval.specs.Retrieval.{IsNoDamage, IsOver, graphs_at}
+use Rattle.dg_retrieval.specs.Retrieval.{IsNoDamage, IsOver}
 
 -- ---- the graphs
 

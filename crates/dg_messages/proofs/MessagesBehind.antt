@@ -1,5 +1,5 @@
 -- Messages that are written behind what leads to graphs.
-use Rattle.std.proofs.Common.{arith, ◌≡◌, ◌≢◌, ◌<◌, ◌||◌, ℕ, suc, Bool, true, false, cond, List, [], ◌∷◌, ◌++◌, length, append_assoc, refl, sym, ap, subst, ◌∙◌, ◌⊎◌, inl, inr}
+use Rattle.std.proofs.Common.{arith, ◌≡◌, ◌≢◌, ◌<◌, ◌||◌, ℕ, suc, true, cond, List, [], ◌∷◌, ◌++◌, length, append_assoc, refl, sym, ap, subst, ◌∙◌, ◌⊎◌, inl, inr}
 use Rattle.std.specs.List.{All}
 use Rattle.std.proofs.lemmas.Bool.{or_cases}
 use Rattle.std.proofs.lemmas.List.{append-nil}
@@ -12,7 +12,7 @@ use Rattle.dg_fold.specs.WritingSteps.{IsForOnly}
 use Rattle.dg_graph.proofs.Sets.{has-unioned}
 use Rattle.dg_graph.specs.Composition.{Delta, applied}
 use Rattle.dg_graph.specs.declared.element.Element.{Element}
-use Rattle.dg_graph.specs.Elements.{IsSet, has}
+use Rattle.dg_graph.specs.Elements.{has}
 use Rattle.dg_graph.specs.Sets.{without_all}
 use Rattle.dg_messages.specs.Told.{TellBehind, TellsBehind, telling}
 use Rattle.dg_retrieval.specs.Beginnings.{GraphLead, leads_from}

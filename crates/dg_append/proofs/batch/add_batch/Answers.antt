@@ -1,4 +1,4 @@
-use Rattle.std.proofs.Common.{inl, ◌≡◌, ◌+◌, ◌∙◌, List, Option, Some, length, take, refl, ap, subst, sym}
+use Rattle.std.proofs.Common.{inl, ◌≡◌, ◌+◌, ◌∙◌, List, Option, Some, length, take, refl, ap, subst}
 use Rattle.std.specs.Prelude.{IfSome}
 use Rattle.std.specs.Box.{with_value}
 use Rattle.dg_append.proofs.AddedBatchOutcomes.{WentOn, added_is, added_leaves, adds, live_after, next_is, not_added, not_added_leaves, nothing_read, ready_here, takes_kept, takes_stopped, total_kept}
@@ -8,9 +8,7 @@ use Rattle.dg_append.proofs.batch.add_batch.Goals as goal
 use Rattle.dg_append.specs.AddedBatches.{AddsBatch, AddsBatchOrNot, AddsBehindOrNot, IsReady}
 use Rattle.dg_append.specs.declared.batch.AddedBatch.{AddedBatch}
 use Rattle.dg_append.specs.declared.batch.Batch.{Batch}
-use Rattle.dg_append.specs.declared.fault.BatchFault.{BatchFault}
 use Rattle.dg_append.specs.declared.live.Live.{Live}
-use Rattle.dg_append.specs.Faults.{HasCause}
 use Rattle.dg_disk.proofs.FrameLemmas.{reads_none}
 use Rattle.dg_graph.specs.declared.element.Element.{Element}
 use Rattle.dg_graph.specs.declared.event.Event.{Event}
