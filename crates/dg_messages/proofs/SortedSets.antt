@@ -3,7 +3,7 @@ use Rattle.std.proofs.Common.{◌≡◌, Bool, true, false, cond, ◌||◌, List
 use Rattle.std.specs.List.{AllByRecursion, dedup, dedup_from}
 use Rattle.std.specs.List.Retain.{DiffersFromLast, IsFiltered}
 use Rattle.std.specs.List.Sorted.{IsPermutation, IsSorted, IsStrictlySortedBy}
-use Rattle.std.specs.Ordering.{is_eq, is_lt}
+use Rattle.std.specs.Ordering.{is_lt}
 use Rattle.std.specs.declared.cmp.Ordering.TheVariants.{Less}
 use Rattle.std.proofs.lemmas.List.Filters.{dedup_is}
 use Rattle.std.proofs.lemmas.List.Kept.{IsStrictlySortedBy-dedup}
@@ -15,11 +15,10 @@ use Rattle.dg_graph.specs.declared.element.Element.{Element}
 use Rattle.dg_graph.specs.Elements.{IsBelowFirst, IsSet, has, same}
 use Rattle.dg_graph.specs.Sets.{unioned}
 use Rattle.dg_graph.proofs.Sets.{IsSet-unioned, element_exact, has-unioned, same_members}
-use Rattle.dg_set.proofs.Indices.{derived_is}
 
 -- elements that the code finds equal are one
 equal_exact : (x y : Element) → equality.ghosts.eq x y ≡ true → x ≡ y
-equal_exact x y e = element_exact x y (ap is_eq (sym (derived_is x y)) ∙ sym (laws.matches_eq-law x y) ∙ e)
+equal_exact x y e = element_exact x y (sym (laws.matches_eq-law x y) ∙ e)
 
 twice : (a b c : Bool) → b ≡ a → (a || c) ≡ (a || (b || c))
 twice true b c e = refl
@@ -40,7 +39,7 @@ has-dedup q (x ∷ xs) = has-dedup_from q x xs
 
 below : (x : Element) (xs : List Element) → AllByRecursion (λ y. order.ghosts.cmp x y ≡ Less) xs → IsBelowFirst x xs
 below x [] h = tt
-below x (y ∷ xs) h = ap is_lt (sym (derived_is x y) ∙ h.0)
+below x (y ∷ xs) h = ap is_lt h.0
 
 rises : (xs : List Element) → IsStrictlySortedBy order.ghosts.cmp xs → IsSet xs
 unfolding IsStrictlySortedBy
