@@ -4,7 +4,7 @@ pub mod ColumnWrites
 pub mod FieldElements
 pub mod ColumnGrammarDeltas
 pub mod Fields
-mod FieldNextElement
+mod LastElement
 pub mod ColumnLawSpelling
 pub mod ColumnLawEvents
 pub mod ColumnLawDeltas

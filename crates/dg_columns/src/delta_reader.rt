@@ -100,7 +100,7 @@ fn compare(left: &Element, right: &Element) -> Ordering
 }
 
 // Whether the element comes after the one before it, if there is one.
-pub(crate) fn rises_from(last: Option<Element>, element: &Element) -> bool
+fn rises_from(last: Option<Element>, element: &Element) -> bool
     ensures { result ≡ rises_from last element.now }
 {
     match last {

@@ -1,12 +1,13 @@
 //! The elements of a column that has no damage, read with one test of the room for each element. What
 //! is wrong, and where, is not looked for here.
 
-ghost use Rattle.std.specs.Prelude.{◌≡◌, ◌+◌, ◌≤◌, [], length, Ok, None, IfSome};
-ghost use Rattle.dg_graph.specs.Elements.{IsSet};
-ghost use Rattle.dg_graph.specs.ColumnGrammar.{element_at, element_size, elements_at};
+ghost use Rattle.std.specs.Prelude.{◌≡◌, ◌+◌, ◌≤◌, [], length, true, Ok, None, IfSome, IsTrue};
+ghost use Rattle.std.specs.Option.{option_copied};
+ghost use Rattle.dg_graph.specs.Elements.{IsSet, before};
+ghost use Rattle.dg_graph.specs.ColumnGrammar.{element_size, elements_at, rises_from};
 ghost use Rattle.dg_columns.specs.Fields.{attr_at, edge_fields_at, next_element_at};
 
-use crate::delta_reader::{AttrFields, rises_from};
+use crate::delta_reader::AttrFields;
 use crate::delta_writer::element_size;
 use crate::edge::EdgeFields;
 use crate::layout::{EDGE, EDGE_SIZE, NODE, NODE_SIZE, SMALLEST_ELEMENT, VALUE_SIZE};
@@ -59,10 +60,63 @@ fn edge_here(bytes: &[u8], offset: usize) -> Option<EdgeFields>
     }
 }
 
-// A node or an edge.
-fn structure_here(bytes: &[u8], offset: usize, name_count: u32) -> Option<Element>
+// Whether the element is of the kind of the last one and has a greater id, or a greater key at the same id.
+fn is_greater(last: &Element, element: Element) -> bool
+    ensures { IsTrue result → before last.now element ≡ true }
+{
+    match (element, *last) {
+        (Element::Node { id }, Element::Node { id: last_id }) => last_id < id,
+        (Element::Edge { id, .. }, Element::Edge { id: last_id, .. }) => last_id < id,
+        (
+            Element::NodeAttr { id, key, .. },
+            Element::NodeAttr {
+                id: last_id,
+                key: last_key,
+                ..
+            },
+        ) => last_id < id || last_id == id && last_key < key,
+        (
+            Element::EdgeAttr { id, key, .. },
+            Element::EdgeAttr {
+                id: last_id,
+                key: last_key,
+                ..
+            },
+        ) => last_id < id || last_id == id && last_key < key,
+        _ => false,
+    }
+}
+
+// Whether the element comes after the last one, by all their fields. Few need that. The element is taken by value, so
+// that it stands in memory for those alone.
+#[inline(never)]
+fn is_behind(last: &Element, element: Element) -> bool
+    ensures { result ≡ before last.now element }
+{
+    last.cmp(&element).is_lt()
+}
+
+// The element, if it comes after the one before it, or there is none.
+#[inline(always)]
+fn if_behind(last: Option<&Element>, element: Element) -> Option<Element>
+    ensures same { IfSome result (λ x. x ≡ element) }
+    ensures rises { IfSome result (λ x. rises_from (option_copied last.entry) element ≡ true) }
+{
+    match last {
+        Some(last) if !is_greater(last, element) && !is_behind(last, element) => None,
+        _ => Some(element),
+    }
+}
+
+// A node or an edge that comes after the last one.
+fn structure_here(
+    bytes: &[u8],
+    offset: usize,
+    name_count: u32,
+    last: Option<&Element>,
+) -> Option<Element>
     requires { offset ≤ length bytes.now }
-    ensures element { IfSome result (λ x. element_at Column.Structure name_count bytes.now offset ≡ Ok x) }
+    ensures element { IfSome result (λ x. next_element_at Column.Structure name_count bytes.now [] offset (option_copied last.entry) ≡ Ok x) }
     ensures fits { IfSome result (λ x. offset + element_size x ≤ length bytes.now) }
 {
     if bytes.len() - offset < NODE_SIZE {
@@ -71,67 +125,61 @@ fn structure_here(bytes: &[u8], offset: usize, name_count: u32) -> Option<Elemen
     match byte_at(bytes, offset) {
         NODE => {
             let id = u64_at(bytes, offset + 1);
-            Some(Element::Node { id })
+            if_behind(last, Element::Node { id })
         }
         EDGE => {
             let edge = edge_here(bytes, offset + 1)?;
-            Some(Element::Edge {
-                id: edge.id,
-                src: edge.src,
-                dst: edge.dst,
-                directed: edge.directed,
-            })
+            if_behind(
+                last,
+                Element::Edge {
+                    id: edge.id,
+                    src: edge.src,
+                    dst: edge.dst,
+                    directed: edge.directed,
+                },
+            )
         }
         _ => None,
     }
 }
 
-// The element of the column at the offset.
-fn element_here(bytes: &[u8], offset: usize, col: Column, name_count: u32) -> Option<Element>
-    requires { offset ≤ length bytes.now }
-    ensures element { IfSome result (λ x. element_at col name_count bytes.now offset ≡ Ok x) }
-    ensures fits { IfSome result (λ x. offset + element_size x ≤ length bytes.now) }
-{
-    match col {
-        Column::Structure => structure_here(bytes, offset, name_count),
-        Column::NodeAttr => {
-            let attr = attr_here(bytes, offset, name_count)?;
-            Some(Element::NodeAttr {
-                id: attr.id,
-                key: attr.key,
-                value: attr.value,
-            })
-        }
-        Column::EdgeAttr => {
-            let attr = attr_here(bytes, offset, name_count)?;
-            Some(Element::EdgeAttr {
-                id: attr.id,
-                key: attr.key,
-                value: attr.value,
-            })
-        }
-        Column::Transient => None,
-    }
-}
-
 // The element at the offset, which comes after the last one.
-#[tactic(auto, using(crate::proofs::FieldNextElement::next_is))]
 fn next_here(
     bytes: &[u8],
     offset: usize,
     col: Column,
     name_count: u32,
-    last: Option<Element>,
+    last: Option<&Element>,
 ) -> Option<Element>
     requires { offset ≤ length bytes.now }
-    ensures element { IfSome result (λ x. next_element_at col name_count bytes.now [] offset last ≡ Ok x) }
+    ensures element { IfSome result (λ x. next_element_at col name_count bytes.now [] offset (option_copied last.entry) ≡ Ok x) }
     ensures fits { IfSome result (λ x. offset + element_size x ≤ length bytes.now) }
 {
-    let element = element_here(bytes, offset, col, name_count)?;
-    if rises_from(last, &element) {
-        Some(element)
-    } else {
-        None
+    match col {
+        Column::Structure => structure_here(bytes, offset, name_count, last),
+        Column::NodeAttr => {
+            let attr = attr_here(bytes, offset, name_count)?;
+            if_behind(
+                last,
+                Element::NodeAttr {
+                    id: attr.id,
+                    key: attr.key,
+                    value: attr.value,
+                },
+            )
+        }
+        Column::EdgeAttr => {
+            let attr = attr_here(bytes, offset, name_count)?;
+            if_behind(
+                last,
+                Element::EdgeAttr {
+                    id: attr.id,
+                    key: attr.key,
+                    value: attr.value,
+                },
+            )
+        }
+        Column::Transient => None,
     }
 }
 
@@ -149,15 +197,16 @@ fn elements_here(
     ensures fits { IfSome result (λ p. p.1 ≤ length bytes.now) }
 {
     // The bytes bound what is reserved: the count is not trusted.
-    let room = (count as usize).min(bytes.len() / SMALLEST_ELEMENT);
+    let room = count as usize;
+    if room > bytes.len() / SMALLEST_ELEMENT {
+        return None;
+    }
     let mut items = Vec::with_capacity(alloc, room).ok()?;
     let mut offset = start;
-    let mut last = None;
     for _ in 0..count {
-        let element = next_here(bytes, offset, col, name_count, last)?;
+        let element = next_here(bytes, offset, col, name_count, items.last())?;
         offset += element_size(&element);
-        last = Some(element);
-        items.push(element).ok()?;
+        items.push_reserved(element);
     }
     Some((items, offset))
 }

@@ -1,11 +1,10 @@
 -- Whether a rising list is a graph, by what walks over it find.
-use Rattle.std.proofs.Common.{◌≡◌, ℕ, ◌+◌, ◌-◌, ◌<◌, ◌≤◌, Bool, true, false, ltb, eqb, ◌&&◌, ◌||◌, List, [], ◌∷◌, ◌++◌, Option, Some, None, is_some, length, take, map, get_or, IsTrue, refl, sym, ap, subst, ◌∙◌, arith, ◌⊎◌, inl, inr}
+use Rattle.std.proofs.Common.{◌≡◌, ℕ, ◌+◌, ◌-◌, ◌<◌, ◌≤◌, Bool, true, false, ltb, eqb, ◌&&◌, ◌||◌, List, [], ◌∷◌, ◌++◌, Some, None, is_some, length, take, map, get_or, IsTrue, refl, sym, ap, subst, ◌∙◌, arith, ◌⊎◌, inl, inr}
 use Rattle.std.proofs.lemmas.Bool.{true≢false, false≢true, ltb-true, ltb-false, eqb-true, eq-eqb, or_left}
 use Rattle.std.proofs.lemmas.List.{get_or-take, get_or-map, get_or_default, length-take-le, length-map, map-append, take_more}
 use Rattle.std.proofs.lemmas.List.Folds.{Any-from_list_any, list_any_at, list_all_more}
 use Rattle.std.specs.List.{list_any, list_all}
 use Rattle.std.specs.List.Sorted.{IsNonDecreasing}
-use Rattle.std.specs.Option.{option_map_or}
 use Rattle.std.specs.Ordering.{is_lt}
 use Rattle.std.specs.declared.cmp.Ordering.{Ordering}
 use Rattle.std.specs.declared.cmp.Ordering.TheVariants.{Less, Equal, Greater}
@@ -18,7 +17,7 @@ use Rattle.dg_graph.proofs.Sets.{element_exact, tied_exact, same_itself, before_
 use Rattle.dg_current.specs.declared.element_id.ElementId.{ElementId}
 use Rattle.dg_current.specs.declared.element_id.ElementId.TheVariants.{Node, Edge}
 use Rattle.dg_current.specs.ElementIds.{element_id_of, at, same_id}
-use Rattle.dg_current.specs.Sorted.{AreNodesOf, OneOfEachId, has_ends, holder_of, is_held, least}
+use Rattle.dg_current.specs.Sorted.{AreNodesOf, OneOfEachId, has_ends, holder_of, least}
 use Rattle.dg_current.proofs.ElementIds.{both, either, has_node_is, graph_from}
 use Rattle.dg_current.proofs.HeldGraph.{same_id_from}
 use Rattle.dg_current.proofs.SortedOrder.{nodes_rise, edges_rise, node_values_rise, edge_values_rise, nodes_above, rises_far, rises_on, index_of, item_there, id_between, not_itself}
@@ -175,10 +174,6 @@ holders_next xs s at i p less is below k j d q up from end holds =
 pub holders_still : (xs : List Element) (at i : ℕ) → HoldersPast xs at i → HoldersPast xs at (i + 1)
 holders_still xs at i old k j d p up from end is = old k j d p up (omega arith) end is
 
--- an item is held where what it stands at is found
-pub held_is : (xs : List Element) (x : Element) (o : Option ElementId) → holder_of x ≡ o → is_held xs x ≡ option_map_or (λ p. is_some (at xs p)) o true
-held_is xs x o e = ap (λ h. option_map_or (λ p. is_some (at xs p)) h true) e
-
 -- ---- nodes
 
 -- no node comes after an item that is none
@@ -240,28 +235,20 @@ module _ (xs : List Element) (s : IsSet xs) (nodes : List ℕ) (i : ℕ) (within
 
 -- ---- graphs
 
-needs_both : (set : List Element) (x : Element) → has_needs set x ≡ (has_ends set x && is_held set x)
-needs_both set (element.Node n) = refl
-needs_both set (element.Edge b n s d) = by (has_node set s && has_node set d)
-  where
-    by : (b : Bool) → b ≡ (b && true)
-    by true = refl
-    by false = refl
-needs_both set (element.NodeAttr n k v) = sym (has_node_is set n)
-needs_both set (element.EdgeAttr n k v) = refl
-needs_both set (element.Message s d v) = refl
+-- what a value needs is what it stands at, and what all others need are their ends
+pub needs_held : (set : List Element) (x : Element) (p : ElementId) → holder_of x ≡ Some p → has_needs set x ≡ is_some (at set p)
+needs_held set (element.Node n) p e = absurd (none_some e)
+needs_held set (element.Edge b n s d) p e = absurd (none_some e)
+needs_held set (element.NodeAttr n k v) p e = sym (has_node_is set n) ∙ ap (λ q. is_some (at set q)) (some_is (Node n) p e)
+needs_held set (element.EdgeAttr n k v) p e = ap (λ q. is_some (at set q)) (some_is (Edge n) p e)
+needs_held set (element.Message s d v) p e = absurd (none_some e)
 
-pub all_needs : (set : List Element) → (list_all (is_held set) set && list_all (has_ends set) set) ≡ list_all (has_needs set) set
-all_needs set =
-    bool_is (list_all (is_held set) set && list_all (has_ends set) set) (list_all (has_needs set) set)
-    (λ e.
-    let parts = both (list_all (is_held set) set) (list_all (has_ends set) set) e in
-    of_all (has_needs set) set (λ x h. needs_both set x ∙ (λ i. all_of (has_ends set) set parts.1 x h i && all_of (is_held set) set parts.0 x h i)))
-    (λ e.
-    let one : (x : Element) → has set x ≡ true → (has_ends set x ≡ true) × (is_held set x ≡ true) = λ x h. both (has_ends set x) (is_held set x) (sym (needs_both set x) ∙ all_of (has_needs set) set e x h) in
-    let held = of_all (is_held set) set (λ x h. (one x h).1) in
-    let ends = of_all (has_ends set) set (λ x h. (one x h).0) in
-    λ i. held i && ends i)
+pub needs_ends : (set : List Element) (x : Element) → holder_of x ≡ None → has_needs set x ≡ has_ends set x
+needs_ends set (element.Node n) e = refl
+needs_ends set (element.Edge b n s d) e = refl
+needs_ends set (element.NodeAttr n k v) e = absurd (none_some (sym e))
+needs_ends set (element.EdgeAttr n k v) e = absurd (none_some (sym e))
+needs_ends set (element.Message s d v) e = refl
 
 -- a set whose elements have ids of their own and what they need is a graph, and the other way round
 pub graph_passes : (set : List Element) → IsSet set → OneOfEachId set → list_all (has_needs set) set ≡ true → IsGraph set

@@ -1,14 +1,13 @@
 -- What searches in a rising list find, and how many of its elements pass a test.
 use Rattle.std.proofs.Common.{◌≡◌, ℕ, ◌+◌, ◌-◌, ◌<◌, ◌≤◌, zero, suc, Bool, true, false, cond, ltb, leb, eqb, ◌||◌, List, [], ◌∷◌, ◌++◌, Some, None, Result, Ok, Err, is_ok, find, length, take, drop, get_or, IsTrue, refl, sym, ap, subst, ◌∙◌, arith, add-one, drop-cons}
-use Rattle.std.proofs.lemmas.Bool.{true≢false, false≢true, ltb-true, ltb-false, eq-eqb, ne_eqb}
+use Rattle.std.proofs.lemmas.Bool.{true≢false, ltb-true, ltb-false, eq-eqb, ne_eqb}
 use Rattle.std.proofs.lemmas.List.{get_or_default, take_more, get_or-drop, length-drop}
 use Rattle.std.proofs.lemmas.List.Folds.{list_any_at, list_any_none}
 use Rattle.std.proofs.lemmas.List.Sorted.{searchable_from_sorted, searched}
 use Rattle.std.proofs.lemmas.List.Sums.{sum_by-cons}
 use Rattle.std.specs.List.{list_any, count_by}
 use Rattle.std.specs.List.Sorted.{IsBinarySearchResult, IsNonDecreasing, IsNonDecreasingBy, IsPartitionPoint, IsPartitionedBy}
-use Rattle.std.specs.Ordering.{is_lt, is_ge, nat_cmp, ordering_index}
-use Rattle.std.specs.declared.cmp.Ordering.{Ordering}
+use Rattle.std.specs.Ordering.{is_lt, nat_cmp, ordering_index}
 use Rattle.std.specs.declared.cmp.Ordering.TheVariants.{Less, Equal, Greater}
 use Rattle.dg_graph.specs.declared.element.Element.{Element}
 use Rattle.dg_graph.specs.declared.element.Element.TheVariants as element
@@ -64,37 +63,27 @@ module _ (x : Element) (xs : List Element) (s : IsSet xs) (i : ℕ) where
         above = λ k d from end. ap is_lt (split.1 k d from end);
       }
 
--- what the code's comparison says of the item at an index
-is_ge_not_lt : (o : Ordering) → is_ge o ≡ true → is_lt o ≡ false
-is_ge_not_lt Less e = absurd (false≢true e)
-is_ge_not_lt Equal e = refl
-is_ge_not_lt Greater e = refl
-
-not_ge_lt : (o : Ordering) → is_ge o ≡ false → is_lt o ≡ true
-not_ge_lt Less e = refl
-not_ge_lt Equal e = absurd (true≢false e)
-not_ge_lt Greater e = absurd (true≢false e)
-
 -- what an index past the list reads as
 abbrev pub past : Element
 past = element.Node 0
 
-module _ (x : Element) (xs : List Element) (i : ℕ) (less : i < length xs) (o : Ordering) (is : o ≡ element_cmp (get_or xs i past) x) where
-  pub compared_not_before : is_ge o ≡ true → (d : Element) → before (get_or xs i d) x ≡ false
-  compared_not_before ge d =
-      ap (λ y. before y x) (get_or_default xs i d past less)
-      ∙ is_ge_not_lt (element_cmp (get_or xs i past) x) (sym (ap is_ge is) ∙ ge)
+-- by whether the item at an index is before it
+module _ (x : Element) (xs : List Element) (i : ℕ) (less : i < length xs) where
+  same_item : (d : Element) → before (get_or xs i d) x ≡ before (get_or xs i past) x
+  same_item d = ap (λ y. before y x) (get_or_default xs i d past less)
 
-  pub compared_before : is_ge o ≡ false → ((k : ℕ) (d : Element) → k < i → IsTrue (before (get_or xs k d) x)) → (k : ℕ) (d : Element) → k < i + 1 → IsTrue (before (get_or xs k d) x)
-  compared_before lt below k d up = by (ltb k i) refl
+  pub not_before_here : before (get_or xs i past) x ≡ false → (d : Element) → before (get_or xs i d) x ≡ false
+  not_before_here e d = same_item d ∙ e
+
+  pub before_more : before (get_or xs i past) x ≡ true → ((k : ℕ) (d : Element) → k < i → IsTrue (before (get_or xs k d) x)) → (k : ℕ) (d : Element) → k < i + 1 → IsTrue (before (get_or xs k d) x)
+  before_more here below k d up = by (ltb k i) refl
     where
       by : (b : Bool) → ltb k i ≡ b → IsTrue (before (get_or xs k d) x)
       by true e = below k d (ltb-true k i e)
       by false e =
           let back = ltb-false k i e in
           let one : k ≡ i = omega arith in
-          ap (λ j. before (get_or xs j d) x) one ∙ ap (λ y. before y x) (get_or_default xs i d past less)
-          ∙ not_ge_lt (element_cmp (get_or xs i past) x) (sym (ap is_ge is) ∙ lt)
+          ap (λ j. before (get_or xs j d) x) one ∙ same_item d ∙ here
 
 -- ---- the item with an id
 

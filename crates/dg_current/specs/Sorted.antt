@@ -1,15 +1,14 @@
 -- The elements of a set in their order: what a search in them finds, and the ends of their edges.
-use Rattle.std.specs.Prelude.{◌≡◌, ℕ, ◌<◌, ◌≤◌, Bool, true, false, ◌&&◌, ◌||◌, ◌==◌, List, Option, Some, None, length, slice_index_or, is_some, IsTrue}
+use Rattle.std.specs.Prelude.{◌≡◌, ℕ, ◌<◌, ◌≤◌, Bool, true, false, ◌&&◌, ◌||◌, ◌==◌, List, Option, Some, None, length, slice_index_or, IsTrue}
 use Rattle.std.specs.List.{list_any, count_by}
 use Rattle.std.specs.List.Sorted.{IsNonDecreasing}
-use Rattle.std.specs.Option.{option_map_or}
 use Rattle.dg_graph.specs.declared.element.Element.{Element}
 use Rattle.dg_graph.specs.declared.element.Element.TheVariants as element
 use Rattle.dg_graph.specs.Completion.{has_node}
 use Rattle.dg_graph.specs.Elements.{before, has}
 use Rattle.dg_current.specs.declared.element_id.ElementId.{ElementId}
 use Rattle.dg_current.specs.declared.element_id.ElementId.TheVariants.{Node, Edge, NodeValue, EdgeValue, Message}
-use Rattle.dg_current.specs.ElementIds.{element_id_of, at}
+use Rattle.dg_current.specs.ElementIds.{element_id_of}
 
 -- the least element with the id, in the order of elements
 abbrev pub least : ElementId → Element
@@ -34,10 +33,6 @@ abbrev pub holder_of : Element → Option ElementId
 holder_of (element.NodeAttr id key value) = Some (Node id)
 holder_of (element.EdgeAttr id key value) = Some (Edge id)
 holder_of _ = None
-
--- what a value stands at is in the set
-abbrev pub is_held : List Element → Element → Bool
-is_held set x = option_map_or (λ p. is_some (at set p)) (holder_of x) true
 
 -- the two ends of an edge are in the set; a message is in no graph
 abbrev pub has_ends : List Element → Element → Bool

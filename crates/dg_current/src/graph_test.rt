@@ -4,12 +4,41 @@ ghost use Rattle.std.specs.List.{list_any, list_all};
 ghost use Rattle.std.specs.List.Sorted.{IsNonDecreasing};
 ghost use Rattle.dg_graph.specs.Elements.{IsSet};
 ghost use Rattle.dg_graph.specs.Graph.{IsGraph, has_needs};
-ghost use Rattle.dg_current.specs.Sorted.{AreNodesOf, OneOfEachId, has_ends, holder_of, is_held};
+ghost use Rattle.dg_current.specs.ElementIds.{element_id_of, same_id};
+ghost use Rattle.dg_current.specs.Sorted.{AreNodesOf, OneOfEachId, has_ends, holder_of};
 
 use crate::element_id::ElementId;
 use crate::search::{first_from, found_at, least, next_from};
 use dg_graph::Element;
 use std::alloc::{AllocError, Global};
+
+// Whether the two elements have one id.
+fn have_one_id(left: &Element, right: &Element) -> bool
+    ensures { result ≡ same_id (element_id_of left.now) (element_id_of right.now) }
+{
+    match (*left, *right) {
+        (Element::Node { id }, Element::Node { id: other_id }) => id == other_id,
+        (Element::Edge { id, .. }, Element::Edge { id: other_id, .. }) => id == other_id,
+        (
+            Element::NodeAttr { id, key, .. },
+            Element::NodeAttr {
+                id: other_id,
+                key: other_key,
+                ..
+            },
+        ) => key == other_key && id == other_id,
+        (
+            Element::EdgeAttr { id, key, .. },
+            Element::EdgeAttr {
+                id: other_id,
+                key: other_key,
+                ..
+            },
+        ) => key == other_key && id == other_id,
+        (Element::Message { .. }, Element::Message { .. }) => true,
+        _ => false,
+    }
+}
 
 // Whether no two of the items have one id: such two would be neighbours.
 fn ids_differ(items: &[Element]) -> bool
@@ -17,7 +46,7 @@ fn ids_differ(items: &[Element]) -> bool
     ensures { IsTrue result ↔ OneOfEachId items.now }
 {
     for index in 1..items.len() {
-        if ElementId::of(&items[index - 1]) == ElementId::of(&items[index]) {
+        if have_one_id(&items[index - 1], &items[index]) {
             return false;
         }
     }
@@ -33,24 +62,6 @@ fn holder_of(element: &Element) -> Option<ElementId>
         Element::NodeAttr { id, .. } => Some(ElementId::Node(id)),
         Element::EdgeAttr { id, .. } => Some(ElementId::Edge(id)),
     }
-}
-
-// Whether each value stands at a node or an edge among the items. What the values stand at comes in
-// the order of the values, so one walk over the nodes and edges finds it.
-fn values_are_held(items: &[Element]) -> bool
-    requires { IsSet items.now }
-    ensures { result ≡ list_all (is_held items.now) items.now }
-{
-    let mut at = 0;
-    for element in items {
-        if let Some(id) = holder_of(element) {
-            at = next_from(items, at, &least(id));
-            if found_at(items, at, id).is_none() {
-                return false;
-            }
-        }
-    }
-    true
 }
 
 // The ids of the nodes among the items.
@@ -102,26 +113,27 @@ fn has_ends(items: &[Element], nodes: &[u64], element: &Element) -> bool
     }
 }
 
-// Whether the ends of all edges are among the nodes, and there is no message.
-fn edges_have_ends(items: &[Element], nodes: &[u64]) -> bool
-    requires { AreNodesOf items.now nodes.now }
-    ensures { result ≡ list_all (has_ends items.now) items.now }
-{
-    for element in items {
-        if !has_ends(items, nodes, element) {
-            return false;
-        }
-    }
-    true
-}
-
-// Whether each of the items has what it needs among them.
+// Whether each of the items has what it needs among them: an edge its ends, and a value what it stands at. That comes in
+// the order of the values, so one walk over the nodes and edges beside theirs finds it.
 fn are_fed(items: &[Element], nodes: &[u64]) -> bool
     requires set { IsSet items.now }
     requires nodes { AreNodesOf items.now nodes.now }
     ensures { result ≡ list_all (has_needs items.now) items.now }
 {
-    values_are_held(items) && edges_have_ends(items, nodes)
+    let mut at = 0;
+    for element in items {
+        let is_fed = match holder_of(element) {
+            Some(id) => {
+                at = next_from(items, at, id);
+                found_at(items, at, id).is_some()
+            }
+            None => has_ends(items, nodes, element),
+        };
+        if !is_fed {
+            return false;
+        }
+    }
+    true
 }
 
 /// Whether the items are a graph. An `Err` says that memory ran out.

@@ -42,16 +42,30 @@ pub(crate) fn first_from(items: &[Element], element: &Element) -> usize
     }
 }
 
-/// The same where the items up to the index `from` are before the element: it passes over them, and
-/// goes on from there, one item after another.
-pub(crate) fn next_from(items: &[Element], from: usize, element: &Element) -> usize
+// Whether the item is before the least element with the id.
+fn is_before(item: &Element, id: ElementId) -> bool
+    ensures { result ≡ before item.now (least id) }
+{
+    match (id, *item) {
+        (ElementId::Node(id), Element::Node { id: item_id }) => item_id < id,
+        (ElementId::Node(_), _) => false,
+        (ElementId::Edge(_), Element::Node { .. }) => true,
+        (ElementId::Edge(id), Element::Edge { id: item_id, .. }) => item_id < id,
+        (ElementId::Edge(_), _) => false,
+        _ => item.cmp(&least(id)).is_lt(),
+    }
+}
+
+/// The index of the first item that is not before the least element with the id, where the items up to the index
+/// `from` are before it: it passes over them, and goes on from there, one item after another.
+pub(crate) fn next_from(items: &[Element], from: usize, id: ElementId) -> usize
     requires set { IsSet items.now }
     requires within { from ≤ length items.now }
-    requires below { (k : ℕ) (d : Element) → k < from → IsTrue (before (slice_index_or items.now k d) element.now) }
-    ensures { IsFirstFrom element.now items.now result }
+    requires below { (k : ℕ) (d : Element) → k < from → IsTrue (before (slice_index_or items.now k d) (least id)) }
+    ensures { IsFirstFrom (least id) items.now result }
 {
     for index in from..items.len() {
-        if items[index].cmp(element).is_ge() {
+        if !is_before(&items[index], id) {
             return index;
         }
     }

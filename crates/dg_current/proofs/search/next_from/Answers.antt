@@ -1,16 +1,16 @@
 use Rattle.std.proofs.Common.{sym, ◌∙◌}
-use Rattle.dg_current.proofs.SortedSearches.{first_here, compared_not_before, compared_before}
+use Rattle.dg_current.specs.Sorted.{least}
+use Rattle.dg_current.proofs.SortedSearches.{before_more, first_here, not_before_here}
 use Rattle.dg_current.proofs.search.next_from.Goals as goal
 
-pub returns-then-is_ge : goal.returns-then-is_ge
-returns-then-is_ge c =
-    let x = c.args.element.now in
+pub returns-then-not-is_before : goal.returns-then-not-is_before
+returns-then-not-is_before c =
+    let x = least c.args.id in
     let xs = c.args.items.now in
     let i = c.loop-index.index in
-    first_here x xs c.requires.set i c.loop-index-test.true c.loop-index.invariant
-    (compared_not_before x xs i c.loop-index-test.true c.cmp.result c.cmp.ensures (sym c.is_ge.ensures ∙ c.if-is_ge.true))
+    let less = c.loop-index-test.true in
+    first_here x xs c.requires.set i less c.loop-index.invariant (not_before_here x xs i less (sym c.is_before.ensures ∙ c.if-not-is_before.true))
 
 pub loop-index-preserved : goal.loop-index-preserved
 loop-index-preserved c =
-    let i = c.loop-index.index in
-    compared_before c.args.element.now c.args.items.now i c.loop-index-test.true c.cmp.result c.cmp.ensures (sym c.is_ge.ensures ∙ c.if-is_ge.false) c.loop-index.invariant
+    before_more (least c.args.id) c.args.items.now c.loop-index.index c.loop-index-test.true (sym c.is_before.ensures ∙ c.if-not-is_before.false) c.loop-index.invariant
