@@ -5,7 +5,7 @@ use Rattle.std.specs.Prelude.{Option, Some, None, IsSome}
 use Rattle.dg_arena.specs.declared.row.Row.{Row}
 use Rattle.dg_arena.specs.declared.cell.Cell.{Cell}
 use Rattle.dg_arena.specs.declared.cell.Link.TheVariants.{Live}
-use Rattle.dg_arena.specs.Cells.{cell_at, Puts, Reuses, shown, rows_of, vacant, place, behind, Stands, IsChain, IsArena}
+use Rattle.dg_arena.specs.Cells.{CellMap, cell_at, Puts, Reuses, shown, rows_of, taken_next, vacant, place, behind, Stands, IsChain, IsArena}
 use Rattle.dg_arena.proofs.Options.{holds, stands_within}
 use Rattle.dg_arena.proofs.Vacancies.{same_or_not, below_or_not, set_other, set_same, none_behind, vacant_at_most, vacant_taken, vacant_given, vacant_written, vacant_more, none_vacant, shown_at, shown_length, shown_all, chain_vacant, chain_kept, chain_longer}
 
@@ -258,6 +258,15 @@ module _ {X : Type 0} where
       let low = low_if cells len n there.0 A.unfilled there.1 in
       let size = shown_length cells len A.within in
       omega (arith, low, size)
+
+  -- where the cell behind all others is taken next, none of them is vacant
+  pub none_is_vacant : (cells : List (Option (Cell X))) (len spare : ℕ) (free : Option ℕ) (old : CellMap X) → IsArena cells len free spare
+      → record { items = rows_of cells len; spare = spare; vacancy = taken_next free len } ≡ old → 1 ≤ old.spare → old.vacancy ≡ length old.items → (free ≡ None) × (1 ≤ spare)
+  none_is_vacant cells len spare None old A view room behind = (refl, subst (λ k. 1 ≤ k) (sym (ap (λ m. m.spare) view)) room)
+  none_is_vacant cells len spare (Some n) old A view room behind =
+      let low = first_is_low cells len n spare (Some n) A refl in
+      let is : n ≡ length (rows_of cells len) = ap (λ m. m.vacancy) view ∙ behind ∙ sym (ap (λ m. length m.items) view) in
+      absurd (omega arith)
 
   -- a live cell is one with a value
   pub live_cell : (cells : List (Option (Cell X))) (len n : ℕ) (rows : List (Option (Row X))) → ((m : ℕ) → len ≤ m → place cells m ≡ None) → rows_of cells len ≡ rows → IsSome (cell_at rows n)

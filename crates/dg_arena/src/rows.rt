@@ -125,6 +125,25 @@ impl<T: Copy> Rows<T> {
         }
     }
 
+    /// Takes a cell with this row behind all others, where none of them is vacant. It takes no memory.
+    pub fn push(&mut self, row: Row<T>)
+        requires room { 1 ≤ self.old.spare }
+        requires behind { self.old.vacancy ≡ length self.old.items }
+        ensures items { self.new.items ≡ self.old.items ++ Some row ∷ [] }
+        ensures vacancy { self.new.vacancy ≡ length self.new.items }
+        ensures spare { self.new.spare + 1 ≡ self.old.spare }
+    {
+        self.spare -= 1;
+        self.cells.write(
+            self.len,
+            Cell {
+                row,
+                link: Link::Live,
+            },
+        );
+        self.len += 1;
+    }
+
     /// Takes a cell with this value and no bit. It takes no memory.
     pub fn take(&mut self, value: T) -> usize
         requires { 1 ≤ self.old.spare }

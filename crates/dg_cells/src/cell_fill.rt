@@ -19,7 +19,7 @@ fn new_rows(alloc: Global, items: &[Element], current: bool) -> Result<Rows<Elem
     let mut rows = Rows::new(alloc);
     rows.reserve(items.len())?;
     for x in items {
-        rows.insert(new_row(*x, current));
+        rows.push(new_row(*x, current));
     }
     Ok(rows)
 }
