@@ -1,10 +1,11 @@
 -- The lines of the records that an index holds.
-use Rattle.std.specs.Prelude.{ℕ, ◌*◌, ◌/◌, ◌^◌, List, [], ◌∷◌, Option, Some, None, length, map}
+use Rattle.std.specs.Prelude.{ℕ, ◌*◌, ◌/◌, ◌^◌, List, Option, Some, None, length, map}
 use Rattle.std.specs.Map.{lookup}
 use Rattle.dg_history.specs.declared.node.Key.{Key}
 use Rattle.dg_history.specs.declared.node.Key.TheVariants as key
 use Rattle.dg_history.specs.Keys.{same_key}
 use Rattle.dg_index.specs.declared.entry.Entry.{Entry}
+use Rattle.dg_index.specs.declared.per_column.PerColumn.{PerColumn}
 use Rattle.dg_index.specs.Hierarchy.{leaves, numbers}
 use Rattle.dg_index.specs.IndexRecords.{keys_of}
 use Rattle.dg_index.specs.OpenedIndex.{Opening}
@@ -13,9 +14,9 @@ use Rattle.dg_machine.specs.declared.reply.BodyLine.TheVariants as line
 use Rattle.dg_machine.specs.declared.reply.Head.TheVariants as head
 use Rattle.dg_machine.specs.declared.reply.Reply.{Reply}
 
--- the bytes of the four columns of a record, and none where the key is not held
-abbrev pub lengths_held : Option Entry → List ℕ
-lengths_held None = 0 ∷ 0 ∷ 0 ∷ 0 ∷ []
+-- the bytes of each column of a record, and none where the key is not held
+abbrev pub lengths_held : Option Entry → PerColumn ℕ
+lengths_held None = record { structure = 0; node_attrs = 0; edge_attrs = 0; transient = 0 }
 lengths_held (Some e) = e.lengths
 
 -- the line of a record

@@ -14,6 +14,7 @@ use crate::plans::shape_of;
 use dg_catalogue::{Catalogue, Shape};
 use dg_file::Index;
 use dg_history::{Key, Params};
+use dg_index::PerColumn;
 use dg_machine::{BodyLine, BodyLines, Head, Reply};
 use std::alloc::{AllocError, Global};
 
@@ -23,7 +24,12 @@ fn record_line(catalogue: &Catalogue, key: Key) -> BodyLine
 {
     let lengths = match catalogue.entry(key) {
         Some(entry) => entry.lengths,
-        None => [0; 4],
+        None => PerColumn {
+            structure: 0,
+            node_attrs: 0,
+            edge_attrs: 0,
+            transient: 0,
+        },
     };
     BodyLine::Sizes { key, lengths }
 }

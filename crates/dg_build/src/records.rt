@@ -16,6 +16,7 @@ use crate::first_list::list_at;
 use dg_columns::{write_delta, write_events};
 use dg_delta::Delta;
 use dg_graph::{Column, Event};
+use dg_index::PerColumn;
 use dg_segment::Segment;
 use std::alloc::{AllocError, Global};
 
@@ -68,14 +69,13 @@ fn add_list(
     let node_attrs = write_events(alloc, events, Column::NodeAttr)?;
     let edge_attrs = write_events(alloc, events, Column::EdgeAttr)?;
     let transient = message_column(alloc, messages, events)?;
-    segment.add_list(
-        first_time(events),
-        last_time(events),
-        &structure,
-        &node_attrs,
-        &edge_attrs,
-        &transient,
-    )
+    let columns = PerColumn {
+        structure: structure.as_slice(),
+        node_attrs: node_attrs.as_slice(),
+        edge_attrs: edge_attrs.as_slice(),
+        transient: transient.as_slice(),
+    };
+    segment.add_list(first_time(events), last_time(events), columns)
 }
 
 /// Gives the segment the columns of so many closed lists, of `l` events each: those of the first, and then
@@ -119,7 +119,12 @@ pub(crate) fn set_piece(
     let node_attrs = write_events(alloc, events, Column::NodeAttr)?;
     let edge_attrs = write_events(alloc, events, Column::EdgeAttr)?;
     let transient = message_column(alloc, messages, events)?;
-    segment.set_piece(&structure, &node_attrs, &edge_attrs, &transient)
+    segment.set_piece(PerColumn {
+        structure: structure.as_slice(),
+        node_attrs: node_attrs.as_slice(),
+        edge_attrs: edge_attrs.as_slice(),
+        transient: transient.as_slice(),
+    })
 }
 
 // Whether a set of the delta has too many elements to be written.

@@ -1,5 +1,5 @@
 -- What a catalogue tells of the records of an index.
-use Rattle.std.specs.Prelude.{◌≡◌, ℕ, ◌+◌, ◌≤◌, List, Option, Some, None, is_some, slice_index}
+use Rattle.std.specs.Prelude.{◌≡◌, ℕ, ◌+◌, ◌≤◌, List, Option, Some, None, is_some}
 use Rattle.std.specs.List.{All}
 use Rattle.std.specs.Map.{keys_of, values_of}
 use Rattle.dg_graph.specs.declared.element.Column.{Column}
@@ -22,17 +22,17 @@ pub record Holdings : Type 0 where
 
 -- the bytes of one column
 abbrev pub column_length_in : Entry → Column → ℕ
-column_length_in e Structure = slice_index e.lengths 0
-column_length_in e NodeAttr = slice_index e.lengths 1
-column_length_in e EdgeAttr = slice_index e.lengths 2
-column_length_in e Transient = slice_index e.lengths 3
+column_length_in e Structure = e.lengths.structure
+column_length_in e NodeAttr = e.lengths.node_attrs
+column_length_in e EdgeAttr = e.lengths.edge_attrs
+column_length_in e Transient = e.lengths.transient
 
 -- the byte at which a column begins: the columns stand one after another
 abbrev pub offset_in : Entry → Column → ℕ
 offset_in e Structure = e.offset
-offset_in e NodeAttr = e.offset + slice_index e.lengths 0
-offset_in e EdgeAttr = e.offset + slice_index e.lengths 0 + slice_index e.lengths 1
-offset_in e Transient = e.offset + slice_index e.lengths 0 + slice_index e.lengths 1 + slice_index e.lengths 2
+offset_in e NodeAttr = e.offset + e.lengths.structure
+offset_in e EdgeAttr = e.offset + e.lengths.structure + e.lengths.node_attrs
+offset_in e Transient = e.offset + e.lengths.structure + e.lengths.node_attrs + e.lengths.edge_attrs
 
 -- the instants of the history, once a batch with these is added
 abbrev pub spanned : Option Ends → Ends → Ends

@@ -15,7 +15,7 @@ ghost use Rattle.dg_catalogue.specs.Held.{entry_of, length_of, offset_of, ends_o
 
 use dg_graph::Column;
 use dg_history::Key;
-use dg_index::{Ends, Entry, Row};
+use dg_index::{Ends, Entry, PerColumn, Row};
 use indexmap::IndexMap;
 use std::alloc::{AllocError, Global};
 use std::marker::Model;
@@ -38,12 +38,11 @@ pub fn catalogue_limits()
 pub fn column_length(entry: &Entry, col: Column) -> u64
     ensures { result ≡ column_length_in entry.now col }
 {
-    let [structure, nodes_attr, edges_attr, transient] = entry.lengths;
     match col {
-        Column::Structure => structure,
-        Column::NodeAttr => nodes_attr,
-        Column::EdgeAttr => edges_attr,
-        Column::Transient => transient,
+        Column::Structure => entry.lengths.structure,
+        Column::NodeAttr => entry.lengths.node_attrs,
+        Column::EdgeAttr => entry.lengths.edge_attrs,
+        Column::Transient => entry.lengths.transient,
     }
 }
 
@@ -53,12 +52,17 @@ pub fn column_offset(entry: &Entry, col: Column) -> u64
     requires { IsInRange entry.now }
     ensures { result ≡ offset_in entry.now col }
 {
-    let [structure, nodes_attr, edges_attr, _] = entry.lengths;
+    let PerColumn {
+        structure,
+        node_attrs,
+        edge_attrs,
+        ..
+    } = entry.lengths;
     match col {
         Column::Structure => entry.offset,
         Column::NodeAttr => entry.offset + structure,
-        Column::EdgeAttr => entry.offset + structure + nodes_attr,
-        Column::Transient => entry.offset + structure + nodes_attr + edges_attr,
+        Column::EdgeAttr => entry.offset + structure + node_attrs,
+        Column::Transient => entry.offset + structure + node_attrs + edge_attrs,
     }
 }
 
@@ -132,7 +136,7 @@ impl Catalogue {
     /// the byte `offset` on. There is room for it, its key is not held yet, and `ends` is given exactly
     /// for a list, whose number is below `LISTS_MAX`. It ends at `BYTES_MAX` at the latest, and so many
     /// bytes have all records at the most. Takes no memory.
-    pub fn add(&mut self, key: Key, lengths: [u64; 4], offset: u64, ends: Option<Ends>)
+    pub fn add(&mut self, key: Key, lengths: PerColumn<u64>, offset: u64, ends: Option<Ends>)
         requires room { 1 ≤ self.old.spare }
         requires lacks { entry_of self.old key ≡ None }
         requires in_range { offset + total lengths ≤ BYTES_MAX }
@@ -178,8 +182,13 @@ impl Catalogue {
         for i in 0..keys.len() {
             let row = rows[i];
             self.add(keys[i], row.lengths, offset, row.ends);
-            let [structure, nodes_attr, edges_attr, transient] = row.lengths;
-            offset += structure + nodes_attr + edges_attr + transient;
+            let PerColumn {
+                structure,
+                node_attrs,
+                edge_attrs,
+                transient,
+            } = row.lengths;
+            offset += structure + node_attrs + edge_attrs + transient;
         }
     }
 

@@ -6,7 +6,7 @@ ghost use Rattle.dg_index.specs.OpenedIndex.{lengths_at, list_at, list_bytes_max
 ghost use Rattle.dg_catalogue.specs.Additions.{bytes_of_rows};
 ghost use Rattle.dg_directory.specs.RowKinds.{row_at, row_size};
 
-use dg_index::{Ends, Row};
+use dg_index::{Ends, PerColumn, Row};
 use dg_numbers::{u32_at, u64_at};
 use std::alloc::{AllocError, Global};
 
@@ -31,17 +31,16 @@ fn row_size(kind: RowKind, wide: bool) -> usize
 }
 
 // The lengths of the columns; in the first form there are no messages.
-fn lengths_at(bytes: &[u8], wide: bool, at: usize) -> [u64; 4]
+fn lengths_at(bytes: &[u8], wide: bool, at: usize) -> PerColumn<u64>
     requires { at + lengths_size wide ≤ length bytes.now }
     ensures { result ≡ lengths_at wide bytes.now at }
 {
-    let transient = if wide { u64_at(bytes, at + 24) } else { 0 };
-    [
-        u64_at(bytes, at),
-        u64_at(bytes, at + 8),
-        u64_at(bytes, at + 16),
-        transient,
-    ]
+    PerColumn {
+        structure: u64_at(bytes, at),
+        node_attrs: u64_at(bytes, at + 8),
+        edge_attrs: u64_at(bytes, at + 16),
+        transient: if wide { u64_at(bytes, at + 24) } else { 0 },
+    }
 }
 
 // The row at the offset.
@@ -136,7 +135,12 @@ pub fn is_measured(rows: &[Row], columns: u64) -> bool
 {
     let mut left = columns;
     for row in rows {
-        let [structure, node_attrs, edge_attrs, transient] = row.lengths;
+        let PerColumn {
+            structure,
+            node_attrs,
+            edge_attrs,
+            transient,
+        } = row.lengths;
         if left < structure {
             return false;
         }
@@ -161,11 +165,16 @@ pub fn list_bytes_max(events: u32) -> u64
     12 + 36 * events as u64
 }
 
-// Whether the four lengths come to at most so many bytes.
-fn is_at_most(lengths: [u64; 4], most: u64) -> bool
+// Whether the lengths come to at most so many bytes.
+fn is_at_most(lengths: PerColumn<u64>, most: u64) -> bool
     ensures { result ≡ nat_le (total lengths) most }
 {
-    let [structure, node_attrs, edge_attrs, transient] = lengths;
+    let PerColumn {
+        structure,
+        node_attrs,
+        edge_attrs,
+        transient,
+    } = lengths;
     structure <= most
         && node_attrs <= most - structure
         && edge_attrs <= most - structure - node_attrs
@@ -178,7 +187,7 @@ pub fn are_unheard(rows: &[Row], lists: usize, deltas: usize) -> bool
     ensures { result ≡ are_unheard (take deltas (drop lists rows.now)) }
 {
     let deltas_rows = &rows[lists..lists + deltas];
-    deltas_rows.iter().all(|row| row.lengths[3] == 0)
+    deltas_rows.iter().all(|row| row.lengths.transient == 0)
 }
 
 /// Whether the lists begin at the first time or later and end at the last or earlier, each not before the

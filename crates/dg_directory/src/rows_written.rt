@@ -5,7 +5,7 @@ ghost use Rattle.std.specs.List.{flat_map};
 ghost use Rattle.dg_graph.specs.Columns.{eight, four};
 ghost use Rattle.dg_directory.specs.RowTexts.{lengths_text, row_text};
 
-use dg_index::{Ends, Row};
+use dg_index::{Ends, PerColumn, Row};
 use std::alloc::AllocError;
 
 /// Puts a number of eight bytes.
@@ -58,15 +58,14 @@ fn put_ends(ends: Ends, into: &mut Vec<u8>) -> Result<(), AllocError>
     Ok(())
 }
 
-fn put_lengths(lengths: [u64; 4], wide: bool, into: &mut Vec<u8>) -> Result<(), AllocError>
+fn put_lengths(lengths: PerColumn<u64>, wide: bool, into: &mut Vec<u8>) -> Result<(), AllocError>
     ensures { OnOk result (into.new.items ≡ into.old.items ++ lengths_text wide lengths) }
 {
-    let [structure, node_attrs, edge_attrs, transient] = lengths;
-    put_number(structure, into)?;
-    put_number(node_attrs, into)?;
-    put_number(edge_attrs, into)?;
+    put_number(lengths.structure, into)?;
+    put_number(lengths.node_attrs, into)?;
+    put_number(lengths.edge_attrs, into)?;
     if wide {
-        put_number(transient, into)?;
+        put_number(lengths.transient, into)?;
     }
     Ok(())
 }

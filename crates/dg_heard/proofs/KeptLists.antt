@@ -1,6 +1,6 @@
 -- What an index of a history keeps of its lists: their number, their times and the bytes of their columns of messages.
 use Rattle.std.proofs.Common.{◌≡◌, ℕ, ◌+◌, ◌*◌, ◌<◌, ◌≤◌, Bool, true, false, cond, List as ListOf, [], ◌∷◌, filter, length, map, Option, Some, refl, ap, ◌∙◌, arith}
-use Rattle.std.specs.Prelude.{is_some, slice_index}
+use Rattle.std.specs.Prelude.{is_some}
 use Rattle.std.specs.List.{list_any}
 use Rattle.std.specs.Map.{lookup}
 use Rattle.std.proofs.lemmas.Bool.{lt-ltb}
@@ -19,6 +19,7 @@ use Rattle.dg_index.specs.OpenedIndex.{Opening, entry_at, opened_of}
 use Rattle.dg_index.proofs.HeldRecords.{IsHeld, held_at, known}
 use Rattle.dg_index.proofs.IndexRecordColumns.{Each, each_number}
 use Rattle.dg_index.proofs.OpenedIndexRecords.{record_held, told_at}
+use Rattle.dg_index.specs.declared.per_column.PerColumn.{PerColumn}
 use Rattle.dg_heard.specs.Heard.{heard_over, is_heard, lies_between}
 
 -- ---- lists of numbers
@@ -69,7 +70,7 @@ module _ (z : History) (legal : IsLegal z) where
         held = there;
         full = told.2;
         ends = ap (λ (x : Entry). x.ends) e.is ∙ told.1;
-        bytes = ap (λ (x : Entry). column_length_in x Transient) e.is ∙ ap (λ (l : ListOf ℕ). slice_index l 3) told.0;
+        bytes = ap (λ (x : Entry). column_length_in x Transient) e.is ∙ ap (λ (l : PerColumn ℕ). l.transient) told.0;
       }
 
   each_kept : (P : ℕ → Type 0) → ((i : ℕ) → IsKept i → P i) → (some : ListOf ℕ) → Each IsKept some → Each P some

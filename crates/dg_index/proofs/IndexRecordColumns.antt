@@ -2,7 +2,7 @@
 use Rattle.std.proofs.Common.{◌≡◌, ℕ, zero, suc, ◌+◌, ◌-◌, ◌*◌, ◌/◌, ◌<◌, ◌≤◌, ◌^◌, Bool, true, false, cond, List, [], ◌∷◌, ◌++◌, length, take, drop, map, Some, None, Option, refl, sym, ap, subst, ◌∙◌, append_assoc, append-nil, arith, length-append, length-drop, add-mul, mul-pos, pow-suc, div-mul-le_self, div-mul-le_self, take-append-drop}
 use lib.Seq.{take-append-le, drop-append-le}
 use native.Mathlib.Nat.{pow-zero}
-use Rattle.std.specs.Prelude.{◌==◌, slice_index}
+use Rattle.std.specs.Prelude.{◌==◌}
 use Rattle.std.specs.List.{flat_map}
 use Rattle.std.proofs.lemmas.Bool.{eqb-true, false≢true, and_parts}
 use Rattle.std.specs.Map.{lookup}
@@ -35,6 +35,7 @@ use Rattle.dg_index.specs.OpenedIndex.{Opened, bare, opened_in, opened_of, opene
 use Rattle.dg_index.proofs.HierarchyCounts.{due_to}
 use Rattle.dg_index.proofs.HierarchyStability.{child_within, stable, leaves_more}
 use Rattle.dg_index.proofs.ImageTextRanges.{behind}
+use Rattle.dg_index.specs.declared.per_column.PerColumn.{PerColumn}
 
 pub power_some : (k h : ℕ) → 0 < k → 0 < k ^ h
 power_some k zero pos = omega (arith, pow-zero k)
@@ -79,22 +80,22 @@ one_read s image rest e col is text =
     let here : drop e.offset image ≡ s.structure ++ (s.node_attrs ++ tail) =
     text ∙ append_assoc s.structure (s.node_attrs ++ (s.edge_attrs ++ s.transient)) rest
     ∙ ap (λ (l : List ℕ). s.structure ++ l) (append_assoc s.node_attrs (s.edge_attrs ++ s.transient) rest ∙ ap (λ (l : List ℕ). s.node_attrs ++ l) (append_assoc s.edge_attrs s.transient rest)) in
-    let l0 : slice_index e.lengths 0 ≡ length s.structure = ap (λ (l : List ℕ). slice_index l 0) is in
-    let l1 : slice_index e.lengths 1 ≡ length s.node_attrs = ap (λ (l : List ℕ). slice_index l 1) is in
-    let l2 : slice_index e.lengths 2 ≡ length s.edge_attrs = ap (λ (l : List ℕ). slice_index l 2) is in
-    let l3 : slice_index e.lengths 3 ≡ length s.transient = ap (λ (l : List ℕ). slice_index l 3) is in
-    let o1 : ℕ = e.offset + slice_index e.lengths 0 in
-    let o2 : ℕ = e.offset + slice_index e.lengths 0 + slice_index e.lengths 1 in
-    let o3 : ℕ = e.offset + slice_index e.lengths 0 + slice_index e.lengths 1 + slice_index e.lengths 2 in
+    let l0 : e.lengths.structure ≡ length s.structure = ap (λ (l : PerColumn ℕ). l.structure) is in
+    let l1 : e.lengths.node_attrs ≡ length s.node_attrs = ap (λ (l : PerColumn ℕ). l.node_attrs) is in
+    let l2 : e.lengths.edge_attrs ≡ length s.edge_attrs = ap (λ (l : PerColumn ℕ). l.edge_attrs) is in
+    let l3 : e.lengths.transient ≡ length s.transient = ap (λ (l : PerColumn ℕ). l.transient) is in
+    let o1 : ℕ = e.offset + e.lengths.structure in
+    let o2 : ℕ = e.offset + e.lengths.structure + e.lengths.node_attrs in
+    let o3 : ℕ = e.offset + e.lengths.structure + e.lengths.node_attrs + e.lengths.edge_attrs in
     let next = behind image s.structure (s.node_attrs ++ tail) e.offset o1 (omega (arith, l0)) here in
     let after = behind image s.node_attrs tail o1 o2 (omega (arith, l1)) next in
     let last = behind image s.edge_attrs (s.transient ++ rest) o2 o3 (omega (arith, l2)) after in
     by col here next after last l0 l1 l2 l3
   where
-    by : (col : Column) → drop e.offset image ≡ s.structure ++ (s.node_attrs ++ (s.edge_attrs ++ (s.transient ++ rest))) → drop (e.offset + slice_index e.lengths 0) image ≡ s.node_attrs ++ (s.edge_attrs ++ (s.transient ++ rest))
-        → drop (e.offset + slice_index e.lengths 0 + slice_index e.lengths 1) image ≡ s.edge_attrs ++ (s.transient ++ rest)
-        → drop (e.offset + slice_index e.lengths 0 + slice_index e.lengths 1 + slice_index e.lengths 2) image ≡ s.transient ++ rest
-        → slice_index e.lengths 0 ≡ length s.structure → slice_index e.lengths 1 ≡ length s.node_attrs → slice_index e.lengths 2 ≡ length s.edge_attrs → slice_index e.lengths 3 ≡ length s.transient → column_at image e col ≡ part_of s col
+    by : (col : Column) → drop e.offset image ≡ s.structure ++ (s.node_attrs ++ (s.edge_attrs ++ (s.transient ++ rest))) → drop (e.offset + e.lengths.structure) image ≡ s.node_attrs ++ (s.edge_attrs ++ (s.transient ++ rest))
+        → drop (e.offset + e.lengths.structure + e.lengths.node_attrs) image ≡ s.edge_attrs ++ (s.transient ++ rest)
+        → drop (e.offset + e.lengths.structure + e.lengths.node_attrs + e.lengths.edge_attrs) image ≡ s.transient ++ rest
+        → e.lengths.structure ≡ length s.structure → e.lengths.node_attrs ≡ length s.node_attrs → e.lengths.edge_attrs ≡ length s.edge_attrs → e.lengths.transient ≡ length s.transient → column_at image e col ≡ part_of s col
     by column.Structure a b c d l0 l1 l2 l3 = (λ i. take (l0 i) (a i)) ∙ take_at s.structure (s.node_attrs ++ (s.edge_attrs ++ (s.transient ++ rest))) (length s.structure) refl
     by column.NodeAttr a b c d l0 l1 l2 l3 = (λ i. take (l1 i) (b i)) ∙ take_at s.node_attrs (s.edge_attrs ++ (s.transient ++ rest)) (length s.node_attrs) refl
     by column.EdgeAttr a b c d l0 l1 l2 l3 = (λ i. take (l2 i) (c i)) ∙ take_at s.edge_attrs (s.transient ++ rest) (length s.edge_attrs) refl

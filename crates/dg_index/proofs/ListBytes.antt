@@ -94,7 +94,7 @@ list_fits events =
 -- ---- a list of two events
 
 abbrev row_of : ℕ → Row
-row_of bytes = record { ends = Some (record { first = 1; last = 2 }); lengths = bytes ∷ 0 ∷ 4 ∷ 0 ∷ [] }
+row_of bytes = record { ends = Some (record { first = 1; last = 2 }); lengths = record { structure = bytes; node_attrs = 0; edge_attrs = 4; transient = 0 } }
 
 two_events : list_bytes_max 2 ≡ 84
 two_events = refl

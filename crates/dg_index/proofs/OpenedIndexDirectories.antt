@@ -19,6 +19,7 @@ use Rattle.dg_index.specs.declared.entry.Row.{Row}
 use Rattle.dg_index.proofs.ImageTextRanges.{eight_read, four_read, behind}
 use Rattle.dg_index.proofs.ImageTextNames.{AreShort, names_read, new_short}
 use Rattle.dg_index.proofs.UnheardRecords.{unheard_parts, unheard_rows}
+use Rattle.dg_index.specs.declared.per_column.PerColumn.{PerColumn}
 
 -- ---- rows of a table
 
@@ -43,7 +44,7 @@ lengths_read false s bytes rest at small unheard is =
     let e1 = eight_step bytes (at + 8) (at + 16) l1 (eight l2 ++ rest) small.1 (omega arith) e0.1 in
     let e2 = eight_read bytes (at + 16) l2 rest small.2 e1.1 in
     let none : 0 ≡ length s.transient = sym (ap (λ (l : List ℕ). length l) (unheard refl)) in
-    λ i. e0.0 i ∷ e1.0 i ∷ e2 i ∷ none i ∷ []
+    λ i. record { structure = e0.0 i; node_attrs = e1.0 i; edge_attrs = e2 i; transient = none i }
 lengths_read true s bytes rest at small unheard is =
     let l0 = length s.structure in
     let l1 = length s.node_attrs in
@@ -53,10 +54,10 @@ lengths_read true s bytes rest at small unheard is =
     let e1 = eight_step bytes (at + 8) (at + 16) l1 (eight l2 ++ (eight l3 ++ rest)) small.1 (omega arith) e0.1 in
     let e2 = eight_step bytes (at + 16) (at + 24) l2 (eight l3 ++ rest) small.2 (omega arith) e1.1 in
     let e3 = eight_read bytes (at + 24) l3 rest small.3 e2.1 in
-    λ i. e0.0 i ∷ e1.0 i ∷ e2.0 i ∷ e3 i ∷ []
+    λ i. record { structure = e0.0 i; node_attrs = e1.0 i; edge_attrs = e2.0 i; transient = e3 i }
 
 record_read : (wide : Bool) (s : Stored) (bytes rest : List ℕ) (at : ℕ) → IsSmall s → (wide ≡ false → s.transient ≡ []) → drop at bytes ≡ lengths_bytes wide s ++ rest → record_at wide bytes at ≡ record_row s
-record_read wide s bytes rest at small unheard is = ap (λ (l : List ℕ). record { ends = None; lengths = l }) (lengths_read wide s bytes rest at small unheard is)
+record_read wide s bytes rest at small unheard is = ap (λ (l : PerColumn ℕ). record { ends = None; lengths = l }) (lengths_read wide s bytes rest at small unheard is)
 
 list_read : (wide : Bool) (x : StoredList) (bytes rest : List ℕ) (at : ℕ) → IsSmallList x → (wide ≡ false → x.columns.transient ≡ []) → drop at bytes ≡ list_bytes wide x ++ rest → list_at wide bytes at ≡ list_row x
 list_read wide x bytes rest at small unheard is =

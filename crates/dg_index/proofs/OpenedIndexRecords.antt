@@ -32,14 +32,18 @@ use Rattle.dg_index.proofs.IndexRecordColumns.{Each, at_key, each_append, each_f
 use Rattle.dg_index.proofs.EverAddedBounds.{kept_more}
 use Rattle.dg_index.proofs.OpenedIndexHistories.{large_parameters}
 use Rattle.dg_index.proofs.HierarchyStability.{leaves_more}
+use Rattle.dg_index.specs.declared.per_column.PerColumn.{PerColumn}
 
 -- ---- what is told of a record
 
 -- the bytes of each column of a record of the history
-abbrev pub lengths_in : History → Key → List ℕ
-lengths_in z k =
-    length (column_in z k column.Structure) ∷ length (column_in z k column.NodeAttr) ∷ length (column_in z k column.EdgeAttr)
-    ∷ length (column_in z k column.Transient) ∷ []
+abbrev pub lengths_in : History → Key → PerColumn ℕ
+lengths_in z k = record {
+  structure = length (column_in z k column.Structure);
+  node_attrs = length (column_in z k column.NodeAttr);
+  edge_attrs = length (column_in z k column.EdgeAttr);
+  transient = length (column_in z k column.Transient);
+}
 
 -- the times of a list of the history; another record has none
 abbrev pub ends_in : History → Key → Option Ends
@@ -69,7 +73,7 @@ laid_told z offset [] rows all m t times = tt
 laid_told z offset (k ∷ keys) [] all m t times = tt
 laid_told z offset (k ∷ keys) (r ∷ rows) [] m t times = absurd t
 laid_told z offset (k ∷ keys) (r ∷ rows) (s ∷ all) m t times =
-    let lengths : lengths_of s ≡ lengths_in z k = λ i. length (m.0 column.Structure i) ∷ length (m.0 column.NodeAttr i) ∷ length (m.0 column.EdgeAttr i) ∷ length (m.0 column.Transient i) ∷ [] in
+    let lengths : lengths_of s ≡ lengths_in z k = λ i. record { structure = length (m.0 column.Structure i); node_attrs = length (m.0 column.NodeAttr i); edge_attrs = length (m.0 column.EdgeAttr i); transient = length (m.0 column.Transient i) } in
     ((t.0 ∙ lengths, times.0, times.1), laid_told z (offset + total r.lengths) keys rows all m.1 t.1 times.2)
 
 -- ---- the times of a segment

@@ -1,5 +1,6 @@
 -- A segment of the index file as one text: the directory, and the columns of lists, deltas and the piece.
 use Rattle.std.specs.Prelude.{codes, ℕ, ◌+◌, ◌-◌, Bool, true, false, List, [], ◌∷◌, ◌++◌, map, length, take, drop}
+use Rattle.std.specs.Borrow.{Bor}
 use Rattle.std.specs.List.{flat_map}
 use Rattle.dg_graph.specs.declared.element.Column.TheVariants as column
 use Rattle.dg_graph.specs.declared.event.Event.{Event}
@@ -10,6 +11,7 @@ use Rattle.dg_graph.specs.declared.function.Function.{Function}
 use Rattle.dg_graph.specs.declared.function.Function.TheVariants.{Intersection, Union, Balanced, Skewed}
 use Rattle.dg_graph.specs.Columns.{two, four, eight}
 use Rattle.dg_history.specs.History.{first_time_of, History, Batch, last_time_from}
+use Rattle.dg_index.specs.declared.per_column.PerColumn.{PerColumn}
 use Rattle.dg_index.specs.Hierarchy.{numbers, leaves}
 use Rattle.dg_index.specs.IndexRecords.{Record, Events, deltas_due, closed_list, piece_of, record_among, column_of_record}
 
@@ -44,12 +46,9 @@ header form.Two params = header_two params
 abbrev pub name_bytes : List ℕ → List ℕ
 name_bytes text = two (length text) ++ text
 
--- the four columns of a record
-pub record Stored : Type 0 where
-  pub structure : List ℕ
-  pub node_attrs : List ℕ
-  pub edge_attrs : List ℕ
-  pub transient : List ℕ
+-- the columns of a record
+abbrev pub Stored : Type 0
+Stored = PerColumn (List ℕ)
 
 -- a closed list, with the times of its first and of its last event
 pub record StoredList : Type 0 where
@@ -67,6 +66,15 @@ pub record Segment : Type 0 where
   pub lists : List StoredList
   pub deltas : List Stored
   pub piece : Stored
+
+-- the columns that are lent
+abbrev pub lent : PerColumn (Bor (List ℕ)) → Stored
+lent c = record {
+  structure = c.structure.now;
+  node_attrs = c.node_attrs.now;
+  edge_attrs = c.edge_attrs.now;
+  transient = c.transient.now;
+}
 
 abbrev pub bytes_of : Stored → List ℕ
 bytes_of s = s.structure ++ (s.node_attrs ++ (s.edge_attrs ++ s.transient))

@@ -22,6 +22,7 @@ use Rattle.dg_index.specs.declared.entry.Ends.{Ends}
 use Rattle.dg_index.specs.declared.entry.Entry.{Entry}
 use Rattle.dg_index.specs.declared.entry.Row.{Row}
 use Rattle.dg_index.specs.declared.entry.BatchEntry.{BatchEntry}
+use Rattle.dg_index.specs.declared.per_column.PerColumn.{PerColumn}
 use Rattle.dg_index.specs.Hierarchy.{leaves}
 use Rattle.dg_index.specs.IndexRecords.{lists_due, deltas_due}
 use Rattle.dg_index.specs.FileOfHistory.{Stored, StoredList, Segment, directory, marker, segment_bytes, segment_of, size, stored_in}
@@ -113,9 +114,13 @@ list_size false = 40
 list_size true = 48
 
 -- the lengths of the columns; in the first form there are no messages
-abbrev pub lengths_at : Bool → List ℕ → ℕ → List ℕ
-lengths_at false bytes at = eight_at bytes at ∷ eight_at bytes (at + 8) ∷ eight_at bytes (at + 16) ∷ 0 ∷ []
-lengths_at true bytes at = eight_at bytes at ∷ eight_at bytes (at + 8) ∷ eight_at bytes (at + 16) ∷ eight_at bytes (at + 24) ∷ []
+abbrev pub lengths_at : Bool → List ℕ → ℕ → PerColumn ℕ
+lengths_at wide bytes at = record {
+  structure = eight_at bytes at;
+  node_attrs = eight_at bytes (at + 8);
+  edge_attrs = eight_at bytes (at + 16);
+  transient = if wide then eight_at bytes (at + 24) else 0;
+}
 
 abbrev pub list_at : Bool → List ℕ → ℕ → Row
 list_at wide bytes at = record { ends = Some (record { first = eight_at bytes at; last = eight_at bytes (at + 8) }); lengths = lengths_at wide bytes (at + 16) }
@@ -152,8 +157,8 @@ directory_in o bytes =
     if nat_lt (length bytes) 28 then None
     else option_and_then (directory_with (is_wide o.form) (list_count o (eight_at bytes 0)) (delta_count o (eight_at bytes 0)) bytes) (names_at (four_at bytes 24) bytes 28)
 
-abbrev pub total : List ℕ → ℕ
-total lengths = slice_index lengths 0 + slice_index lengths 1 + slice_index lengths 2 + slice_index lengths 3
+abbrev pub total : PerColumn ℕ → ℕ
+total lengths = lengths.structure + lengths.node_attrs + lengths.edge_attrs + lengths.transient
 
 abbrev pub rows_in : Directory → List Row
 rows_in d = d.lists ++ (d.deltas ++ d.piece ∷ [])
@@ -188,7 +193,7 @@ may_be_named names new = are_new names new && nat_le (length names + length new)
 
 -- no delta has messages
 abbrev pub are_unheard : List Row → Bool
-are_unheard deltas = list_all (λ (r : Row). slice_index r.lengths 3 == 0) deltas
+are_unheard deltas = list_all (λ (r : Row). r.lengths.transient == 0) deltas
 
 -- the directory may stand behind what is opened so far, before so many bytes of columns
 abbrev pub may_stand : Opened → ℕ → Directory → Bool
@@ -282,8 +287,13 @@ opening image = if is_blank image then Err No_index else opened_by image (header
 
 -- ---- what a history is opened as
 
-abbrev pub lengths_of : Stored → List ℕ
-lengths_of s = length s.structure ∷ length s.node_attrs ∷ length s.edge_attrs ∷ length s.transient ∷ []
+abbrev pub lengths_of : Stored → PerColumn ℕ
+lengths_of s = record {
+  structure = length s.structure;
+  node_attrs = length s.node_attrs;
+  edge_attrs = length s.edge_attrs;
+  transient = length s.transient;
+}
 
 abbrev pub list_row : StoredList → Row
 list_row x = record { ends = Some (record { first = x.first; last = x.last }); lengths = lengths_of x.columns }
@@ -323,15 +333,19 @@ opened_of z = opened_in z.form z.params z.batches
 
 -- the bytes of a column, by what an index keeps of its record
 abbrev pub column_at : List ℕ → Entry → Column → List ℕ
-column_at image e column.Structure = take (slice_index e.lengths 0) (drop e.offset image)
-column_at image e column.NodeAttr = take (slice_index e.lengths 1) (drop (e.offset + slice_index e.lengths 0) image)
-column_at image e column.EdgeAttr = take (slice_index e.lengths 2) (drop (e.offset + slice_index e.lengths 0 + slice_index e.lengths 1) image)
+column_at image e column.Structure = take e.lengths.structure (drop e.offset image)
+column_at image e column.NodeAttr = take e.lengths.node_attrs (drop (e.offset + e.lengths.structure) image)
+column_at image e column.EdgeAttr = take e.lengths.edge_attrs (drop (e.offset + e.lengths.structure + e.lengths.node_attrs) image)
 column_at image e column.Transient =
-    take (slice_index e.lengths 3) (drop (e.offset + slice_index e.lengths 0 + slice_index e.lengths 1 + slice_index e.lengths 2) image)
+    take e.lengths.transient (drop (e.offset + e.lengths.structure + e.lengths.node_attrs + e.lengths.edge_attrs) image)
 
 abbrev pub entry_or_none : Option Entry → Entry
 entry_or_none (Some e) = e
-entry_or_none None = record { lengths = 0 ∷ 0 ∷ 0 ∷ 0 ∷ []; offset = 0; ends = None }
+entry_or_none None = record {
+  lengths = record { structure = 0; node_attrs = 0; edge_attrs = 0; transient = 0 };
+  offset = 0;
+  ends = None;
+}
 
 -- what the index keeps of a record
 abbrev pub entry_at : Opening → Key → Entry

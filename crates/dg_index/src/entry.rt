@@ -1,4 +1,6 @@
 //! What an index keeps of each record and each batch.
+use crate::per_column::PerColumn;
+
 /// The first and the last instant of a list of events, or of a batch.
 #[derive(Clone, Copy)]
 pub struct Ends {
@@ -12,8 +14,8 @@ pub struct Ends {
 /// nodes, attributes of edges, messages.
 #[derive(Clone, Copy)]
 pub struct Entry {
-    /// The bytes of each column, in their order.
-    pub lengths: [u64; 4],
+    /// The bytes of each column.
+    pub lengths: PerColumn<u64>,
     /// The byte of the file at which the first column begins.
     pub offset: u64,
     /// The instants of a list of events, and `None` for every other record.
@@ -25,8 +27,8 @@ pub struct Entry {
 pub struct Row {
     /// The instants of a list of events, and `None` for every other record.
     pub ends: Option<Ends>,
-    /// The bytes of each column, in their order.
-    pub lengths: [u64; 4],
+    /// The bytes of each column.
+    pub lengths: PerColumn<u64>,
 }
 
 /// What an index keeps of a batch, without its events.

@@ -211,7 +211,12 @@ plan_reply edges nodes weight steps potentials = record {
 -- the line of a record
 abbrev pub record_line : History → Key → BodyLine
 record_line z k =
-    line.Sizes k (length (column_in z k column.Structure) ∷ length (column_in z k column.NodeAttr) ∷ length (column_in z k column.EdgeAttr) ∷ length (column_in z k column.Transient) ∷ [])
+    line.Sizes k (record {
+      structure = length (column_in z k column.Structure);
+      node_attrs = length (column_in z k column.NodeAttr);
+      edge_attrs = length (column_in z k column.EdgeAttr);
+      transient = length (column_in z k column.Transient);
+    })
 
 -- the parameters, and a line for each list, top and down
 abbrev pub tree_reply : History → Reply

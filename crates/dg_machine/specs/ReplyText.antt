@@ -1,5 +1,5 @@
 -- The text of a reply.
-use Rattle.std.specs.Prelude.{ℕ, List, [], ◌∷◌, ◌++◌, Some, None, if◌then◌else◌, codes, decimal, map}
+use Rattle.std.specs.Prelude.{ℕ, List, [], ◌∷◌, ◌++◌, Some, None, if◌then◌else◌, codes, decimal}
 use Rattle.std.specs.List.{flat_map, join_with_byte}
 use Rattle.dg_graph.specs.declared.element.Column.{Column}
 use Rattle.dg_graph.specs.declared.element.Column.TheVariants as column
@@ -22,7 +22,9 @@ use Rattle.dg_history.specs.declared.node.NodeId.TheVariants as node
 use Rattle.dg_query.specs.declared.answers.Side.{Side}
 use Rattle.dg_query.specs.declared.answers.Side.TheVariants as side
 use Rattle.dg_plan.specs.declared.certificate.Verdict.{Verdict}
+use Rattle.dg_index.specs.declared.per_column.PerColumn.{PerColumn}
 use Rattle.dg_sound.specs.declared.soundness.Soundness.{Soundness}
+use Rattle.dg_index.specs.declared.per_column.PerColumn.{PerColumn}
 use Rattle.dg_sound.specs.declared.soundness.Soundness.TheVariants.{Sound, Unsound}
 use Rattle.dg_plan.specs.declared.certificate.Verdict.TheVariants as verdict
 
@@ -85,6 +87,11 @@ side_word side.Inward = codes "in"
 side_word side.Both = codes "both"
 
 -- the words of a body line
+-- the bytes of each column of a record
+abbrev pub length_words : PerColumn ℕ → List (List ℕ)
+length_words lengths =
+    decimal lengths.structure ∷ decimal lengths.node_attrs ∷ decimal lengths.edge_attrs ∷ decimal lengths.transient ∷ []
+
 abbrev pub body_words : List (List ℕ) → BodyLine → List (List ℕ)
 body_words names (line.Element x) = element_words names x
 body_words names (line.Attribute v) = codes "attr" ∷ name_text names v.key ∷ name_text names v.value ∷ []
@@ -92,7 +99,7 @@ body_words names (line.Neighbour n) = side_word n.side ∷ decimal n.edge ∷ de
 body_words names (line.Handle handle t single) = codes "handle" ∷ decimal handle ∷ decimal t ∷ decimal single ∷ []
 body_words names (line.Step edge into weight) = codes "step" ∷ decimal edge ∷ (node_words into ++ decimal weight ∷ [])
 body_words names (line.Potential at value) = codes "potential" ∷ (node_words at ++ decimal value ∷ [])
-body_words names (line.Sizes k lengths) = codes "record" ∷ (key_words k ++ map decimal lengths)
+body_words names (line.Sizes k lengths) = codes "record" ∷ (key_words k ++ length_words lengths)
 
 -- the number and the name of a refusal, and what it keeps
 abbrev pub refusal_words : Refusal → List (List ℕ)

@@ -4,6 +4,7 @@ ghost use Rattle.dg_machine.specs.declared.reply.BodyLine.TheVariants as line;
 
 use dg_graph::{Column, Element, Function};
 use dg_history::{Key, NodeId};
+use dg_index::PerColumn;
 use dg_plan::Verdict;
 use dg_query::{Counts, KeyValue, Neighbour};
 use dg_sound::Soundness;
@@ -205,10 +206,10 @@ pub enum BodyLine {
         node: NodeId,
         value: u64,
     },
-    /// A record, and the bytes of its four columns.
+    /// A record, and the bytes of each column.
     Sizes {
         key: Key,
-        lengths: [u64; 4],
+        lengths: PerColumn<u64>,
     },
 }
 

@@ -1,6 +1,6 @@
 -- The column of messages of one list of an index: that it is there, what is read of it, and how many bytes it has.
 use Rattle.std.proofs.Common.{◌≡◌, ℕ, ◌+◌, ◌<◌, ◌==◌, Bool, true, false, if◌then◌else◌, List, [], ◌∷◌, length, drop, map, Option, Some, None, Result, Ok, Err, refl, sym, ap, ◌∙◌, subst, arith}
-use Rattle.std.specs.Prelude.{IfSome, IfOk, is_some, slice_index}
+use Rattle.std.specs.Prelude.{IfSome, IfOk, is_some}
 use Rattle.std.specs.Map.{lookup}
 use Rattle.std.proofs.lemmas.Bool.{eqb-true, false≢true, lt-ltb}
 use Rattle.std.proofs.lemmas.List.{length-drop, length-take-le}
@@ -61,8 +61,8 @@ module _ (o : Opening) (i : ℕ) (held : is_some (lookup (same_key (key.List i))
       by None is some = absurd (false≢true some)
       by (Some e) is some =
           let within = record_there image o (key.List i) e opened is in
-          let offset : ℕ = e.offset + slice_index e.lengths 0 + slice_index e.lengths 1 + slice_index e.lengths 2 in
-          length-take-le (slice_index e.lengths 3) (drop offset image) (omega (arith, within, length-drop offset image)) ∙ ap (λ (e : Option Entry). column_length_in (entry_or_none e) Transient) (sym is)
+          let offset : ℕ = e.offset + e.lengths.structure + e.lengths.node_attrs + e.lengths.edge_attrs in
+          length-take-le e.lengths.transient (drop offset image) (omega (arith, within, length-drop offset image)) ∙ ap (λ (e : Option Entry). column_length_in (entry_or_none e) Transient) (sym is)
 
 -- ---- the events
 

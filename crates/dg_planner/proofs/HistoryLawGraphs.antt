@@ -1,6 +1,6 @@
 -- A catalogue that holds the records of a history gives the graph of the history.
 use Rattle.std.proofs.Common.{◌≡◌, ℕ, ◌+◌, ◌-◌, ◌*◌, ◌/◌, ◌^◌, ◌≤◌, ◌<◌, Bool, true, List as ListOf, [], length, map, Option, Some, None, is_some, refl, sym, ap, subst, ◌∙◌, arith, if◌then◌else◌, le-div_iff_mul-le, div-lt_iff_lt-mul}
-use Rattle.std.specs.Prelude.{unwrap_or, nat_le, nat_lt, slice_index}
+use Rattle.std.specs.Prelude.{unwrap_or, nat_le, nat_lt}
 use Rattle.std.specs.List.{All, Contains}
 use Rattle.std.specs.Map.{lookup}
 use Rattle.std.specs.Option.{option_map}
@@ -24,6 +24,7 @@ use Rattle.dg_index.specs.OpenedIndex.{opened_of}
 use Rattle.dg_index.proofs.OpenedIndexRecords.{lengths_in, told_at, record_held}
 use Rattle.dg_index.proofs.IndexRecordColumns.{parent_is, power_some}
 use Rattle.dg_index.proofs.OpenedIndexHistories.{large_parameters}
+use Rattle.dg_index.specs.declared.per_column.PerColumn.{PerColumn}
 use Rattle.dg_plan.specs.IndexGraph.{edges_of, inners_at}
 use Rattle.dg_plan.proofs.IndexGraphWeights.{same_edges}
 use Rattle.dg_plan.proofs.EnteredRecordTrees.{all_flat, number_of}
@@ -89,10 +90,10 @@ module _ (z : History) (legal : IsLegal z) where
   held_lengths k e is col = by col (told_at z legal k e is).0
     where
       by : (col : Column) → e.lengths ≡ lengths_in z k → column_length_in e col ≡ length (column_in z k col)
-      by column.Structure told = ap (λ (l : ListOf ℕ). slice_index l 0) told
-      by column.NodeAttr told = ap (λ (l : ListOf ℕ). slice_index l 1) told
-      by column.EdgeAttr told = ap (λ (l : ListOf ℕ). slice_index l 2) told
-      by column.Transient told = ap (λ (l : ListOf ℕ). slice_index l 3) told
+      by column.Structure told = ap (λ (l : PerColumn ℕ). l.structure) told
+      by column.NodeAttr told = ap (λ (l : PerColumn ℕ). l.node_attrs) told
+      by column.EdgeAttr told = ap (λ (l : PerColumn ℕ). l.edge_attrs) told
+      by column.Transient told = ap (λ (l : PerColumn ℕ). l.transient) told
 
   -- each of the keys of the index is held
   pub keys_held : (k : Key) → Contains (keys_of z.params (length (events_of z))) k → is_some (lookup (same_key k) (opened_of z).index.records) ≡ true

@@ -7,15 +7,21 @@ ghost use Rattle.dg_planner.specs.AskedLengths.{asked_in, asked_length_of};
 use dg_catalogue::{Catalogue, Entry};
 use dg_graph::Columns;
 use dg_history::Key;
+use dg_index::PerColumn;
 
 // The bytes of the asked columns of an entry, without messages: no step reads them.
 fn asked_in(entry: &Entry, cols: Columns) -> u64
     requires { IsInRange entry.now }
     ensures { result ≡ asked_in entry.now cols }
 {
-    let [structure, nodes_attr, edges_attr, _] = entry.lengths;
-    let of_nodes = if cols.nodes_attr { nodes_attr } else { 0 };
-    let of_edges = if cols.edges_attr { edges_attr } else { 0 };
+    let PerColumn {
+        structure,
+        node_attrs,
+        edge_attrs,
+        ..
+    } = entry.lengths;
+    let of_nodes = if cols.nodes_attr { node_attrs } else { 0 };
+    let of_edges = if cols.edges_attr { edge_attrs } else { 0 };
     structure + (of_nodes + of_edges)
 }
 

@@ -1,13 +1,14 @@
 //! The lines of a reply's body, put piece by piece behind what a buffer holds.
 
-ghost use Rattle.std.specs.Prelude.{◌≡◌, ◌+◌, ◌≤◌, ◌++◌, [], ◌∷◌, codes, decimal, if◌then◌else◌, length, map};
+ghost use Rattle.std.specs.Prelude.{◌≡◌, ◌+◌, ◌≤◌, ◌++◌, [], ◌∷◌, codes, decimal, if◌then◌else◌, length};
 ghost use Rattle.dg_text.specs.Names.{name_text};
-ghost use Rattle.dg_machine.specs.ReplyText.{body_words, element_words, key_words, node_words, side_word, text_line};
+ghost use Rattle.dg_machine.specs.ReplyText.{body_words, element_words, key_words, length_words, node_words, side_word, text_line};
 ghost use Rattle.dg_reply.specs.Buffered.{HasBufferRoom, spaced};
 
 use crate::reply_buffer::{BODY_LINE_BYTES, ReplyBuffer};
 use dg_graph::Element;
 use dg_history::{Key, NodeId};
+use dg_index::PerColumn;
 use dg_machine::BodyLine;
 use dg_names::Names;
 use dg_query::{Neighbour, Side};
@@ -180,10 +181,10 @@ fn hold_potential(buffer: &mut ReplyBuffer, node: NodeId, value: u64)
     buffer.hold(b"\n");
 }
 
-// The line of a record: its key, and the bytes of its four columns.
-fn hold_sizes(buffer: &mut ReplyBuffer, key: Key, lengths: &[u64; 4])
+// The line of a record: its key, and the bytes of each column.
+fn hold_sizes(buffer: &mut ReplyBuffer, key: Key, lengths: &PerColumn<u64>)
     requires { HasBufferRoom buffer.old BODY_LINE_BYTES }
-    ensures { buffer.new ≡ buffer.old ++ text_line (codes "record" ∷ (key_words key ++ map decimal lengths.now)) }
+    ensures { buffer.new ≡ buffer.old ++ text_line (codes "record" ∷ (key_words key ++ length_words lengths.now)) }
 {
     buffer.hold(b"record");
     hold_key(buffer, key);
@@ -191,17 +192,16 @@ fn hold_sizes(buffer: &mut ReplyBuffer, key: Key, lengths: &[u64; 4])
     buffer.hold(b"\n");
 }
 
-// The bytes of the four columns of a record, each number behind a space.
-fn hold_lengths(buffer: &mut ReplyBuffer, lengths: &[u64; 4])
+// The bytes of each column of a record, each number behind a space.
+fn hold_lengths(buffer: &mut ReplyBuffer, lengths: &PerColumn<u64>)
     requires { HasBufferRoom buffer.old LENGTHS_BYTES }
-    ensures put { buffer.new ≡ buffer.old ++ spaced (map decimal lengths.now) }
+    ensures put { buffer.new ≡ buffer.old ++ spaced (length_words lengths.now) }
     ensures len { length buffer.new ≤ length buffer.old + LENGTHS_BYTES }
 {
-    let [structure, nodes, edges, messages] = *lengths;
-    buffer.hold_with(b" ", structure);
-    buffer.hold_with(b" ", nodes);
-    buffer.hold_with(b" ", edges);
-    buffer.hold_with(b" ", messages);
+    buffer.hold_with(b" ", lengths.structure);
+    buffer.hold_with(b" ", lengths.node_attrs);
+    buffer.hold_with(b" ", lengths.edge_attrs);
+    buffer.hold_with(b" ", lengths.transient);
 }
 
 // The words of a node, each behind a space.

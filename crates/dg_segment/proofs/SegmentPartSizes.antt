@@ -8,6 +8,7 @@ use Rattle.dg_graph.specs.Columns.{four}
 use Rattle.dg_index.specs.OpenedIndex.{AreUnheard, lengths_of, lengths_size, list_size, record_row}
 use Rattle.dg_index.specs.declared.entry.Ends.{Ends}
 use Rattle.dg_index.specs.declared.entry.Row.{Row}
+use Rattle.dg_index.specs.declared.per_column.PerColumn.{PerColumn}
 use Rattle.dg_index.specs.FileOfHistory.{name_bytes, Segment, Stored, StoredList, blobs, bytes_of, delta_blobs, directory, lengths_bytes, list_blobs, list_bytes, segment_bytes}
 use Rattle.dg_segment.specs.PackedRecords.{StoredRecord, stored_bytes, stored_row}
 use Rattle.dg_segment.specs.SegmentParts.{delta_of, list_of, segment_in}
@@ -81,7 +82,7 @@ unheard_more (x ∷ deltas) s h none = (h.0, unheard_more deltas s h.1 none)
 
 -- ---- one delta more, which is no list
 
-row_of : Option Ends → List ℕ → Row
+row_of : Option Ends → PerColumn ℕ → Row
 row_of ends lengths = record { ends = ends; lengths = lengths }
 
 pub rows_more : (old : List StoredRecord) (r : StoredRecord) → r.ends ≡ None → map stored_row old ≡ map record_row (map delta_of old)

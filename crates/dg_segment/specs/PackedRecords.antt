@@ -1,8 +1,9 @@
 -- Records one behind another: the rows that tell of them, and their columns in one run of bytes.
-use Rattle.std.specs.Prelude.{◌≡◌, ℕ, ◌+◌, ◌<◌, ◌^◌, List, [], ◌∷◌, Option, length, map, slice_index, take, drop}
+use Rattle.std.specs.Prelude.{◌≡◌, ℕ, ◌+◌, ◌<◌, ◌^◌, List, [], ◌∷◌, Option, length, map, take, drop}
 use Rattle.std.specs.List.{flat_map}
 use Rattle.dg_index.specs.declared.entry.Ends.{Ends}
 use Rattle.dg_index.specs.declared.entry.Row.{Row}
+use Rattle.dg_index.specs.declared.per_column.PerColumn.{PerColumn}
 use Rattle.dg_index.specs.FileOfHistory.{Stored, bytes_of}
 use Rattle.dg_index.specs.OpenedIndex.{lengths_of, record_row, total}
 
@@ -19,13 +20,13 @@ stored_row r = record { ends = r.ends; lengths = lengths_of r.columns }
 abbrev pub stored_bytes : List StoredRecord → List ℕ
 stored_bytes records = flat_map (λ (r : StoredRecord). bytes_of r.columns) records
 
--- the four columns of these lengths with which the bytes begin
-abbrev pub stored_at : List ℕ → List ℕ → Stored
+-- the columns of these lengths with which the bytes begin
+abbrev pub stored_at : PerColumn ℕ → List ℕ → Stored
 stored_at lengths bytes = record {
-  structure = take (slice_index lengths 0) bytes;
-  node_attrs = take (slice_index lengths 1) (drop (slice_index lengths 0) bytes);
-  edge_attrs = take (slice_index lengths 2) (drop (slice_index lengths 0 + slice_index lengths 1) bytes);
-  transient = take (slice_index lengths 3) (drop (slice_index lengths 0 + slice_index lengths 1 + slice_index lengths 2) bytes);
+  structure = take lengths.structure bytes;
+  node_attrs = take lengths.node_attrs (drop lengths.structure bytes);
+  edge_attrs = take lengths.edge_attrs (drop (lengths.structure + lengths.node_attrs) bytes);
+  transient = take lengths.transient (drop (lengths.structure + lengths.node_attrs + lengths.edge_attrs) bytes);
 }
 
 -- the records of these rows, whose columns are one run of bytes

@@ -1,10 +1,10 @@
 //! The events of a batch behind its last closed list, as they are to be written.
-ghost use Rattle.std.specs.Prelude.{◌≡◌, ◌+◌, ◌<◌, ◌^◌, [], length, OnOk, OnErr};
-ghost use Rattle.dg_index.specs.FileOfHistory.{bytes_of};
-ghost use Rattle.dg_index.specs.OpenedIndex.{record_row};
+ghost use Rattle.std.specs.Prelude.{◌≡◌, ◌<◌, ◌^◌, [], OnOk, OnErr};
+ghost use Rattle.dg_index.specs.FileOfHistory.{bytes_of, lent};
+ghost use Rattle.dg_index.specs.OpenedIndex.{lengths_of, record_row, total};
 
-use crate::columns::put_columns;
-use dg_index::Row;
+use crate::columns::{lengths_of, put_columns, size};
+use dg_index::{PerColumn, Row};
 use std::alloc::{AllocError, Global};
 use std::marker::Model;
 
@@ -34,7 +34,12 @@ impl Piece {
         Piece {
             row: Row {
                 ends: None,
-                lengths: [0; 4],
+                lengths: PerColumn {
+                    structure: 0,
+                    node_attrs: 0,
+                    edge_attrs: 0,
+                    transient: 0,
+                },
             },
             columns: Vec::new(alloc),
         }
@@ -42,37 +47,17 @@ impl Piece {
 
     /// Puts these columns in the place of those that the piece has. `AllocError` for want of memory: then
     /// nothing changes.
-    pub fn set(
-        &mut self,
-        structure: &[u8],
-        node_attrs: &[u8],
-        edge_attrs: &[u8],
-        transient: &[u8],
-    ) -> Result<(), AllocError>
-        requires { length structure.now + length node_attrs.now + length edge_attrs.now + length transient.now < 2 ^ 64 }
-        ensures ok { OnOk result (self.new ≡ record { structure = structure.now; node_attrs = node_attrs.now; edge_attrs = edge_attrs.now; transient = transient.now }) }
+    pub fn set(&mut self, columns: PerColumn<&[u8]>) -> Result<(), AllocError>
+        requires { total (lengths_of (lent columns)) < 2 ^ 64 }
+        ensures ok { OnOk result (self.new ≡ lent columns.entry) }
         ensures err { OnErr result (self.new ≡ self.old) }
     {
-        let lengths = [
-            structure.len() as u64,
-            node_attrs.len() as u64,
-            edge_attrs.len() as u64,
-            transient.len() as u64,
-        ];
-        self.columns.reserve(
-            structure.len() + node_attrs.len() + edge_attrs.len() + transient.len(),
-        )?;
+        self.columns.reserve(size(columns))?;
         self.columns.clear();
-        put_columns(
-            &mut self.columns,
-            structure,
-            node_attrs,
-            edge_attrs,
-            transient,
-        );
+        put_columns(&mut self.columns, columns);
         self.row = Row {
             ends: None,
-            lengths,
+            lengths: lengths_of(columns),
         };
         Ok(())
     }

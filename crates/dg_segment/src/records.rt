@@ -1,9 +1,11 @@
 //! The lists, or the deltas, of a batch, their columns one behind another as in the file.
-ghost use Rattle.std.specs.Prelude.{◌≡◌, ◌+◌, ◌<◌, ◌^◌, ◌∷◌, ◌++◌, [], length, map, OnOk, OnErr};
+ghost use Rattle.std.specs.Prelude.{◌≡◌, ◌<◌, ◌^◌, ◌∷◌, ◌++◌, [], length, map, OnOk, OnErr};
+ghost use Rattle.dg_index.specs.FileOfHistory.{lent};
+ghost use Rattle.dg_index.specs.OpenedIndex.{lengths_of, total};
 ghost use Rattle.dg_segment.specs.PackedRecords.{stored_bytes, stored_row};
 
-use crate::columns::put_columns;
-use dg_index::{Ends, Row};
+use crate::columns::{lengths_of, put_columns, size};
+use dg_index::{Ends, PerColumn, Row};
 use std::alloc::{AllocError, Global};
 use std::marker::Model;
 
@@ -41,39 +43,19 @@ impl Records {
 
     /// Adds a record behind the others, with its instants where it is a list. `AllocError` for want of
     /// memory, and where there are 2^32 - 1 records: then nothing changes.
-    pub fn push(
-        &mut self,
-        ends: Option<Ends>,
-        structure: &[u8],
-        node_attrs: &[u8],
-        edge_attrs: &[u8],
-        transient: &[u8],
-    ) -> Result<(), AllocError>
-        requires { length structure.now + length node_attrs.now + length edge_attrs.now + length transient.now < 2 ^ 64 }
-        ensures ok { OnOk result (self.new ≡ self.old ++ record { ends = ends; columns = record { structure = structure.now; node_attrs = node_attrs.now; edge_attrs = edge_attrs.now; transient = transient.now } } ∷ []) }
+    pub fn push(&mut self, ends: Option<Ends>, columns: PerColumn<&[u8]>) -> Result<(), AllocError>
+        requires { total (lengths_of (lent columns)) < 2 ^ 64 }
+        ensures ok { OnOk result (self.new ≡ self.old ++ record { ends = ends; columns = lent columns.entry } ∷ []) }
         ensures err { OnErr result (self.new ≡ self.old) }
     {
         if self.rows.len() >= RECORDS_MAX {
             return Err(AllocError);
         }
-        let lengths = [
-            structure.len() as u64,
-            node_attrs.len() as u64,
-            edge_attrs.len() as u64,
-            transient.len() as u64,
-        ];
+        let lengths = lengths_of(columns);
         self.rows.reserve(1)?;
-        self.columns.reserve(
-            structure.len() + node_attrs.len() + edge_attrs.len() + transient.len(),
-        )?;
+        self.columns.reserve(size(columns))?;
         self.rows.push(Row { ends, lengths }).unwrap();
-        put_columns(
-            &mut self.columns,
-            structure,
-            node_attrs,
-            edge_attrs,
-            transient,
-        );
+        put_columns(&mut self.columns, columns);
         Ok(())
     }
 

@@ -1,14 +1,14 @@
 //! A batch as its segment is to be written: names, lists, deltas and piece.
 ghost use Rattle.std.specs.Prelude.{◌≡◌, ◌+◌, ◌-◌, ◌<◌, ◌≤◌, ◌^◌, ◌∷◌, ◌++◌, ◌↔◌, [], length, map, min, IfOk, IsTrue, OnOk, OnErr, ◌*◌, true};
 ghost use Rattle.dg_text.specs.declared.limits.TheConstants.{NAME_BYTES_MAX};
-ghost use Rattle.dg_index.specs.FileOfHistory.{blobs, bytes_of, delta_blobs, directory, head_of, list_blobs, segment_bytes};
-ghost use Rattle.dg_index.specs.OpenedIndex.{AreUnheard, directory_of, lengths_size, list_row, list_size, record_row};
+ghost use Rattle.dg_index.specs.FileOfHistory.{blobs, bytes_of, delta_blobs, directory, head_of, lent, list_blobs, segment_bytes};
+ghost use Rattle.dg_index.specs.OpenedIndex.{AreUnheard, directory_of, lengths_of, lengths_size, list_row, list_size, record_row, total};
 ghost use Rattle.dg_directory.specs.DirectoryParts.{batch_text, records_text};
 
 use crate::piece::Piece;
 use crate::records::Records;
 use dg_directory::{NAME_LENGTH_BYTES, NewNames, put_count, put_number, put_row, put_table};
-use dg_index::{BatchEntry, Ends, Row};
+use dg_index::{BatchEntry, Ends, PerColumn, Row};
 use std::alloc::{AllocError, Global};
 use std::marker::Model;
 
@@ -91,20 +91,16 @@ impl Segment {
         &mut self,
         first: u64,
         last: u64,
-        structure: &[u8],
-        node_attrs: &[u8],
-        edge_attrs: &[u8],
-        transient: &[u8],
+        columns: PerColumn<&[u8]>,
     ) -> Result<(), AllocError>
-        ensures ok { OnOk result (self.new ≡ record self.old { lists = self.old.lists ++ record { first = first; last = last; columns = record { structure = structure.now; node_attrs = node_attrs.now; edge_attrs = edge_attrs.now; transient = transient.now } } ∷ [] }) }
+        ensures ok { OnOk result (self.new ≡ record self.old { lists = self.old.lists ++ record { first = first; last = last; columns = lent columns.entry } ∷ [] }) }
         ensures err { OnErr result (self.new ≡ self.old) }
     {
-        if !self.fits(record_size(LIST_BYTES, structure, node_attrs, edge_attrs, transient)) {
+        if !self.fits(record_size(LIST_BYTES, columns)) {
             return Err(AllocError);
         }
         let ends = Ends { first, last };
-        self.lists
-            .push(Some(ends), structure, node_attrs, edge_attrs, transient)?;
+        self.lists.push(Some(ends), columns)?;
         Ok(())
     }
 
@@ -120,34 +116,32 @@ impl Segment {
         ensures ok { OnOk result (self.new ≡ record self.old { deltas = self.old.deltas ++ record { structure = structure.now; node_attrs = node_attrs.now; edge_attrs = edge_attrs.now; transient = [] } ∷ [] }) }
         ensures err { OnErr result (self.new ≡ self.old) }
     {
-        if !self.fits(record_size(DELTA_BYTES, structure, node_attrs, edge_attrs, &[])) {
+        let columns = PerColumn {
+            structure,
+            node_attrs,
+            edge_attrs,
+            transient: &[],
+        };
+        if !self.fits(record_size(DELTA_BYTES, columns)) {
             return Err(AllocError);
         }
-        self.deltas
-            .push(None, structure, node_attrs, edge_attrs, &[])?;
+        self.deltas.push(None, columns)?;
         Ok(())
     }
 
     /// Gives the batch its piece, whose columns hold the events after its last closed list, in the place
     /// of the piece that it has. `AllocError`, and the batch is as it was, for want of memory, and where
     /// the segment with its next gate would have 2^63 bytes or more in the second form.
-    pub fn set_piece(
-        &mut self,
-        structure: &[u8],
-        node_attrs: &[u8],
-        edge_attrs: &[u8],
-        transient: &[u8],
-    ) -> Result<(), AllocError>
-        ensures ok { OnOk result (self.new ≡ record self.old { piece = record { structure = structure.now; node_attrs = node_attrs.now; edge_attrs = edge_attrs.now; transient = transient.now } }) }
+    pub fn set_piece(&mut self, columns: PerColumn<&[u8]>) -> Result<(), AllocError>
+        ensures ok { OnOk result (self.new ≡ record self.old { piece = lent columns.entry }) }
         ensures err { OnErr result (self.new ≡ self.old) }
     {
         let others = self.size(true) - self.piece.columns().len() as u64;
-        let piece = record_size(0, structure, node_attrs, edge_attrs, transient);
+        let piece = record_size(0, columns);
         if SEGMENT_BYTES_END - others <= piece {
             return Err(AllocError);
         }
-        self.piece
-            .set(structure, node_attrs, edge_attrs, transient)?;
+        self.piece.set(columns)?;
         Ok(())
     }
 
@@ -288,19 +282,13 @@ impl Segment {
 }
 
 // The bytes of a record's row and of its columns, or 2^64 - 1 where that is less.
-fn record_size(
-    row: u64,
-    structure: &[u8],
-    node_attrs: &[u8],
-    edge_attrs: &[u8],
-    transient: &[u8],
-) -> u64
-    ensures { result ≡ min (row + length structure.now + length node_attrs.now + length edge_attrs.now + length transient.now) (2 ^ 64 - 1) }
+fn record_size(row: u64, columns: PerColumn<&[u8]>) -> u64
+    ensures { result ≡ min (row + total (lengths_of (lent columns.entry))) (2 ^ 64 - 1) }
 {
-    row.saturating_add(structure.len() as u64)
-        .saturating_add(node_attrs.len() as u64)
-        .saturating_add(edge_attrs.len() as u64)
-        .saturating_add(transient.len() as u64)
+    row.saturating_add(columns.structure.len() as u64)
+        .saturating_add(columns.node_attrs.len() as u64)
+        .saturating_add(columns.edge_attrs.len() as u64)
+        .saturating_add(columns.transient.len() as u64)
 }
 
 // The bytes in a directory of so many lists, so many deltas and the piece.

@@ -1,6 +1,6 @@
 -- Bytes that are read as a directory are the spelling of what the directory says.
 use Rattle.std.proofs.Common.{◌≡◌, ℕ, zero, suc, ◌+◌, ◌*◌, ◌≤◌, Bool, true, false, cond, List, [], ◌∷◌, ◌++◌, length, drop, map, Option, Some, None, refl, sym, ap, subst, ◌∙◌, append-nil, arith}
-use Rattle.std.specs.Prelude.{◌&&◌, ◌==◌, nat_lt, option_and_then, slice_index}
+use Rattle.std.specs.Prelude.{◌&&◌, ◌==◌, nat_lt, option_and_then}
 use Rattle.std.specs.List.{flat_map}
 use Rattle.std.proofs.lemmas.Bool.{ltb-false, eqb-true, and_parts, false≢true}
 use Rattle.std.proofs.lemmas.List.{drop_all, length-map}
@@ -11,6 +11,7 @@ use Rattle.dg_index.specs.ImageText.{four_at, eight_at, names_at}
 use Rattle.dg_index.specs.OpenedIndex.{Opening, Directory, rows_at, list_at, list_size, lengths_size, record_at, directory_with, directory_in, directory_of, list_row, record_row, lengths_of, list_count, delta_count, rows_in}
 use Rattle.dg_index.specs.declared.entry.Ends.{Ends}
 use Rattle.dg_index.specs.declared.entry.Row.{Row}
+use Rattle.dg_index.specs.declared.per_column.PerColumn.{PerColumn}
 use Rattle.dg_index.proofs.IndexRecordColumns.{Each, each_append}
 use Rattle.dg_columns.proofs.Fields.{IsBytes, Stands, stands_then}
 use Rattle.dg_sound_files.proofs.EachParts.{each_then}
@@ -24,9 +25,9 @@ times_bytes None = []
 times_bytes (Some e) = eight e.first ++ eight e.last
 
 -- the lengths of a row, in the second form or in the first
-abbrev pub lengths_text : Bool → List ℕ → List ℕ
-lengths_text false n = eight (slice_index n 0) ++ (eight (slice_index n 1) ++ eight (slice_index n 2))
-lengths_text true n = eight (slice_index n 0) ++ (eight (slice_index n 1) ++ (eight (slice_index n 2) ++ eight (slice_index n 3)))
+abbrev pub lengths_text : Bool → PerColumn ℕ → List ℕ
+lengths_text false n = eight n.structure ++ (eight n.node_attrs ++ eight n.edge_attrs)
+lengths_text true n = eight n.structure ++ (eight n.node_attrs ++ (eight n.edge_attrs ++ eight n.transient))
 
 abbrev pub row_bytes : Bool → Row → List ℕ
 row_bytes wide r = times_bytes r.ends ++ lengths_text wide r.lengths
@@ -62,28 +63,24 @@ segment_text wide s =
 
 -- ---- rows
 
--- a row has four lengths
-abbrev pub IsOfFour : Row → Type 0
-IsOfFour r = r.lengths ≡ slice_index r.lengths 0 ∷ slice_index r.lengths 1 ∷ slice_index r.lengths 2 ∷ slice_index r.lengths 3 ∷ []
-
 abbrev pub IsUntimed : Row → Type 0
 IsUntimed r = r.ends ≡ None
 
 -- a row tells of no messages
 abbrev pub IsUnheard : Row → Type 0
-IsUnheard r = slice_index r.lengths 3 ≡ 0
+IsUnheard r = r.lengths.transient ≡ 0
 
--- a row has four lengths, and that of messages is 0 in the first form
+-- the length of the messages is 0 in the first form
 abbrev IsRow : Bool → Row → Type 0
-IsRow wide r = IsOfFour r × (wide ≡ false → IsUnheard r)
+IsRow wide r = wide ≡ false → IsUnheard r
 
 record_is : (wide : Bool) (bytes : List ℕ) (at : ℕ) → IsRow wide (record_at wide bytes at)
-record_is false bytes at = (refl, λ e. refl)
-record_is true bytes at = (refl, λ e. absurd (false≢true (sym e)))
+record_is false bytes at e = refl
+record_is true bytes at e = absurd (false≢true (sym e))
 
 list_is : (wide : Bool) (bytes : List ℕ) (at : ℕ) → IsRow wide (list_at wide bytes at)
-list_is false bytes at = (refl, λ e. refl)
-list_is true bytes at = (refl, λ e. absurd (false≢true (sym e)))
+list_is false bytes at e = refl
+list_is true bytes at e = absurd (false≢true (sym e))
 
 record_stands : (wide : Bool) (bytes : List ℕ) (at next : ℕ) → IsBytes bytes → next ≡ at + lengths_size wide → at + lengths_size wide ≤ length bytes → Stands bytes at (row_bytes wide (record_at wide bytes at)) next
 record_stands false bytes at next fits is long =
@@ -146,7 +143,6 @@ pub record IsSpelt (o : Opening) (bytes : List ℕ) (d : Directory) : Type 0 whe
   pub names : d.batch.names ≡ length d.names
   pub lists : length d.lists ≡ list_count o d.batch.events
   pub deltas : length d.deltas ≡ delta_count o d.batch.events
-  pub four : Each IsOfFour (rows_in d)
   pub untimed : Each IsUntimed (d.deltas ++ d.piece ∷ [])
   pub unheard : is_wide o.form ≡ false → Each IsUnheard (rows_in d)
 
@@ -235,7 +231,6 @@ directories_are_spelt o bytes d fits e =
           names = refl;
           lists = s6.number ∙ is_n;
           deltas = s8.number ∙ is_k;
-          four = each_then (IsRow wide) IsOfFour (lists ++ (deltas ++ piece ∷ [])) (λ r h. h.0) are;
           untimed = each_append IsUntimed deltas (piece ∷ []) (untimed_rows wide (lengths_size wide) k bytes deltas_at) (refl, tt);
-          unheard = λ narrow. each_then (IsRow wide) IsUnheard (lists ++ (deltas ++ piece ∷ [])) (λ r h. h.1 narrow) are;
+          unheard = λ narrow. each_then (IsRow wide) IsUnheard (lists ++ (deltas ++ piece ∷ [])) (λ r h. h narrow) are;
         }

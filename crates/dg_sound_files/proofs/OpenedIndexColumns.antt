@@ -1,6 +1,6 @@
 -- Columns that stand one behind another are the bytes of what is stored.
 use Rattle.std.proofs.Common.{◌≡◌, ℕ, ◌+◌, ◌≤◌, List, [], ◌∷◌, ◌++◌, length, take, drop, refl, sym, ap, ◌∙◌, arith}
-use Rattle.std.specs.Prelude.{slice_index, sum_by}
+use Rattle.std.specs.Prelude.{sum_by}
 use Rattle.std.specs.List.{flat_map}
 use Rattle.std.proofs.lemmas.List.{take-append-drop, drop-drop, length-take-le, length-drop}
 use Rattle.std.proofs.lemmas.List.Sums.{sum_by-cons}
@@ -12,7 +12,6 @@ use Rattle.dg_index.specs.OpenedIndex.{laid, total, lengths_of}
 use Rattle.dg_index.specs.declared.entry.Row.{Row}
 use Rattle.dg_index.proofs.IndexRecordColumns.{Each, Match, Tell, IsKept}
 use Rattle.dg_columns.proofs.Fields.{Stands, stands_then}
-use Rattle.dg_sound_files.proofs.ImageTextDirectories.{IsOfFour}
 
 -- the bytes of all columns
 abbrev pub sum_of : List Row → ℕ
@@ -31,25 +30,25 @@ pub record AreLaid (image : List ℕ) (offset : ℕ) (rows : List Row) (all : Li
   pub tell : Tell rows all
   pub stands : Stands image offset (flat_map bytes_of all) (offset + sum_of rows)
 
-pub laid_stands : (z : History) (image : List ℕ) (offset : ℕ) (keys : List Key) (rows : List Row) (all : List Stored) → length keys ≡ length rows → length all ≡ length rows → Each IsOfFour rows → Match z keys all
+pub laid_stands : (z : History) (image : List ℕ) (offset : ℕ) (keys : List Key) (rows : List Row) (all : List Stored) → length keys ≡ length rows → length all ≡ length rows → Match z keys all
     → Each (IsKept z image) (laid offset keys rows) → offset + sum_of rows ≤ length image → AreLaid image offset rows all
-laid_stands z image offset [] [] [] a b four match kept long = record { tell = tt; stands = ap (λ n. drop n image) (let e : offset ≡ offset + 0 = omega arith in e) }
-laid_stands z image offset [] [] (s ∷ all) a b four match kept long = absurd (omega (arith, b))
-laid_stands z image offset [] (r ∷ rows) all a b four match kept long = absurd (omega (arith, a))
-laid_stands z image offset (k ∷ keys) [] all a b four match kept long = absurd (omega (arith, a))
-laid_stands z image offset (k ∷ keys) (r ∷ rows) [] a b four match kept long = absurd (omega (arith, b))
-laid_stands z image offset (k ∷ keys) (r ∷ rows) (s ∷ all) a b four match kept long =
+laid_stands z image offset [] [] [] a b match kept long = record { tell = tt; stands = ap (λ n. drop n image) (let e : offset ≡ offset + 0 = omega arith in e) }
+laid_stands z image offset [] [] (s ∷ all) a b match kept long = absurd (omega (arith, b))
+laid_stands z image offset [] (r ∷ rows) all a b match kept long = absurd (omega (arith, a))
+laid_stands z image offset (k ∷ keys) [] all a b match kept long = absurd (omega (arith, a))
+laid_stands z image offset (k ∷ keys) (r ∷ rows) [] a b match kept long = absurd (omega (arith, b))
+laid_stands z image offset (k ∷ keys) (r ∷ rows) (s ∷ all) a b match kept long =
     let sum : sum_of (r ∷ rows) ≡ total r.lengths + sum_of rows = sum_by-cons (λ (r : Row). total r.lengths) r rows in
-    let c0 = range_stands image s.structure offset (slice_index r.lengths 0) (offset + slice_index r.lengths 0) (kept.0 column.Structure ∙ sym (match.0 column.Structure)) refl (omega (arith, sum, long)) in
-    let c1 = range_stands image s.node_attrs (offset + slice_index r.lengths 0) (slice_index r.lengths 1) (offset + slice_index r.lengths 0 + slice_index r.lengths 1) (kept.0 column.NodeAttr ∙ sym (match.0 column.NodeAttr)) refl (omega (arith, sum, long)) in
-    let c2 = range_stands image s.edge_attrs (offset + slice_index r.lengths 0 + slice_index r.lengths 1) (slice_index r.lengths 2) (offset + slice_index r.lengths 0 + slice_index r.lengths 1 + slice_index r.lengths 2) (kept.0 column.EdgeAttr ∙ sym (match.0 column.EdgeAttr)) refl (omega (arith, sum, long)) in
-    let c3 = range_stands image s.transient (offset + slice_index r.lengths 0 + slice_index r.lengths 1 + slice_index r.lengths 2) (slice_index r.lengths 3) (offset + total r.lengths) (kept.0 column.Transient ∙ sym (match.0 column.Transient)) (omega arith) (omega (arith, sum, long)) in
+    let c0 = range_stands image s.structure offset r.lengths.structure (offset + r.lengths.structure) (kept.0 column.Structure ∙ sym (match.0 column.Structure)) refl (omega (arith, sum, long)) in
+    let c1 = range_stands image s.node_attrs (offset + r.lengths.structure) r.lengths.node_attrs (offset + r.lengths.structure + r.lengths.node_attrs) (kept.0 column.NodeAttr ∙ sym (match.0 column.NodeAttr)) refl (omega (arith, sum, long)) in
+    let c2 = range_stands image s.edge_attrs (offset + r.lengths.structure + r.lengths.node_attrs) r.lengths.edge_attrs (offset + r.lengths.structure + r.lengths.node_attrs + r.lengths.edge_attrs) (kept.0 column.EdgeAttr ∙ sym (match.0 column.EdgeAttr)) refl (omega (arith, sum, long)) in
+    let c3 = range_stands image s.transient (offset + r.lengths.structure + r.lengths.node_attrs + r.lengths.edge_attrs) r.lengths.transient (offset + total r.lengths) (kept.0 column.Transient ∙ sym (match.0 column.Transient)) (omega arith) (omega (arith, sum, long)) in
     let one : Stands image offset (bytes_of s) (offset + total r.lengths) =
-    stands_then image offset s.structure (offset + slice_index r.lengths 0) (s.node_attrs ++ (s.edge_attrs ++ s.transient)) (offset + total r.lengths) c0.1
-    (stands_then image (offset + slice_index r.lengths 0) s.node_attrs (offset + slice_index r.lengths 0 + slice_index r.lengths 1) (s.edge_attrs ++ s.transient) (offset + total r.lengths) c1.1
-    (stands_then image (offset + slice_index r.lengths 0 + slice_index r.lengths 1) s.edge_attrs (offset + slice_index r.lengths 0 + slice_index r.lengths 1 + slice_index r.lengths 2) s.transient (offset + total r.lengths) c2.1 c3.1)) in
-    let more = laid_stands z image (offset + total r.lengths) keys rows all (omega (arith, a)) (omega (arith, b)) four.1 match.1 kept.1 (omega (arith, sum, long)) in
-    let lengths : r.lengths ≡ lengths_of s = four.0 ∙ (λ i. c0.0 i ∷ c1.0 i ∷ c2.0 i ∷ c3.0 i ∷ []) in
+    stands_then image offset s.structure (offset + r.lengths.structure) (s.node_attrs ++ (s.edge_attrs ++ s.transient)) (offset + total r.lengths) c0.1
+    (stands_then image (offset + r.lengths.structure) s.node_attrs (offset + r.lengths.structure + r.lengths.node_attrs) (s.edge_attrs ++ s.transient) (offset + total r.lengths) c1.1
+    (stands_then image (offset + r.lengths.structure + r.lengths.node_attrs) s.edge_attrs (offset + r.lengths.structure + r.lengths.node_attrs + r.lengths.edge_attrs) s.transient (offset + total r.lengths) c2.1 c3.1)) in
+    let more = laid_stands z image (offset + total r.lengths) keys rows all (omega (arith, a)) (omega (arith, b)) match.1 kept.1 (omega (arith, sum, long)) in
+    let lengths : r.lengths ≡ lengths_of s = λ i. record { structure = c0.0 i; node_attrs = c1.0 i; edge_attrs = c2.0 i; transient = c3.0 i } in
     record {
       tell = (lengths, more.tell);
       stands = stands_then image offset (bytes_of s) (offset + total r.lengths) (flat_map bytes_of all) (offset + sum_of (r ∷ rows)) one (more.stands ∙ ap (λ n. flat_map bytes_of all ++ drop n image) (let e : offset + total r.lengths + sum_of rows ≡ offset + sum_of (r ∷ rows) = omega (arith, sum) in e));

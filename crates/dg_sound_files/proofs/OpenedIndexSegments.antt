@@ -169,7 +169,7 @@ module _ (z : History) (image : List ℕ) (fits : IsBytes image) (pos : 0 < z.pa
       subst (λ n. Match z (keys_next y.index n) (stored_in s)) (sym counts.events) (segment_matches z [] pos arity front b more is bare_y (record { params = so.params; count = so.count; number = so.number; kept = tt })) in
       let may = and_parts (sum_of (rows_in d) == eight_at image (y.index.used + 8)) _ next.may in
       let measured : sum_of (rows_in d) ≡ eight_at image (y.index.used + 8) = eqb-true _ _ may.0 in
-      let laid_here = laid_stands z image offset (keys_next y.index d.batch.events) (rows_in d) (stored_in s) (keys_long ∙ sym rows_long) (stored_long ∙ sym rows_long) spelt.four match kept (omega (arith, measured, next.ends)) in
+      let laid_here = laid_stands z image offset (keys_next y.index d.batch.events) (rows_in d) (stored_in s) (keys_long ∙ sym rows_long) (stored_long ∙ sym rows_long) match kept (omega (arith, measured, next.ends)) in
       -- the rows
       let lists_same_here : SameEnds d.lists (map list_row s.lists) =
       lists_same z pos arity all (events_among more) whole offset m (after - m) others d.lists (d.deltas ++ d.piece ∷ []) lists_here upto (subst (λ (l : List Key). Each (IsListTimed z) (laid offset l (rows_in d))) keys_are timed) in

@@ -1,6 +1,6 @@
 -- The columns of a record that is read as events are those of these events.
 use Rattle.std.proofs.Common.{◌≡◌, ℕ, suc, ◌+◌, ◌≤◌, ◌<◌, Bool, true, false, cond, List, [], ◌∷◌, ◌++◌, length, drop, filter, map, Option, Some, None, Result, Ok, Err, refl, ap, ◌∙◌, arith}
-use Rattle.std.specs.Prelude.{◌==◌, option_and_then, slice_index}
+use Rattle.std.specs.Prelude.{◌==◌, option_and_then}
 use Rattle.std.proofs.lemmas.Bool.{eqb-true}
 use Rattle.std.proofs.lemmas.List.Elements.{All-take, All-drop}
 use Rattle.dg_graph.specs.declared.element.Column.{Column}
@@ -75,14 +75,14 @@ all_pass q (x ∷ xs) e = by (λ e. all_pass q xs e) (q x) refl e
 -- ---- a record
 
 pub column_bytes : (image : List ℕ) (e : Entry) (col : Column) → AreBytes image → AreBytes (column_at image e col)
-column_bytes image e column.Structure all = All-take (λ b. b < 256) (slice_index e.lengths 0) (drop e.offset image) (All-drop (λ b. b < 256) e.offset image all)
+column_bytes image e column.Structure all = All-take (λ b. b < 256) e.lengths.structure (drop e.offset image) (All-drop (λ b. b < 256) e.offset image all)
 column_bytes image e column.NodeAttr all =
-    All-take (λ b. b < 256) (slice_index e.lengths 1) (drop (e.offset + slice_index e.lengths 0) image) (All-drop (λ b. b < 256) (e.offset + slice_index e.lengths 0) image all)
+    All-take (λ b. b < 256) e.lengths.node_attrs (drop (e.offset + e.lengths.structure) image) (All-drop (λ b. b < 256) (e.offset + e.lengths.structure) image all)
 column_bytes image e column.EdgeAttr all =
-    All-take (λ b. b < 256) (slice_index e.lengths 2) (drop (e.offset + slice_index e.lengths 0 + slice_index e.lengths 1) image) (All-drop (λ b. b < 256) (e.offset + slice_index e.lengths 0 + slice_index e.lengths 1) image all)
+    All-take (λ b. b < 256) e.lengths.edge_attrs (drop (e.offset + e.lengths.structure + e.lengths.node_attrs) image) (All-drop (λ b. b < 256) (e.offset + e.lengths.structure + e.lengths.node_attrs) image all)
 column_bytes image e column.Transient all =
-    All-take (λ b. b < 256) (slice_index e.lengths 3) (drop (e.offset + slice_index e.lengths 0 + slice_index e.lengths 1 + slice_index e.lengths 2) image)
-    (All-drop (λ b. b < 256) (e.offset + slice_index e.lengths 0 + slice_index e.lengths 1 + slice_index e.lengths 2) image all)
+    All-take (λ b. b < 256) e.lengths.transient (drop (e.offset + e.lengths.structure + e.lengths.node_attrs + e.lengths.edge_attrs) image)
+    (All-drop (λ b. b < 256) (e.offset + e.lengths.structure + e.lengths.node_attrs + e.lengths.edge_attrs) image all)
 
 -- what is known of the events that a record is read as
 pub record AreOf (image : List ℕ) (x : Opened) (k : Key) (size : ℕ) (events : List Event) : Type 0 where

@@ -1,7 +1,6 @@
 -- The batch of a segment in the first form has no message: its piece and the lists that it closes tell of none.
 use Rattle.std.proofs.Common.{◌≡◌, ℕ, zero, suc, ◌+◌, ◌-◌, ◌*◌, ◌<◌, ◌≤◌, Bool, true, false, cond, not, List, [], ◌∷◌, ◌++◌, length, take, drop, filter, refl, sym, ap, subst, ◌∙◌, arith, append_assoc, length-append, add-mul, div-mul-le_self, take-add}
 use lib.Seq.{take-append-le}
-use Rattle.std.specs.Prelude.{slice_index}
 use Rattle.std.proofs.lemmas.Bool.{and_from}
 use Rattle.std.proofs.lemmas.List.{drop_at, drop-take, take-append-drop}
 use Rattle.std.proofs.lemmas.List.Concat.{flat_map-append}
@@ -73,7 +72,7 @@ pub laid_unheard : (z : History) (image : List ℕ) (offset : ℕ) (keys : List 
 laid_unheard z image offset [] rows long unheard kept = tt
 laid_unheard z image offset (k ∷ keys) [] long unheard kept = absurd (omega (arith, long))
 laid_unheard z image offset (k ∷ keys) (r ∷ rows) long unheard kept = (
-  sym (kept.0 column.Transient) ∙ ap (λ n. take n (drop (offset + slice_index r.lengths 0 + slice_index r.lengths 1 + slice_index r.lengths 2) image)) unheard.0,
+  sym (kept.0 column.Transient) ∙ ap (λ n. take n (drop (offset + r.lengths.structure + r.lengths.node_attrs + r.lengths.edge_attrs) image)) unheard.0,
   laid_unheard z image (offset + total r.lengths) keys rows (omega (arith, long)) unheard.1 kept.1,
 )
 

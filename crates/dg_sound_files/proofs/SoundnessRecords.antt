@@ -1,6 +1,6 @@
 -- The records of a sound image are those of the history of its own events.
 use Rattle.std.proofs.Common.{◌≡◌, ℕ, ◌+◌, ◌-◌, ◌*◌, ◌≤◌, ◌<◌, Bool, true, false, cond, ◌||◌, List, [], ◌∷◌, ◌++◌, length, take, drop, map, max, Option, Some, None, refl, sym, ap, subst, ◌∙◌, append_assoc, append-nil, arith, length-append, div-mul-le_self}
-use Rattle.std.specs.Prelude.{◌==◌, ◌&&◌, ◌/◌, ◌^◌, slice_index}
+use Rattle.std.specs.Prelude.{◌==◌, ◌&&◌, ◌/◌, ◌^◌}
 use Rattle.std.specs.List.{flat_map}
 use Rattle.std.specs.Map.{lookup}
 use Rattle.std.proofs.lemmas.Bool.{eqb-true, eq-eqb, and_parts}
@@ -101,7 +101,7 @@ deltas_tell [] number [] piece long e = (tt, tt)
 deltas_tell [] number (r ∷ rows) piece long e = absurd (omega (arith, long))
 deltas_tell (k ∷ keys) number [] piece long e = absurd (omega (arith, long))
 deltas_tell (k ∷ keys) number (r ∷ rows) piece long e =
-    let a = and_parts (slice_index r.lengths 3 == 0) _ e in
+    let a = and_parts (r.lengths.transient == 0) _ e in
     (tells_none k r (eqb-true _ _ a.0), deltas_tell keys number rows piece (omega (arith, long)) a.1)
 
 -- nor do the rows of a directory
@@ -192,7 +192,7 @@ module _ (image : List ℕ) (x : Opened) (events : List Event) (pos : 0 < x.inde
         by_row d offset r column.Structure unheard told = told refl
         by_row d offset r column.NodeAttr unheard told = told refl
         by_row d offset r column.EdgeAttr unheard told = told refl
-        by_row d offset r column.Transient unheard told = ap (λ n. take n (drop (offset + slice_index r.lengths 0 + slice_index r.lengths 1 + slice_index r.lengths 2) image)) unheard
+        by_row d offset r column.Transient unheard told = ap (λ n. take n (drop (offset + r.lengths.structure + r.lengths.node_attrs + r.lengths.edge_attrs) image)) unheard
 
         all_told : (k : Key) (r : Row) (offset : ℕ) → TellsNone k r
             → ((col : Column) → is_told k col ≡ true → column_at image (record { lengths = r.lengths; offset = offset; ends = r.ends }) col ≡ column_in (history_of x events) k col)

@@ -1,6 +1,6 @@
 -- How many bytes a start reads, over an image of a history.
 use Rattle.std.proofs.Common.{◌≡◌, ℕ, ◌+◌, ◌≤◌, ◌==◌, Bool, true, false, if◌then◌else◌, List, [], ◌∷◌, Option, Some, None, Result, Ok, Err, length, is_some, refl, sym, ◌∙◌, ap, subst, arith}
-use Rattle.std.specs.Prelude.{IfSome, IsErr, IsErrAnd, slice_index, sum_by}
+use Rattle.std.specs.Prelude.{IfSome, IsErr, IsErrAnd, sum_by}
 use Rattle.std.specs.List.{All}
 use Rattle.std.specs.Map.{lookup}
 use Rattle.std.proofs.lemmas.Bool.{eqb-true, false≢true}
@@ -18,7 +18,7 @@ use Rattle.dg_index.specs.declared.entry.Entry.{Entry}
 use Rattle.dg_index.specs.ImageOfHistory.{IsImageOf}
 use Rattle.dg_index.specs.IndexRecords.{column_in}
 use Rattle.dg_index.specs.OpenedIndex.{Opening, column_at, entry_at, entry_or_none, opened_of, total}
-use Rattle.dg_index.proofs.OpenedIndexRecords.{IsTold, told_at}
+use Rattle.dg_index.proofs.OpenedIndexRecords.{IsTold, lengths_in, told_at}
 use Rattle.dg_index.proofs.IndexRecordColumns.{columns_are_kept}
 use Rattle.dg_plan.specs.HistoryGraph.{all_columns}
 use Rattle.dg_start.specs.declared.event_source.EventSource.{EventSource}
@@ -76,12 +76,8 @@ module _ (z : History) (image : List ℕ) (stands : IsImageOf z image) (o : Open
           let told : IsTold z (k, e) = told_at z stands.legal k e there in
           let column : (col : Column) → length (kept_in image o k col) ≡ length (column_in z k col) =
           λ col. ap (λ (x : Option Entry). length (column_at image (entry_or_none x) col)) is ∙ ap length (columns_are_kept z image stands k e there col) in
-          let lengths : (i : ℕ) → slice_index (entry_at o k).lengths i ≡ slice_index e.lengths i = λ i. ap (λ (x : Option Entry). slice_index (entry_or_none x).lengths i) is in
-          let first : slice_index (entry_at o k).lengths 0 ≡ length (column_in z k Structure) = lengths 0 ∙ ap (λ l. slice_index l 0) told.0 in
-          let second : slice_index (entry_at o k).lengths 1 ≡ length (column_in z k NodeAttr) = lengths 1 ∙ ap (λ l. slice_index l 1) told.0 in
-          let third : slice_index (entry_at o k).lengths 2 ≡ length (column_in z k EdgeAttr) = lengths 2 ∙ ap (λ l. slice_index l 2) told.0 in
-          let fourth : slice_index (entry_at o k).lengths 3 ≡ length (column_in z k Transient) = lengths 3 ∙ ap (λ l. slice_index l 3) told.0 in
-          omega (arith, column Structure, column NodeAttr, column EdgeAttr, column Transient, first, second, third, fourth)
+          let same : (entry_at o k).lengths ≡ lengths_in z k = ap (λ (x : Option Entry). (entry_or_none x).lengths) is ∙ told.0 in
+          omega (arith, column Structure, column NodeAttr, column EdgeAttr, column Transient, ap total same)
 
   abbrev Readable : EventSource → Type 0
   Readable s = CanBeRead o (source_of s)

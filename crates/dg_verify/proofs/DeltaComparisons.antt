@@ -1,5 +1,5 @@
 -- How the deltas of an index are compared with those that are due, one after another.
-use Rattle.std.proofs.Common.{◌≡◌, ℕ, zero, suc, ◌+◌, ◌<◌, ◌≤◌, List, [], ◌∷◌, ◌++◌, Option, Some, None, length, drop, take, map, get_or, slice_index_or, refl, sym, ◌∙◌, ap, subst, arith, append_assoc, length-append}
+use Rattle.std.proofs.Common.{◌≡◌, ℕ, zero, suc, ◌+◌, ◌<◌, ◌≤◌, List, [], ◌∷◌, ◌++◌, Option, Some, None, length, drop, take, map, get_or, refl, sym, ◌∙◌, ap, subst, arith, append_assoc, length-append}
 use Rattle.std.proofs.lemmas.List.{drop_more, length-map}
 use Rattle.dg_graph.specs.declared.element.Column.{Column}
 use Rattle.dg_history.specs.declared.node.Key.{Key}
@@ -70,43 +70,43 @@ module _ (due : List Stored) (i : ℕ) (row : Row) (columns : List ℕ) (at : Is
   columns_are : columns ≡ at.stored.structure ++ (at.stored.node_attrs ++ (at.stored.edge_attrs ++ delta_blobs (drop (i + 1) due)))
   columns_are = as_parts at.stored (delta_blobs (drop (i + 1) due)) columns at.unheard (left ∙ ap delta_blobs at.rest)
 
-  structure_long : slice_index_or row.lengths 0 0 ≡ length at.stored.structure
-  structure_long = ap (λ (r : Row). slice_index_or r.lengths 0 0) at.row_is
+  structure_long : row.lengths.structure ≡ length at.stored.structure
+  structure_long = ap (λ (r : Row). r.lengths.structure) at.row_is
 
-  nodes_long : slice_index_or row.lengths 1 0 ≡ length at.stored.node_attrs
-  nodes_long = ap (λ (r : Row). slice_index_or r.lengths 1 0) at.row_is
+  nodes_long : row.lengths.node_attrs ≡ length at.stored.node_attrs
+  nodes_long = ap (λ (r : Row). r.lengths.node_attrs) at.row_is
 
-  edges_long : slice_index_or row.lengths 2 0 ≡ length at.stored.edge_attrs
-  edges_long = ap (λ (r : Row). slice_index_or r.lengths 2 0) at.row_is
+  edges_long : row.lengths.edge_attrs ≡ length at.stored.edge_attrs
+  edges_long = ap (λ (r : Row). r.lengths.edge_attrs) at.row_is
 
-  pub structure_within : slice_index_or row.lengths 0 0 ≤ length columns
-  structure_within = is_within at.stored.structure (at.stored.node_attrs ++ (at.stored.edge_attrs ++ delta_blobs (drop (i + 1) due))) columns (slice_index_or row.lengths 0 0) columns_are structure_long
+  pub structure_within : row.lengths.structure ≤ length columns
+  structure_within = is_within at.stored.structure (at.stored.node_attrs ++ (at.stored.edge_attrs ++ delta_blobs (drop (i + 1) due))) columns row.lengths.structure columns_are structure_long
 
-  pub structure_is : (a : List ℕ) → a ≡ take (slice_index_or row.lengths 0 0) columns → a ≡ at.stored.structure
-  structure_is a is = is ∙ front_is at.stored.structure (at.stored.node_attrs ++ (at.stored.edge_attrs ++ delta_blobs (drop (i + 1) due))) columns (slice_index_or row.lengths 0 0) columns_are structure_long
+  pub structure_is : (a : List ℕ) → a ≡ take row.lengths.structure columns → a ≡ at.stored.structure
+  structure_is a is = is ∙ front_is at.stored.structure (at.stored.node_attrs ++ (at.stored.edge_attrs ++ delta_blobs (drop (i + 1) due))) columns row.lengths.structure columns_are structure_long
 
-  module _ (after : List ℕ) (after_is : after ≡ drop (slice_index_or row.lengths 0 0) columns) where
+  module _ (after : List ℕ) (after_is : after ≡ drop row.lengths.structure columns) where
     after_are : after ≡ at.stored.node_attrs ++ (at.stored.edge_attrs ++ delta_blobs (drop (i + 1) due))
-    after_are = after_is ∙ behind_is at.stored.structure (at.stored.node_attrs ++ (at.stored.edge_attrs ++ delta_blobs (drop (i + 1) due))) columns (slice_index_or row.lengths 0 0) columns_are structure_long
+    after_are = after_is ∙ behind_is at.stored.structure (at.stored.node_attrs ++ (at.stored.edge_attrs ++ delta_blobs (drop (i + 1) due))) columns row.lengths.structure columns_are structure_long
 
-    pub nodes_within : slice_index_or row.lengths 1 0 ≤ length after
-    nodes_within = is_within at.stored.node_attrs (at.stored.edge_attrs ++ delta_blobs (drop (i + 1) due)) after (slice_index_or row.lengths 1 0) after_are nodes_long
+    pub nodes_within : row.lengths.node_attrs ≤ length after
+    nodes_within = is_within at.stored.node_attrs (at.stored.edge_attrs ++ delta_blobs (drop (i + 1) due)) after row.lengths.node_attrs after_are nodes_long
 
-    pub nodes_are : (b : List ℕ) → b ≡ take (slice_index_or row.lengths 1 0) after → b ≡ at.stored.node_attrs
-    nodes_are b is = is ∙ front_is at.stored.node_attrs (at.stored.edge_attrs ++ delta_blobs (drop (i + 1) due)) after (slice_index_or row.lengths 1 0) after_are nodes_long
+    pub nodes_are : (b : List ℕ) → b ≡ take row.lengths.node_attrs after → b ≡ at.stored.node_attrs
+    nodes_are b is = is ∙ front_is at.stored.node_attrs (at.stored.edge_attrs ++ delta_blobs (drop (i + 1) due)) after row.lengths.node_attrs after_are nodes_long
 
-    module _ (last : List ℕ) (last_is : last ≡ drop (slice_index_or row.lengths 1 0) after) where
+    module _ (last : List ℕ) (last_is : last ≡ drop row.lengths.node_attrs after) where
       last_are : last ≡ at.stored.edge_attrs ++ delta_blobs (drop (i + 1) due)
-      last_are = last_is ∙ behind_is at.stored.node_attrs (at.stored.edge_attrs ++ delta_blobs (drop (i + 1) due)) after (slice_index_or row.lengths 1 0) after_are nodes_long
+      last_are = last_is ∙ behind_is at.stored.node_attrs (at.stored.edge_attrs ++ delta_blobs (drop (i + 1) due)) after row.lengths.node_attrs after_are nodes_long
 
-      pub edges_within : slice_index_or row.lengths 2 0 ≤ length last
-      edges_within = is_within at.stored.edge_attrs (delta_blobs (drop (i + 1) due)) last (slice_index_or row.lengths 2 0) last_are edges_long
+      pub edges_within : row.lengths.edge_attrs ≤ length last
+      edges_within = is_within at.stored.edge_attrs (delta_blobs (drop (i + 1) due)) last row.lengths.edge_attrs last_are edges_long
 
-      pub edges_are : (c : List ℕ) → c ≡ take (slice_index_or row.lengths 2 0) last → c ≡ at.stored.edge_attrs
-      edges_are c is = is ∙ front_is at.stored.edge_attrs (delta_blobs (drop (i + 1) due)) last (slice_index_or row.lengths 2 0) last_are edges_long
+      pub edges_are : (c : List ℕ) → c ≡ take row.lengths.edge_attrs last → c ≡ at.stored.edge_attrs
+      edges_are c is = is ∙ front_is at.stored.edge_attrs (delta_blobs (drop (i + 1) due)) last row.lengths.edge_attrs last_are edges_long
 
-      pub behind_record : (more : List ℕ) → more ≡ drop (slice_index_or row.lengths 2 0) last → more ≡ delta_blobs (drop (i + 1) due)
-      behind_record more is = is ∙ behind_is at.stored.edge_attrs (delta_blobs (drop (i + 1) due)) last (slice_index_or row.lengths 2 0) last_are edges_long
+      pub behind_record : (more : List ℕ) → more ≡ drop row.lengths.edge_attrs last → more ≡ delta_blobs (drop (i + 1) due)
+      behind_record more is = is ∙ behind_is at.stored.edge_attrs (delta_blobs (drop (i + 1) due)) last row.lengths.edge_attrs last_are edges_long
 
 -- ---- the next record
 
@@ -119,18 +119,18 @@ DeltasGoOn told o kind keys due i = WhereTold told (λ image. first_unlike image
 module _ (told : Option (List ℕ)) (o : Opening) (kind : DeltaKind) (keys : List Key) (due : List Stored) (i : ℕ) (k : Key) (next : drop i keys ≡ k ∷ drop (i + 1) keys)
     (s : Stored) (rest : drop i due ≡ s ∷ drop (i + 1) due) (so_far : DeltasGoOn told o kind keys due i) where
   next_delta : (image : List ℕ) → told ≡ Some image → first_unlike image o kind keys due
-      ≡ or_later k (unlike_of image o kind k s.structure s.node_attrs s.edge_attrs) (first_unlike image o kind (drop (i + 1) keys) (drop (i + 1) due))
+      ≡ or_later k (unlike_of image o kind k s) (first_unlike image o kind (drop (i + 1) keys) (drop (i + 1) due))
   next_delta image h = so_far image h ∙ (λ j. first_unlike image o kind (next j) (rest j))
 
-  pub one_compared : WhereTold told (λ image. unlike_of image o kind k s.structure s.node_attrs s.edge_attrs ≡ None) → DeltasGoOn told o kind keys due (i + 1)
+  pub one_compared : WhereTold told (λ image. unlike_of image o kind k s ≡ None) → DeltasGoOn told o kind keys due (i + 1)
   one_compared alike image h =
       next_delta image h ∙ ap (λ u. or_later k u (first_unlike image o kind (drop (i + 1) keys) (drop (i + 1) due))) (alike image h)
 
-  pub delta_stops : (x : Stop) → WhereTold told (λ image. IsWrong x (keyed_column k (unlike_of image o kind k s.structure s.node_attrs s.edge_attrs)))
+  pub delta_stops : (x : Stop) → WhereTold told (λ image. IsWrong x (keyed_column k (unlike_of image o kind k s)))
       → WhereTold told (λ image. IsWrong x (first_unlike image o kind keys due))
   delta_stops x stopped image h =
       subst (λ u. IsWrong x u) (sym (next_delta image h))
-      (goes_first x k (unlike_of image o kind k s.structure s.node_attrs s.edge_attrs) (first_unlike image o kind (drop (i + 1) keys) (drop (i + 1) due)) (stopped image h))
+      (goes_first x k (unlike_of image o kind k s) (first_unlike image o kind (drop (i + 1) keys) (drop (i + 1) due)) (stopped image h))
     where
       goes_first : (x : Stop) (k : Key) (u : Option Column) (later : Option (Key × Column)) → IsWrong x (keyed_column k u) → IsWrong x (or_later k u later)
       goes_first (stop.Wrong key col) k None later h = absurd cc

@@ -9,6 +9,7 @@ use Rattle.dg_graph.specs.declared.event.Event.{Event}
 use Rattle.dg_graph.specs.Columns.{events_column}
 use Rattle.dg_history.specs.declared.node.Key.{Key}
 use Rattle.dg_history.specs.declared.node.Key.TheVariants as key
+use Rattle.dg_index.specs.FileOfHistory.{Stored}
 use Rattle.dg_index.specs.OpenedIndex.{Opened, Opening, event_total}
 use Rattle.dg_index.specs.declared.entry.BatchEntry.{BatchEntry}
 use Rattle.dg_sound.specs.OwnEvents.{and_own, has_batch_ends, if_columns, is_column_of, listed_events, own_events, piece_length, piece_start, with_older, with_piece_events, with_pieces}
@@ -99,27 +100,28 @@ stops_result stop.Disk k events u h = tt
 stops_result stop.Memory k events u h = tt
 
 -- the piece of an older batch, whose times are right, was compared with these columns of its events
-module _ (image : List ℕ) (o : Opening) (events piece : List Event) (number before : ℕ) (b : BatchEntry) (structure node_attrs edge_attrs transient : List ℕ)
+module _ (image : List ℕ) (o : Opening) (events piece : List Event) (number before : ℕ) (b : BatchEntry) (due : Stored)
     (piece_is : piece ≡ take (piece_length o before b) (drop (piece_start o before b) events)) (ends : has_batch_ends before b events ≡ true)
-    (structure_is : structure ≡ events_column column.Structure piece) (node_attrs_are : node_attrs ≡ events_column column.NodeAttr piece)
-    (edge_attrs_are : edge_attrs ≡ events_column column.EdgeAttr piece) (transient_is : transient ≡ events_column column.Transient piece) where
-  as_compared : with_older image (opened_with o []) events number before b ≡ as_result (key.Piece number) events (unlike_events image o (key.Piece number) structure node_attrs edge_attrs transient)
+    (structure_is : due.structure ≡ events_column column.Structure piece) (node_attrs_are : due.node_attrs ≡ events_column column.NodeAttr piece)
+    (edge_attrs_are : due.edge_attrs ≡ events_column column.EdgeAttr piece) (transient_is : due.transient ≡ events_column column.Transient piece) where
+  as_compared : with_older image (opened_with o []) events number before b ≡ as_result (key.Piece number) events (unlike_events image o (key.Piece number) due)
   as_compared =
       by_columns (is_column_of image (opened_with o []) (key.Piece number) (take (piece_length o before b) (drop (piece_start o before b) events)) column.Structure)
       (is_column_of image (opened_with o []) (key.Piece number) (take (piece_length o before b) (drop (piece_start o before b) events)) column.NodeAttr)
       (is_column_of image (opened_with o []) (key.Piece number) (take (piece_length o before b) (drop (piece_start o before b) events)) column.EdgeAttr)
       (is_column_of image (opened_with o []) (key.Piece number) (take (piece_length o before b) (drop (piece_start o before b) events)) column.Transient)
       (has_batch_ends before b events) (key.Piece number) events ends
-      ∙ (λ i. as_result (key.Piece number) events (unlike_events image o (key.Piece number)
-      ((ap (events_column column.Structure) (sym piece_is) ∙ sym structure_is) i)
-      ((ap (events_column column.NodeAttr) (sym piece_is) ∙ sym node_attrs_are) i)
-      ((ap (events_column column.EdgeAttr) (sym piece_is) ∙ sym edge_attrs_are) i)
-      ((ap (events_column column.Transient) (sym piece_is) ∙ sym transient_is) i)))
+      ∙ (λ i. as_result (key.Piece number) events (unlike_events image o (key.Piece number) (record {
+        structure = (ap (events_column column.Structure) (sym piece_is) ∙ sym structure_is) i;
+        node_attrs = (ap (events_column column.NodeAttr) (sym piece_is) ∙ sym node_attrs_are) i;
+        edge_attrs = (ap (events_column column.EdgeAttr) (sym piece_is) ∙ sym edge_attrs_are) i;
+        transient = (ap (events_column column.Transient) (sym piece_is) ∙ sym transient_is) i;
+      })))
 
-  pub older_alike : unlike_events image o (key.Piece number) structure node_attrs edge_attrs transient ≡ None → with_older image (opened_with o []) events number before b ≡ Ok events
+  pub older_alike : unlike_events image o (key.Piece number) due ≡ None → with_older image (opened_with o []) events number before b ≡ Ok events
   older_alike alike = as_compared ∙ ap (as_result (key.Piece number) events) alike
 
-  pub older_stops : (s : Stop) → IsWrong s (keyed_column (key.Piece number) (unlike_events image o (key.Piece number) structure node_attrs edge_attrs transient)) → IsStop s (with_older image (opened_with o []) events number before b)
+  pub older_stops : (s : Stop) → IsWrong s (keyed_column (key.Piece number) (unlike_events image o (key.Piece number) due)) → IsStop s (with_older image (opened_with o []) events number before b)
   older_stops s h =
       subst (λ t. IsStop s t) (sym as_compared)
-      (stops_result s (key.Piece number) events (unlike_events image o (key.Piece number) structure node_attrs edge_attrs transient) h)
+      (stops_result s (key.Piece number) events (unlike_events image o (key.Piece number) due) h)

@@ -37,13 +37,12 @@ has_kind delta.Down (key.Piece s) = false
 has_kind delta.Down (key.Top h) = false
 
 -- the first column of the record that is none of these, where the record is of the kind
-abbrev pub unlike_of : List ℕ → Opening → DeltaKind → Key → List ℕ → List ℕ → List ℕ → Option Column
-unlike_of image o kind k structure node_attrs edge_attrs =
-    if has_kind kind k then unlike image o k structure node_attrs edge_attrs else None
+abbrev pub unlike_of : List ℕ → Opening → DeltaKind → Key → Stored → Option Column
+unlike_of image o kind k due = if has_kind kind k then unlike image o k due else None
 
 -- the first of the records of the kind that has other columns than these, and its first such column
 abbrev pub first_unlike : List ℕ → Opening → DeltaKind → List Key → List Stored → Option (Key × Column)
 first_unlike image o kind [] due = None
 first_unlike image o kind (k ∷ keys) [] = None
 first_unlike image o kind (k ∷ keys) (s ∷ due) =
-    or_later k (unlike_of image o kind k s.structure s.node_attrs s.edge_attrs) (first_unlike image o kind keys due)
+    or_later k (unlike_of image o kind k s) (first_unlike image o kind keys due)

@@ -6,6 +6,7 @@ use Rattle.dg_graph.specs.declared.element.Column.{Column}
 use Rattle.dg_graph.specs.declared.element.Column.TheVariants as column
 use Rattle.dg_graph.specs.declared.event.Event.{Event}
 use Rattle.dg_history.specs.declared.node.Key.{Key}
+use Rattle.dg_index.specs.FileOfHistory.{Stored}
 use Rattle.dg_index.specs.OpenedIndex.{Opened, Opening, column_at, entry_at}
 use Rattle.dg_sound.specs.declared.soundness.Soundness.{Soundness}
 use Rattle.dg_sound.specs.declared.soundness.Soundness.TheVariants.{Unsound}
@@ -55,16 +56,16 @@ keyed_column k found = or_later k found None
 -- ---- comparing
 
 -- the first column of the record that is none of these, but for that of messages
-abbrev pub unlike : List ℕ → Opening → Key → List ℕ → List ℕ → List ℕ → Option Column
-unlike image o k structure node_attrs edge_attrs =
-    if bytes_eq (column_at image (entry_at o k) column.Structure) structure
-    then (if bytes_eq (column_at image (entry_at o k) column.NodeAttr) node_attrs
-    then (if bytes_eq (column_at image (entry_at o k) column.EdgeAttr) edge_attrs then None else Some column.EdgeAttr)
+abbrev pub unlike : List ℕ → Opening → Key → Stored → Option Column
+unlike image o k due =
+    if bytes_eq (column_at image (entry_at o k) column.Structure) due.structure
+    then (if bytes_eq (column_at image (entry_at o k) column.NodeAttr) due.node_attrs
+    then (if bytes_eq (column_at image (entry_at o k) column.EdgeAttr) due.edge_attrs then None else Some column.EdgeAttr)
     else Some column.NodeAttr)
     else Some column.Structure
 
 -- and of a record of events, which may have messages
-abbrev pub unlike_events : List ℕ → Opening → Key → List ℕ → List ℕ → List ℕ → List ℕ → Option Column
-unlike_events image o k structure node_attrs edge_attrs transient =
-    option_or (unlike image o k structure node_attrs edge_attrs)
-    (if bytes_eq (column_at image (entry_at o k) column.Transient) transient then None else Some column.Transient)
+abbrev pub unlike_events : List ℕ → Opening → Key → Stored → Option Column
+unlike_events image o k due =
+    option_or (unlike image o k due)
+    (if bytes_eq (column_at image (entry_at o k) column.Transient) due.transient then None else Some column.Transient)

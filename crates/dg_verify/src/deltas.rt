@@ -3,6 +3,7 @@
 ghost use Rattle.std.specs.Prelude.{◌≡◌, IfErr, IfSome, IsErrOf, None, OnOk, length};
 ghost use Rattle.dg_disk.specs.Calls.{Fails, ReadsDisk};
 ghost use Rattle.dg_file.specs.Images.{IsOpenedAs};
+ghost use Rattle.dg_index.specs.FileOfHistory.{lent};
 ghost use Rattle.dg_start.specs.EventSources.{WhereTold};
 ghost use Rattle.dg_verify.specs.Deltas.{first_unlike, has_kind, unlike_of};
 ghost use Rattle.dg_verify.specs.Verification.{IsWrong, keyed_column};
@@ -13,6 +14,7 @@ use crate::stop::Stop;
 use dg_disk::Disk;
 use dg_file::Index;
 use dg_history::Key;
+use dg_index::PerColumn;
 
 /// What a delta leads from.
 #[derive(Clone, Copy)]
@@ -39,15 +41,13 @@ fn compare_delta<D: Disk>(
     disk: &mut D,
     kind: DeltaKind,
     key: Key,
-    structure: &[u8],
-    node_attrs: &[u8],
-    edge_attrs: &[u8],
+    due: PerColumn<&[u8]>,
 ) -> Result<(), Stop>
     requires image { IfSome (D.image disk.old) (λ image. IsOpenedAs image index.old.opening) }
     ensures alike { OnOk result (WhereTold (D.image disk.old)
-        (λ image. unlike_of image index.old.opening kind key structure.now node_attrs.now edge_attrs.now ≡ None)) }
+        (λ image. unlike_of image index.old.opening kind key (lent due.entry) ≡ None)) }
     ensures stopped { IfErr result (λ stop. WhereTold (D.image disk.old)
-        (λ image. IsWrong stop (keyed_column key (unlike_of image index.old.opening kind key structure.now node_attrs.now edge_attrs.now)))) }
+        (λ image. IsWrong stop (keyed_column key (unlike_of image index.old.opening kind key (lent due.entry))))) }
     ensures cause { IsErrOf result Stop.Disk → Fails D.Disk disk.old disk.new }
 
     // what it leaves
@@ -55,7 +55,7 @@ fn compare_delta<D: Disk>(
     ensures disk { ReadsDisk D.Disk disk.old disk.new }
 {
     if has_kind(kind, key) {
-        compare_columns(index, disk, key, structure, node_attrs, edge_attrs)
+        compare_columns(index, disk, key, due)
     } else {
         Ok(())
     }
@@ -85,13 +85,19 @@ pub fn compare_deltas<D: Disk>(
     let rows = due.segment.delta_rows();
     let mut columns = due.segment.delta_columns();
     for (number, row) in rows.iter().enumerate() {
+        let lengths = row.lengths;
+        let (structure, after_structure) = columns.split_at(lengths.structure as usize);
+        let (node_attrs, after_nodes) = after_structure.split_at(lengths.node_attrs as usize);
+        let (edge_attrs, after_record) = after_nodes.split_at(lengths.edge_attrs as usize);
         // No delta has messages.
-        let [structure_len, node_len, edge_len, _] = row.lengths;
-        let (structure, after_structure) = columns.split_at(structure_len as usize);
-        let (node_attrs, after_nodes) = after_structure.split_at(node_len as usize);
-        let (edge_attrs, after_record) = after_nodes.split_at(edge_len as usize);
+        let record = PerColumn {
+            structure,
+            node_attrs,
+            edge_attrs,
+            transient: &[],
+        };
         let key = due.keys[number];
-        compare_delta(index, disk, kind, key, structure, node_attrs, edge_attrs)?;
+        compare_delta(index, disk, kind, key, record)?;
         columns = after_record;
     }
     Ok(())

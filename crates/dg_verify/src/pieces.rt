@@ -22,7 +22,7 @@ use dg_disk::Disk;
 use dg_file::Index;
 use dg_graph::{Column, Event};
 use dg_history::Key;
-use dg_index::BatchEntry;
+use dg_index::{BatchEntry, PerColumn};
 use dg_names::Names;
 use std::alloc::Global;
 
@@ -107,15 +107,13 @@ fn compare_older<D: Disk>(
     let node_attrs = write_events(alloc, piece, Column::NodeAttr)?;
     let edge_attrs = write_events(alloc, piece, Column::EdgeAttr)?;
     let transient = write_events(alloc, piece, Column::Transient)?;
-    compare_event_columns(
-        index,
-        disk,
-        key,
-        &structure,
-        &node_attrs,
-        &edge_attrs,
-        &transient,
-    )
+    let due = PerColumn {
+        structure: structure.as_slice(),
+        node_attrs: node_attrs.as_slice(),
+        edge_attrs: edge_attrs.as_slice(),
+        transient: transient.as_slice(),
+    };
+    compare_event_columns(index, disk, key, due)
 }
 
 // Reads the piece of a recent batch behind the events that were read.

@@ -8,6 +8,7 @@ ghost use Rattle.dg_disk.specs.Calls.{Fails, ReadsDisk};
 ghost use Rattle.dg_file.specs.Images.{IsOpenedAs};
 ghost use Rattle.dg_graph.specs.declared.event.Event.{Event};
 ghost use Rattle.dg_history.specs.Keys.{same_key};
+ghost use Rattle.dg_index.specs.FileOfHistory.{lent};
 ghost use Rattle.dg_index.specs.OpenedIndex.{column_at, entry_at, opening};
 ghost use Rattle.dg_sound.specs.OwnEvents.{events_of_record};
 ghost use Rattle.dg_start.specs.EventSources.{WhereTold};
@@ -18,7 +19,7 @@ use dg_disk::Disk;
 use dg_file::{FetchFault, Index};
 use dg_graph::{Column, Event};
 use dg_history::Key;
-use dg_index::Ends;
+use dg_index::{Ends, PerColumn};
 use dg_names::Names;
 use dg_start::{EventSource, read_record};
 use std::alloc::Global;
@@ -80,36 +81,34 @@ fn is_column<D: Disk>(
     Ok(bytes.as_slice() == due)
 }
 
-/// Compares the columns of the record with these; that of messages is not among them. `Stop::Wrong` for the first that is
+/// Compares the columns of the record with these, but for that of messages. `Stop::Wrong` for the first that is
 /// another, `Stop::Disk` where the disk failed, `Stop::Memory` for want of memory.
 pub fn compare_columns<D: Disk>(
     index: &mut Index,
     disk: &mut D,
     key: Key,
-    structure: &[u8],
-    node_attrs: &[u8],
-    edge_attrs: &[u8],
+    due: PerColumn<&[u8]>,
 ) -> Result<(), Stop>
     requires image { IfSome (D.image disk.old) (λ image. IsOpenedAs image index.old.opening) }
     ensures alike { OnOk result (WhereTold (D.image disk.old)
-        (λ image. unlike image index.old.opening key structure.now node_attrs.now edge_attrs.now ≡ None)) }
+        (λ image. unlike image index.old.opening key (lent due.entry) ≡ None)) }
     ensures stopped { IfErr result (λ stop. WhereTold (D.image disk.old)
-        (λ image. IsWrong stop (keyed_column key (unlike image index.old.opening key structure.now node_attrs.now edge_attrs.now)))) }
+        (λ image. IsWrong stop (keyed_column key (unlike image index.old.opening key (lent due.entry))))) }
     ensures cause { IsErrOf result Stop.Disk → Fails D.Disk disk.old disk.new }
 
     // what it leaves
     ensures same { index.new ≡ index.old }
     ensures disk { ReadsDisk D.Disk disk.old disk.new }
 {
-    let is_structure = is_column(index, disk, key, Column::Structure, structure)?;
+    let is_structure = is_column(index, disk, key, Column::Structure, due.structure)?;
     if !is_structure {
         return Err(Stop::Wrong(key, Column::Structure));
     }
-    let are_node_attrs = is_column(index, disk, key, Column::NodeAttr, node_attrs)?;
+    let are_node_attrs = is_column(index, disk, key, Column::NodeAttr, due.node_attrs)?;
     if !are_node_attrs {
         return Err(Stop::Wrong(key, Column::NodeAttr));
     }
-    let are_edge_attrs = is_column(index, disk, key, Column::EdgeAttr, edge_attrs)?;
+    let are_edge_attrs = is_column(index, disk, key, Column::EdgeAttr, due.edge_attrs)?;
     if !are_edge_attrs {
         return Err(Stop::Wrong(key, Column::EdgeAttr));
     }
@@ -122,24 +121,21 @@ pub fn compare_event_columns<D: Disk>(
     index: &mut Index,
     disk: &mut D,
     key: Key,
-    structure: &[u8],
-    node_attrs: &[u8],
-    edge_attrs: &[u8],
-    transient: &[u8],
+    due: PerColumn<&[u8]>,
 ) -> Result<(), Stop>
     requires image { IfSome (D.image disk.old) (λ image. IsOpenedAs image index.old.opening) }
     ensures alike { OnOk result (WhereTold (D.image disk.old)
-        (λ image. unlike_events image index.old.opening key structure.now node_attrs.now edge_attrs.now transient.now ≡ None)) }
+        (λ image. unlike_events image index.old.opening key (lent due.entry) ≡ None)) }
     ensures stopped { IfErr result (λ stop. WhereTold (D.image disk.old)
-        (λ image. IsWrong stop (keyed_column key (unlike_events image index.old.opening key structure.now node_attrs.now edge_attrs.now transient.now)))) }
+        (λ image. IsWrong stop (keyed_column key (unlike_events image index.old.opening key (lent due.entry))))) }
     ensures cause { IsErrOf result Stop.Disk → Fails D.Disk disk.old disk.new }
 
     // what it leaves
     ensures same { index.new ≡ index.old }
     ensures disk { ReadsDisk D.Disk disk.old disk.new }
 {
-    compare_columns(index, disk, key, structure, node_attrs, edge_attrs)?;
-    let are_transient = is_column(index, disk, key, Column::Transient, transient)?;
+    compare_columns(index, disk, key, due)?;
+    let are_transient = is_column(index, disk, key, Column::Transient, due.transient)?;
     if !are_transient {
         return Err(Stop::Wrong(key, Column::Transient));
     }

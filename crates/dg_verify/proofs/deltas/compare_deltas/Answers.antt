@@ -1,4 +1,4 @@
-use Rattle.std.proofs.Common.{◌≡◌, ℕ, ◌<◌, List, [], None, length, slice_index_or, sym, ◌∙◌, ap, subst, arith}
+use Rattle.std.proofs.Common.{◌≡◌, ℕ, ◌<◌, List, None, length, slice_index_or, sym, ◌∙◌, ap, subst, arith}
 use Rattle.std.proofs.lemmas.List.{length-map}
 use Rattle.dg_disk.proofs.FrameLemmas.{reads_then}
 use Rattle.dg_file.specs.Index.{IndexState}
@@ -15,7 +15,7 @@ use Rattle.dg_verify.proofs.DeltaComparisons.{IsAt, behind_record, delta_stops, 
 use Rattle.dg_verify.proofs.deltas.compare_deltas.Goals as goal
 
 abbrev no_row : Row
-no_row = record { ends = None; lengths = [] }
+no_row = record { ends = None; lengths = record { structure = 0; node_attrs = 0; edge_attrs = 0; transient = 0 } }
 
 pub split_at-requires : goal.split_at-requires
 split_at-requires g c =
@@ -58,9 +58,9 @@ returns-in_err-compare_delta-clause-stopped g c =
     let s : Stop = c.in_err-compare_delta.field-0.0 in
     err_is c.from_residual.result s (λ (s : Stop). WhereTold told (λ image. IsWrong s (first_unlike image o c.args.kind keys due))) c.from_residual.ensures
     (delta_stops told o c.args.kind keys due i k (next_key keys i k lt c.index-key.ensures) at.stored at.rest c.loop-number.invariant.so_far s
-    (λ image h. subst (λ u. IsWrong s (keyed_column k u)) (λ j. unlike_of image o c.args.kind k (a j) (b j) (d j))
+    (λ image h. subst (λ u. IsWrong s (keyed_column k u)) (λ j. unlike_of image o c.args.kind k (record at.stored { structure = a j; node_attrs = b j; edge_attrs = d j }))
     (said_before (g.D.Disk.image c.loop-number.disk) told c.loop-number.index.opening o
-    (λ image p. IsWrong s (keyed_column k (unlike_of image p c.args.kind k c.split_at.result.0.now c.split_at-in-loop-number.result.0.now c.split_at-in-loop-number-2.result.0.now)))
+    (λ image p. IsWrong s (keyed_column k (unlike_of image p c.args.kind k (record at.stored { structure = c.split_at.result.0.now; node_attrs = c.split_at-in-loop-number.result.0.now; edge_attrs = c.split_at-in-loop-number-2.result.0.now }))))
     c.loop-number.invariant.frame.same_image (ap (λ (x : IndexState). x.opening) c.loop-number.invariant.same) c.in_err-compare_delta.ensures.stopped image h)))
 
 pub loop-number-preserved : goal.loop-number-preserved
@@ -86,8 +86,8 @@ loop-number-preserved g c =
           c.split_at-in-loop-number-2.result.1.now c.split_at-in-loop-number-2.ensures.back;
       so_far =
           one_compared told o c.args.kind keys due i k (next_key keys i k lt c.index-key.ensures) at.stored at.rest c.loop-number.invariant.so_far
-          (λ image h. (λ j. unlike_of image o c.args.kind k (sym a j) (sym b j) (sym d j))
+          (λ image h. (λ j. unlike_of image o c.args.kind k (record at.stored { structure = sym a j; node_attrs = sym b j; edge_attrs = sym d j }))
           ∙ said_before (g.D.Disk.image c.loop-number.disk) told c.loop-number.index.opening o
-          (λ image p. unlike_of image p c.args.kind k c.split_at.result.0.now c.split_at-in-loop-number.result.0.now c.split_at-in-loop-number-2.result.0.now ≡ None)
+          (λ image p. unlike_of image p c.args.kind k (record at.stored { structure = c.split_at.result.0.now; node_attrs = c.split_at-in-loop-number.result.0.now; edge_attrs = c.split_at-in-loop-number-2.result.0.now }) ≡ None)
           c.loop-number.invariant.frame.same_image (ap (λ (x : IndexState). x.opening) c.loop-number.invariant.same) c.in_ok-compare_delta.ensures.alike image h);
     }

@@ -1,5 +1,6 @@
 use Rattle.std.specs.Prelude.{bytes_eq, None, Some, if◌then◌else◌}
 use Rattle.dg_graph.specs.declared.element.Column.TheVariants.{Transient}
+use Rattle.dg_index.specs.FileOfHistory.{lent}
 use Rattle.dg_index.specs.OpenedIndex.{column_at, entry_at}
 use Rattle.dg_start.specs.EventSources.{WhereTold}
 use Rattle.dg_start.proofs.EventSourceOutcomes.{err_is}
@@ -13,8 +14,8 @@ returns-in_err-compare_columns-clause-stopped g c =
     let o = c.args.index.now.opening in
     let s : Stop = c.in_err-compare_columns.field-0.0 in
     err_is c.from_residual.result s
-    (λ (s : Stop). WhereTold (g.D.Disk.image c.args.disk.now) (λ image. IsWrong s (keyed_column c.args.key (unlike_events image o c.args.key c.args.structure.now c.args.node_attrs.now c.args.edge_attrs.now c.args.transient.now))))
+    (λ (s : Stop). WhereTold (g.D.Disk.image c.args.disk.now) (λ image. IsWrong s (keyed_column c.args.key (unlike_events image o c.args.key (lent c.args.due)))))
     c.from_residual.ensures
-    (λ image h. columns_stop s c.args.key (unlike image o c.args.key c.args.structure.now c.args.node_attrs.now c.args.edge_attrs.now)
-    (if bytes_eq (column_at image (entry_at o c.args.key) Transient) c.args.transient.now then None else Some Transient)
+    (λ image h. columns_stop s c.args.key (unlike image o c.args.key (lent c.args.due))
+    (if bytes_eq (column_at image (entry_at o c.args.key) Transient) c.args.due.transient.now then None else Some Transient)
     (c.in_err-compare_columns.ensures.stopped image h))

@@ -1,4 +1,4 @@
-use Rattle.std.proofs.Common.{◌++◌, [], sym, ◌+◌, ◌<◌, ◌∷◌, List, length, get_or, drop, None, subst, ◌∙◌, arith}
+use Rattle.std.proofs.Common.{◌++◌, sym, ◌+◌, ◌<◌, ◌∷◌, List, length, get_or, drop, None, subst, ◌∙◌, arith}
 use Rattle.std.proofs.lemmas.List.{drop_more}
 use Rattle.dg_history.specs.declared.node.Key.{Key}
 use Rattle.dg_history.specs.declared.node.Key.TheVariants as key
@@ -9,7 +9,7 @@ use Rattle.dg_catalogue.proofs.AdditionRecords.{lacks, next_room, next_laid}
 use Rattle.dg_catalogue.proofs.catalogue.Catalogue.add_all.Goals as goal
 
 no_row : Row
-no_row = record { ends = None; lengths = [] }
+no_row = record { ends = None; lengths = record { structure = 0; node_attrs = 0; edge_attrs = 0; transient = 0 } }
 
 pub add-requires-clause-lacks : goal.add-requires-clause-lacks
 unfolding no_row
