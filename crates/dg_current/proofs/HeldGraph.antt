@@ -1,5 +1,5 @@
 -- That the entries keep a graph: what a look-up finds in them, and what a write leaves of them.
-use Rattle.std.proofs.Common.{◌≡◌, ◌+◌, ◌<◌, Bool, true, false, cond, ◌||◌, ◌&&◌, List, [], ◌∷◌, Option, Some, None, is_some, map, refl, sym, ap, subst, ◌∙◌, arith, eqb, ◌⊎◌, inl, inr}
+use Rattle.std.proofs.Common.{◌≡◌, ◌+◌, ◌<◌, Bool, true, false, cond, ◌||◌, ◌&&◌, List, [], ◌∷◌, Option, Some, None, is_some, length, map, refl, sym, ap, subst, ◌∙◌, arith, eqb, ◌⊎◌, inl, inr}
 use Rattle.std.proofs.lemmas.Bool.{true≢false, false≢true, eqb-true, eq-eqb, or_left, or_right}
 use Rattle.std.proofs.lemmas.List.Folds.{list_any-append}
 use Rattle.std.proofs.lemmas.Map.Made.{is_some-lookup}
@@ -17,7 +17,7 @@ use Rattle.dg_current.specs.contracts.element_id.ElementIdPartialEq.TheImpl as o
 use Rattle.dg_current.specs.HeldGraph.{element_entry_at, held_at, more_at, fewer_at, has_entry, collected, ids_of, elements_of, KeepsHeld, KeepsUses, HeldGraphIsSound}
 use Rattle.dg_current.specs.ElementIds.{element_id_of, at, needs_id, same_id}
 use Rattle.dg_current.specs.HeldElements.{element_in}
-use Rattle.dg_current.proofs.HeldGraphUses.{count_put, count_out, any_count, count_any}
+use Rattle.dg_current.proofs.HeldGraphUses.{count_put, count_out, any_count, count_any, length_put_new, length_out_there}
 use Rattle.dg_current.proofs.ElementIds.{both, either, at_has, at_is, at_from, at_lacks, one_of_each_id, put_graph, out_graph, put_itself, put_keeps, put_from, out_from, out_keeps}
 
 -- ---- ids
@@ -341,6 +341,9 @@ module _ (base : List Element) (entries new : List (ElementId × ElementEntry)) 
       by true e = absurd (at_lacks set (element_id_of x) free x e refl)
       by false e = e
 
+  pub put_length : length (elements_of base new) ≡ length set + 1
+  put_length = ap length put_elements ∙ length_put_new x set lacking
+
   pub put_sound : HeldGraphIsSound base new
   put_sound = record {
     own_ids = put_has_ids;
@@ -396,6 +399,9 @@ module _ (base : List Element) (entries new : List (ElementId × ElementEntry)) 
       same_members (elements_of base new) (take_out x held) (IsSet-collected (held_at base new) (ids_of base new))
       (IsSet-take_out x held (IsSet-collected (held_at base entries) (ids_of base entries)))
       (λ q. bool_is (has (elements_of base new) q) (has (take_out x held) q) (out_to q) (out_back q))
+
+  pub out_length : length held ≡ length (elements_of base new) + 1
+  out_length = length_out_there x held sound.graph.rises there ∙ ap (λ s. length s + 1) (sym out_elements)
 
   pub out_sound : HeldGraphIsSound base new
   out_sound = record {

@@ -62,6 +62,20 @@ length_put x (y ∷ set) = by (element_cmp x y) (length_put x set)
     by Equal h = omega arith
     by Greater h = omega arith
 
+pub length_put_new : (x : Element) (set : List Element) → has set x ≡ false → length (put x set) ≡ length set + 1
+length_put_new x [] lacks = refl
+length_put_new x (y ∷ set) lacks = by (element_cmp x y) refl (length_put_new x set)
+  where
+    by : (o : Ordering) → element_cmp x y ≡ o → (has set x ≡ false → length (put x set) ≡ length set + 1) → length (put_by o x y set) ≡ length (y ∷ set) + 1
+    by Less p rest = omega arith
+    by Equal p rest = absurd (true≢false (sym (ap (λ o. is_eq o || has set x) p) ∙ lacks))
+    by Greater p rest = let more = rest (sym (ap (λ o. is_eq o || has set x) p) ∙ lacks) in omega arith
+
+pub length_out_there : (x : Element) (set : List Element) → IsSet set → has set x ≡ true → length set ≡ length (take_out x set) + 1
+length_out_there x set rises there =
+    ap length (sym (put-take_out x set rises there))
+    ∙ length_put_new x (take_out x set) (has-take_out x set x ∙ ap (λ b. not b && has set x) (same_itself x))
+
 pub length_collected : (f : ElementId → Option Element) (ids : List ElementId) → length (collected f ids) ≤ length ids
 length_collected f [] = omega arith
 length_collected f (p ∷ ids) = by (f p) (length_collected f ids)

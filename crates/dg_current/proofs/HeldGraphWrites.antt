@@ -18,7 +18,7 @@ use Rattle.dg_current.specs.HeldGraph.{element_entry_at, held_at, more_at, fewer
 use Rattle.dg_current.specs.ElementIds.{element_id_of, at, needs_id, same_id}
 use Rattle.dg_current.specs.HeldElements.{element_in}
 use Rattle.dg_current.proofs.HeldGraph.{same_id_exact, derived_is, derived_entry, kept_unknown}
-use Rattle.dg_current.proofs.HeldGraphUses.{count_fits}
+use Rattle.dg_current.proofs.HeldGraphUses.{count_fits, length_collected}
 use Rattle.dg_current.proofs.ElementIds.{at_lives, needs_live}
 
 -- what a clause says of a call that did not fail
@@ -177,6 +177,15 @@ needs_known entries sound x fed p n = by (has_entry entries p) refl
     by true e = e
     by false e =
         absurd (true≢false (sym (at_lives (elements_of [] entries) p (needs_live (elements_of [] entries) x p fed n)) ∙ ap is_some (kept_unknown [] entries sound.own_ids p e)))
+
+-- there are no more elements than those at the start and one for each entry
+pub elements_fit : (base : List Element) (entries : List (ElementId × ElementEntry)) → length (elements_of base entries) ≤ length base + length entries
+elements_fit base entries =
+    let fits = length_collected (held_at base entries) (ids_of base entries) in
+    let all = length-append (map element_id_of base) (keys_of entries) in
+    let keys = length-map {A = ElementId × ElementEntry} {B = ElementId} entries (λ e. e.0) in
+    let ids = length-map {A = Element} {B = ElementId} base element_id_of in
+    omega arith
 
 -- no count is far above the other
 module _ (base : List Element) (entries : List (ElementId × ElementEntry)) (sound : HeldGraphIsSound base entries) (p : ElementId) where

@@ -4,6 +4,8 @@ pub mod SortedOrder
 pub mod SortedSearches
 pub mod HeldGraphUses
 pub mod HeldGraph
+pub mod HeldSet
+pub mod SortedSets
 pub mod HeldGraphWrites
 pub mod EventEffect
 pub mod EventEffectCompletions

@@ -1,4 +1,4 @@
-//! Whether a set is a graph, by walks over its elements in their order.
+//! Whether a set is a graph, by one walk over its elements in their order.
 ghost use Rattle.std.specs.Prelude.{◌≡◌, ◌↔◌, ◌==◌, true, IfOk, IsTrue};
 ghost use Rattle.std.specs.List.{list_any, list_all};
 ghost use Rattle.std.specs.List.Sorted.{IsNonDecreasing};
@@ -12,45 +12,32 @@ use crate::search::{first_from, found_at, least, next_from};
 use dg_graph::Element;
 use std::alloc::{AllocError, Global};
 
-// Whether the two elements have one id.
-fn have_one_id(left: &Element, right: &Element) -> bool
-    ensures { result ≡ same_id (element_id_of left.now) (element_id_of right.now) }
+// Whether the element has the id of the one before it.
+fn have_one_id(last: &Element, element: &Element) -> bool
+    ensures { result ≡ same_id (element_id_of last.now) (element_id_of element.now) }
 {
-    match (*left, *right) {
-        (Element::Node { id }, Element::Node { id: other_id }) => id == other_id,
-        (Element::Edge { id, .. }, Element::Edge { id: other_id, .. }) => id == other_id,
+    match (*element, *last) {
+        (Element::Node { id }, Element::Node { id: last_id }) => last_id == id,
+        (Element::Edge { id, .. }, Element::Edge { id: last_id, .. }) => last_id == id,
         (
             Element::NodeAttr { id, key, .. },
             Element::NodeAttr {
-                id: other_id,
-                key: other_key,
+                id: last_id,
+                key: last_key,
                 ..
             },
-        ) => key == other_key && id == other_id,
+        ) => last_key == key && last_id == id,
         (
             Element::EdgeAttr { id, key, .. },
             Element::EdgeAttr {
-                id: other_id,
-                key: other_key,
+                id: last_id,
+                key: last_key,
                 ..
             },
-        ) => key == other_key && id == other_id,
+        ) => last_key == key && last_id == id,
         (Element::Message { .. }, Element::Message { .. }) => true,
         _ => false,
     }
-}
-
-// Whether no two of the items have one id: such two would be neighbours.
-fn ids_differ(items: &[Element]) -> bool
-    requires { IsSet items.now }
-    ensures { IsTrue result ↔ OneOfEachId items.now }
-{
-    for index in 1..items.len() {
-        if have_one_id(&items[index - 1], &items[index]) {
-            return false;
-        }
-    }
-    true
 }
 
 // The id of the element that a value stands at.
@@ -113,15 +100,19 @@ fn has_ends(items: &[Element], nodes: &[u64], element: &Element) -> bool
     }
 }
 
-// Whether each of the items has what it needs among them: an edge its ends, and a value what it stands at. That comes in
-// the order of the values, so one walk over the nodes and edges beside theirs finds it.
-fn are_fed(items: &[Element], nodes: &[u64]) -> bool
+// Whether no two of the items have one id, and each has what it needs among them: an edge its ends, and a value what it
+// stands at. Two with one id would be neighbours. What values stand at comes in the order of the values, so one walk over
+// the nodes and edges beside theirs finds it.
+fn are_sound(items: &[Element], nodes: &[u64]) -> bool
     requires set { IsSet items.now }
     requires nodes { AreNodesOf items.now nodes.now }
-    ensures { result ≡ list_all (has_needs items.now) items.now }
+    ensures { IsTrue result ↔ (OneOfEachId items.now × (list_all (has_needs items.now) items.now ≡ true)) }
 {
     let mut at = 0;
-    for element in items {
+    for (index, element) in items.iter().enumerate() {
+        if index > 0 && have_one_id(&items[index - 1], element) {
+            return false;
+        }
         let is_fed = match holder_of(element) {
             Some(id) => {
                 at = next_from(items, at, id);
@@ -141,9 +132,6 @@ pub(crate) fn is_graph(alloc: Global, items: &[Element]) -> Result<bool, AllocEr
     requires { IsSet items.now }
     ensures { IfOk result (λ is. IsTrue is ↔ IsGraph items.now) }
 {
-    if !ids_differ(items) {
-        return Ok(false);
-    }
     let nodes = node_ids(alloc, items)?;
-    Ok(are_fed(items, &nodes))
+    Ok(are_sound(items, &nodes))
 }

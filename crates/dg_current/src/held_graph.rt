@@ -1,5 +1,5 @@
 //! A graph that changes: the one at the start, which stays, under a map of the ids that changed since.
-ghost use Rattle.std.specs.Prelude.{◌≡◌, ◌≤◌, ◌<◌, true, false, [], None, Some, IfOk, IsErrOf, OnOk};
+ghost use Rattle.std.specs.Prelude.{◌≡◌, ◌≤◌, ◌<◌, true, false, [], length, None, Some, IfOk, IsErrOf, OnOk};
 ghost use Rattle.std.specs.List.{list_any, IsDistinct};
 ghost use Rattle.dg_graph.specs.Elements.{has, put, take_out};
 ghost use Rattle.dg_graph.specs.Graph.{IsGraph, has_needs};
@@ -10,6 +10,7 @@ use crate::element_entry::{ElementEntry, count_in, count_out, set_held, touch_ne
 use crate::element_id::ElementId;
 use crate::fault::FromFault;
 use crate::held::Held;
+use crate::held_set::{changes, set_of};
 use crate::sorted_graph::SortedGraph;
 use dg_graph::Element;
 use dg_set::Set;
@@ -23,9 +24,12 @@ use std::marker::Model;
 pub(crate) struct HeldGraph {
     base: SortedGraph,
     elements: IndexMap<ElementId, ElementEntry>,
+    // How many elements the graph has now.
+    len: usize,
 }
 
 impl Model for HeldGraph {
+    ghost use Rattle.std.specs.Prelude.{◌≡◌, length};
     ghost use Rattle.std.specs.Map.{keys_of};
     ghost use Rattle.indexmap.specs.IndexMap.{spare};
     ghost use Rattle.dg_current.specs.HeldGraph.{HeldGraphState, elements_of, HeldGraphIsSound};
@@ -34,7 +38,7 @@ impl Model for HeldGraph {
 
     ghost view = { λ held. record { base = held.base; set = elements_of held.base held.elements.entries; ids = keys_of held.elements.entries; spare = spare held.elements } };
 
-    ghost invariant = { λ held. HeldGraphIsSound held.base held.elements.entries };
+    ghost invariant = { λ held. HeldGraphIsSound held.base held.elements.entries × (held.len ≡ length (elements_of held.base held.elements.entries)) };
 }
 
 impl HeldGraph {
@@ -46,6 +50,7 @@ impl HeldGraph {
         HeldGraph {
             base: SortedGraph::new(alloc),
             elements: IndexMap::new(alloc),
+            len: 0,
         }
     }
 
@@ -57,9 +62,11 @@ impl HeldGraph {
         let base = SortedGraph::from_set(alloc, set)?;
         // It is a graph.
         base.facts();
+        let len = base.len();
         Ok(HeldGraph {
             base,
             elements: IndexMap::new(alloc),
+            len,
         })
     }
 
@@ -114,6 +121,24 @@ impl HeldGraph {
         }
     }
 
+    /// How many elements the graph has.
+    pub(crate) fn len(&self) -> u64
+        ensures { result ≡ length self.now.set }
+    {
+        self.len as u64
+    }
+
+    /// The graph as a set of its own: a copy of the start in one walk, in which what the entries changed is
+    /// replaced. An `Err` says that memory ran out.
+    pub(crate) fn set(&self, alloc: Global) -> Result<Set, AllocError>
+        ensures { IfOk result (λ set. set ≡ self.now.set) }
+    {
+        // The start is a graph.
+        self.base.facts();
+        let (lost, gained) = changes(alloc, &self.base, &self.elements)?;
+        self.base.replaced(&set_of(lost), &set_of(gained))
+    }
+
     // Makes entries for the ids that the element needs. Where the start is empty, each id with an
     // element has its entry.
     fn touch_needs(&mut self, element: &Element) -> Result<(), AllocError>
@@ -155,6 +180,7 @@ impl HeldGraph {
         // Their clauses tell that no count is too large.
         self.base.len();
         self.elements.len();
+        self.len += 1;
         set_held(&mut self.elements, id, held);
         count_in(&mut self.elements, &element);
     }
@@ -172,6 +198,7 @@ impl HeldGraph {
         let id = ElementId::of(element);
         // Its clauses tell that no count is too large.
         self.base.len();
+        self.len -= 1;
         set_held(&mut self.elements, id, Held::Nothing);
         count_out(&mut self.elements, element);
     }

@@ -12,6 +12,7 @@ mod fault;
 mod graph_test;
 mod held;
 mod held_graph;
+mod held_set;
 mod now;
 mod search;
 mod sorted_graph;

@@ -2,6 +2,7 @@
 ghost use Rattle.std.specs.Prelude.{◌≡◌, ◌<◌, ◌≤◌, ◌^◌, [], Ok, length, IfOk, IfErr, IfSome, OnErr, OnOk, IsErrOf, if◌then◌else◌};
 ghost use Rattle.dg_graph.specs.Completion.{has_node, edge_of, node_value, edge_value, is_change_of};
 ghost use Rattle.dg_graph.specs.Effect.{forwards};
+ghost use Rattle.dg_graph.specs.ExactEvents.{AreChangesOf};
 ghost use Rattle.dg_graph.specs.Graph.{IsGraph};
 ghost use Rattle.dg_graph.specs.Replay.{replay_from};
 ghost use Rattle.dg_current.specs.ElementIds.{at};
@@ -67,9 +68,10 @@ impl Now {
         })
     }
 
-    /// What holds of each current graph. Does nothing.
+    /// What holds of each current graph, and of the pending events. Does nothing.
     pub fn facts(&self)
-        ensures { IsGraph self.now.graph }
+        ensures graph { IsGraph self.now.graph }
+        ensures changes { AreChangesOf self.now.graph self.now.pending }
     {
         let _ = &self.held;
     }
@@ -113,6 +115,20 @@ impl Now {
         ensures { result.now ≡ self.now.pending }
     {
         &self.pending
+    }
+
+    /// The graph past the pending events, as a set of its own. An `Err` says that memory ran out.
+    pub fn set_past(&self, alloc: Global) -> Result<Set, AllocError>
+        ensures { IfOk result (λ set. set ≡ replay_from self.now.graph self.now.pending) }
+    {
+        self.held.set(alloc)
+    }
+
+    /// How many elements the graph past the pending events has. Takes no memory.
+    pub fn len_past(&self) -> u64
+        ensures { result ≡ length (replay_from self.now.graph self.now.pending) }
+    {
+        self.held.len()
     }
 
     /// Takes the graph past the pending events, whose memory is given back. Takes no memory.

@@ -42,17 +42,34 @@ pub(crate) fn first_from(items: &[Element], element: &Element) -> usize
     }
 }
 
-// Whether the item is before the least element with the id.
+// Whether the item is before the least element with the id. That is not made: only what it is compared by is looked at.
 fn is_before(item: &Element, id: ElementId) -> bool
     ensures { result ≡ before item.now (least id) }
 {
     match (id, *item) {
-        (ElementId::Node(id), Element::Node { id: item_id }) => item_id < id,
-        (ElementId::Node(_), _) => false,
-        (ElementId::Edge(_), Element::Node { .. }) => true,
-        (ElementId::Edge(id), Element::Edge { id: item_id, .. }) => item_id < id,
-        (ElementId::Edge(_), _) => false,
-        _ => item.cmp(&least(id)).is_lt(),
+        (ElementId::Node(id), Element::Node { id: item_id })
+        | (ElementId::Edge(id), Element::Edge { id: item_id, .. }) => item_id < id,
+        (
+            ElementId::NodeValue { key, id },
+            Element::NodeAttr {
+                id: item_id,
+                key: item_key,
+                ..
+            },
+        )
+        | (
+            ElementId::EdgeValue { key, id },
+            Element::EdgeAttr {
+                id: item_id,
+                key: item_key,
+                ..
+            },
+        ) => item_id < id || item_id == id && item_key < key,
+        (ElementId::Edge(_), Element::Node { .. })
+        | (ElementId::NodeValue { .. }, Element::Node { .. } | Element::Edge { .. }) => true,
+        (ElementId::EdgeValue { .. } | ElementId::Message, Element::Message { .. }) => false,
+        (ElementId::EdgeValue { .. } | ElementId::Message, _) => true,
+        _ => false,
     }
 }
 

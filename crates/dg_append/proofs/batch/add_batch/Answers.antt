@@ -29,11 +29,11 @@ keep_batch-requires-clause-next g c =
     let ready : IsReady o b h = ready_here b l o c.requires.may is in
     let events : List Event = c.complete.new.now.pending in
     let p : IsPrepared o b h events =
-    prepared o b h events c.facts.ensures.parameters ready c.facts-2.ensures c.in_default-complete.ensures.whole c.in_default-complete.ensures.done c.in_default-complete.ensures.form in
+    prepared o b h events c.facts.ensures.parameters ready c.facts-2.ensures.graph c.in_default-complete.ensures.whole c.in_default-complete.ensures.done c.in_default-complete.ensures.form in
     let graph_is : graph_now c.deref_mut.result.now ≡ h.now.graph = ap graph_now c.deref_mut.ensures.value ∙ c.requires.may.pool in
     next_is o b h (graph_now c.deref_mut.result.now) events _ graph_is
     (record { known_is = refl; names_are = refl; recent_is = c.deref.ensures.value; events_are = c.pending-events.ensures })
-    c.facts-2.ensures.rises ready p
+    c.facts-2.ensures.graph.rises ready p
 
 pub returns-in-Ok-clause-adds : goal.returns-in-Ok-clause-adds
 returns-in-Ok-clause-adds g c =
@@ -45,7 +45,7 @@ returns-in-Ok-clause-adds g c =
     let ready : IsReady o b h = ready_here b l o c.requires.may is in
     let events : List Event = c.complete.new.now.pending in
     let p : IsPrepared o b h events =
-    prepared o b h events c.facts.ensures.parameters ready c.facts-2.ensures c.in_default-complete.ensures.whole c.in_default-complete.ensures.done c.in_default-complete.ensures.form in
+    prepared o b h events c.facts.ensures.parameters ready c.facts-2.ensures.graph c.in_default-complete.ensures.whole c.in_default-complete.ensures.done c.in_default-complete.ensures.form in
     let graph_is : graph_now c.deref_mut.result.now ≡ h.now.graph = ap graph_now c.deref_mut.ensures.value ∙ c.requires.may.pool in
     let new : Live = record {
       history = record { index = Some c.keep_batch.new.index; names = h.names; now = c.commit.new.self; recent = c.in-Ok.left };
@@ -75,7 +75,7 @@ returns-in-Ok-clause-live g c =
     let ready : IsReady o b h = ready_here b l o c.requires.may is in
     let events : List Event = c.complete.new.now.pending in
     let p : IsPrepared o b h events =
-    prepared o b h events c.facts.ensures.parameters ready c.facts-2.ensures c.in_default-complete.ensures.whole c.in_default-complete.ensures.done c.in_default-complete.ensures.form in
+    prepared o b h events c.facts.ensures.parameters ready c.facts-2.ensures.graph c.in_default-complete.ensures.whole c.in_default-complete.ensures.done c.in_default-complete.ensures.form in
     let graph_is : graph_now c.deref_mut.result.now ≡ h.now.graph = ap graph_now c.deref_mut.ensures.value ∙ c.requires.may.pool in
     let new : Live = record {
       history = record { index = Some c.keep_batch.new.index; names = h.names; now = c.commit.new.self; recent = c.in-Ok.left };
@@ -96,7 +96,7 @@ returns-in-Ok-clause-reads g c =
     let ready : IsReady o b h = ready_here b l o c.requires.may is in
     let events : List Event = c.complete.new.now.pending in
     let p : IsPrepared o b h events =
-    prepared o b h events c.facts.ensures.parameters ready c.facts-2.ensures c.in_default-complete.ensures.whole c.in_default-complete.ensures.done c.in_default-complete.ensures.form in
+    prepared o b h events c.facts.ensures.parameters ready c.facts-2.ensures.graph c.in_default-complete.ensures.whole c.in_default-complete.ensures.done c.in_default-complete.ensures.form in
     let graph_is : graph_now c.deref_mut.result.now ≡ h.now.graph = ap graph_now c.deref_mut.ensures.value ∙ c.requires.may.pool in
     here (index_opening h.index) o _ is
     (record {
@@ -118,7 +118,7 @@ returns-in-Err-keep_batch-clause-fails g c =
     let ready : IsReady o b h = ready_here b l o c.requires.may is in
     let events : List Event = c.complete.new.now.pending in
     let p : IsPrepared o b h events =
-    prepared o b h events c.facts.ensures.parameters ready c.facts-2.ensures c.in_default-complete.ensures.whole c.in_default-complete.ensures.done c.in_default-complete.ensures.form in
+    prepared o b h events c.facts.ensures.parameters ready c.facts-2.ensures.graph c.in_default-complete.ensures.whole c.in_default-complete.ensures.done c.in_default-complete.ensures.form in
     let graph_is : graph_now c.deref_mut.result.now ≡ h.now.graph = ap graph_now c.deref_mut.ensures.value ∙ c.requires.may.pool in
     here (index_opening h.index) o _ is
     (not_added o b h (graph_now c.deref_mut.result.now) events _ graph_is
@@ -135,7 +135,7 @@ returns-in-Err-keep_batch-clause-reads g c =
     let ready : IsReady o b h = ready_here b l o c.requires.may is in
     let events : List Event = c.complete.new.now.pending in
     let p : IsPrepared o b h events =
-    prepared o b h events c.facts.ensures.parameters ready c.facts-2.ensures c.in_default-complete.ensures.whole c.in_default-complete.ensures.done c.in_default-complete.ensures.form in
+    prepared o b h events c.facts.ensures.parameters ready c.facts-2.ensures.graph c.in_default-complete.ensures.whole c.in_default-complete.ensures.done c.in_default-complete.ensures.form in
     let graph_is : graph_now c.deref_mut.result.now ≡ h.now.graph = ap graph_now c.deref_mut.ensures.value ∙ c.requires.may.pool in
     here (index_opening h.index) o _ is
     (record {
@@ -169,7 +169,7 @@ returns-in-Ok-clause-disk g c =
     let ready : IsReady o b h = ready_here b l o c.requires.may is in
     let events : List Event = c.complete.new.now.pending in
     let p : IsPrepared o b h events =
-    prepared o b h events c.facts.ensures.parameters ready c.facts-2.ensures c.in_default-complete.ensures.whole c.in_default-complete.ensures.done c.in_default-complete.ensures.form in
+    prepared o b h events c.facts.ensures.parameters ready c.facts-2.ensures.graph c.in_default-complete.ensures.whole c.in_default-complete.ensures.done c.in_default-complete.ensures.form in
     let graph_is : graph_now c.deref_mut.result.now ≡ h.now.graph = ap graph_now c.deref_mut.ensures.value ∙ c.requires.may.pool in
     added_leaves o b h (graph_now c.deref_mut.result.now) events _ graph_is
     (record { known_is = refl; names_are = refl; recent_is = c.deref.ensures.value; events_are = c.pending-events.ensures })
@@ -185,7 +185,7 @@ returns-in-Err-keep_batch-clause-disk g c =
     let ready : IsReady o b h = ready_here b l o c.requires.may is in
     let events : List Event = c.complete.new.now.pending in
     let p : IsPrepared o b h events =
-    prepared o b h events c.facts.ensures.parameters ready c.facts-2.ensures c.in_default-complete.ensures.whole c.in_default-complete.ensures.done c.in_default-complete.ensures.form in
+    prepared o b h events c.facts.ensures.parameters ready c.facts-2.ensures.graph c.in_default-complete.ensures.whole c.in_default-complete.ensures.done c.in_default-complete.ensures.form in
     let graph_is : graph_now c.deref_mut.result.now ≡ h.now.graph = ap graph_now c.deref_mut.ensures.value ∙ c.requires.may.pool in
     not_added_leaves o b h (graph_now c.deref_mut.result.now) events _ graph_is
     (record { known_is = refl; names_are = refl; recent_is = c.deref.ensures.value; events_are = c.pending-events.ensures })

@@ -7,4 +7,4 @@ use Rattle.dg_current.proofs.held_graph.HeldGraph.facts.Goals as goal
 pub returns-clause-unknown : goal.returns-clause-unknown
 returns-clause-unknown c = λ p.
     subst (λ (h : HeldGraphState). knows h p ≡ false → at h.set p ≡ at h.base p) c.self.view_is
-    (kept_unknown c.self.inside.base c.self.inside.elements.entries c.self.invariant.own_ids p)
+    (kept_unknown c.self.inside.base c.self.inside.elements.entries c.self.invariant.0.own_ids p)

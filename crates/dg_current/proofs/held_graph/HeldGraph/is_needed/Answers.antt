@@ -15,7 +15,7 @@ returns-then-entry c =
     let more = more_found entries c.args.id entry found in
     let fewer = fewer_found entries c.args.id entry found in
     let above = c.if-entry.true in
-    needed_is c.self.inside.base entries c.self.invariant c.args.id (ltb entry.fewer entry.more) (λ e. omega arith) (λ h. lt-ltb entry.fewer entry.more above)
+    needed_is c.self.inside.base entries c.self.invariant.0 c.args.id (ltb entry.fewer entry.more) (λ e. omega arith) (λ h. lt-ltb entry.fewer entry.more above)
     ∙ ap (λ (h : HeldGraphState). list_any (needs_id c.args.id) h.set) c.self.view_is
 
 pub returns-else-entry : goal.returns-else-entry
@@ -27,7 +27,7 @@ returns-else-entry c =
     let fewer = fewer_found entries c.args.id entry found in
     let below = c.if-entry.false in
     let uses = c.uses.ensures in
-    needed_is c.self.inside.base entries c.self.invariant c.args.id (ltb (entry.fewer - entry.more) c.uses.result)
+    needed_is c.self.inside.base entries c.self.invariant.0 c.args.id (ltb (entry.fewer - entry.more) c.uses.result)
     (λ e. let less = ltb-true (entry.fewer - entry.more) c.uses.result e in omega arith) (λ h. lt-ltb (entry.fewer - entry.more) c.uses.result (omega arith))
     ∙ ap (λ (h : HeldGraphState). list_any (needs_id c.args.id) h.set) c.self.view_is
 
@@ -38,6 +38,6 @@ returns-in-None c =
     let more = more_missing entries c.args.id none in
     let fewer = fewer_missing entries c.args.id none in
     let uses = c.uses-in-None.ensures in
-    needed_is c.self.inside.base entries c.self.invariant c.args.id (ltb 0 c.uses-in-None.result)
+    needed_is c.self.inside.base entries c.self.invariant.0 c.args.id (ltb 0 c.uses-in-None.result)
     (λ e. let less = ltb-true 0 c.uses-in-None.result e in omega arith) (λ h. lt-ltb 0 c.uses-in-None.result (omega arith))
     ∙ ap (λ (h : HeldGraphState). list_any (needs_id c.args.id) h.set) c.self.view_is

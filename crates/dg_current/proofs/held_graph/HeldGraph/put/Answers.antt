@@ -6,8 +6,8 @@ use Rattle.dg_current.specs.HeldGraph.{HeldGraphState, more_at, fewer_at, held_a
 use Rattle.dg_current.specs.ElementIds.{element_id_of, at, needs_id, same_id}
 use Rattle.dg_current.specs.HeldElements.{element_in}
 use Rattle.dg_current.proofs.HeldElements.{held_itself}
-use Rattle.dg_current.proofs.HeldGraph.{Changes, put_elements, put_sound}
-use Rattle.dg_current.proofs.HeldGraphWrites.{more_fits}
+use Rattle.dg_current.proofs.HeldGraph.{Changes, put_elements, put_length, put_sound}
+use Rattle.dg_current.proofs.HeldGraphWrites.{elements_fit, more_fits}
 use Rattle.dg_current.proofs.held_graph.HeldGraph.put.Goals as goal
 use Rattle.dg_current.proofs.held_graph.HeldGraph.put.Goals.{After-count_in}
 
@@ -32,11 +32,21 @@ uses c p =
     let fewer = c.set_held.ensures.uses.fewer p in
     omega arith
 
+pub overflow_add-self : goal.overflow_add-self
+overflow_add-self c =
+    let fits = elements_fit c.self.inside.base c.self.inside.elements.entries in
+    let count = c.self.invariant.1 in
+    let base = c.len.ensures.len in
+    let small = c.len.ensures.small in
+    let entries = c.len-2.ensures.len in
+    let few = c.len-2.ensures.small in
+    omega arith
+
 pub count_in-requires-clause-fits : goal.count_in-requires-clause-fits
 count_in-requires-clause-fits c = λ p.
     let more = c.set_held.ensures.uses.more p in
     let fewer = c.set_held.ensures.uses.fewer p in
-    let fits = more_fits c.self.inside.base c.self.inside.elements.entries c.self.invariant p in
+    let fits = more_fits c.self.inside.base c.self.inside.elements.entries c.self.invariant.0 p in
     let base = c.len.ensures.len in
     let small = c.len.ensures.small in
     let entries = c.len-2.ensures.len in
@@ -46,10 +56,16 @@ count_in-requires-clause-fits c = λ p.
 pub invariant_of-self : goal.invariant_of-self
 invariant_of-self c =
     let here = (goal.at.invariant_of-self c).After-count_in in
-    put_sound c.self.inside.base c.self.inside.elements.entries c.count_in.new.elements.entries c.args.element c.self.invariant (free here) (fed here) (changes here) (uses here)
+    let base = c.self.inside.base in
+    let old = c.self.inside.elements.entries in
+    let new = c.count_in.new.elements.entries in
+    let sound = c.self.invariant.0 in (
+      put_sound base old new c.args.element sound (free here) (fed here) (changes here) (uses here),
+      ap (λ n. n + 1) c.self.invariant.1 ∙ sym (put_length base old new c.args.element sound (free here) (fed here) (changes here) (uses here)),
+    )
 
 pub returns-clause-set : goal.returns-clause-set
 returns-clause-set c =
     let here = (goal.at.returns-clause-set c).After-count_in in
-    put_elements c.self.inside.base c.self.inside.elements.entries c.count_in.new.elements.entries c.args.element c.self.invariant (free here) (fed here) (changes here) (uses here)
+    put_elements c.self.inside.base c.self.inside.elements.entries c.count_in.new.elements.entries c.args.element c.self.invariant.0 (free here) (fed here) (changes here) (uses here)
     ∙ ap (λ (h : HeldGraphState). put c.args.element h.set) c.self.view_is
