@@ -47,11 +47,20 @@ read_beside (suc k) col names bytes others at last xs n e apart =
     ((λ i. cond (rises.0 i && not (absent i)) more (Err at))
     ∙ and_then (elements_at k col names bytes others (at + element_size x) (Some x)) (λ m. Ok (x ∷ m.0, m.1)) b.0 (xs, n) rest b.2)
 
--- a delta of two such sets, which fill the bytes
-pub delta_from : (col : Column) (names : ℕ) (bytes : List ℕ) (out into m n : ℕ) (minus plus : List Element) → four_bytes any_number bytes 0 ≡ Ok out → elements_at out col names bytes [] 4 None ≡ Ok (minus, m) → four_bytes (λ k. not (out == 0 && k == 0)) bytes m ≡ Ok into → elements_at into col names bytes [] (m + 4) None ≡ Ok (plus, n) → AreApart minus plus → n ≡ length bytes
+-- an element that is read beside no others is read beside those of which it is none
+pub next_beside : (col : Column) (names : ℕ) (bytes : List ℕ) (others : List Element) (at : ℕ) (last : Option Element) (x : Element) → next_element_at col names bytes [] at last ≡ Ok x → has others x ≡ false → next_element_at col names bytes others at last ≡ Ok x
+next_beside col names bytes others at last x e absent =
+    let c = bind_ok (element_at col names bytes at) (λ y. cond (rises_from last y && not (has [] y)) (Ok y) (Err at)) x e in
+    let d = passed (rises_from last c.0 && not (has [] c.0)) at c.0 x c.2 in
+    let rises = both (rises_from last x) (has [] x) (ap (λ y. rises_from last y && not (has [] y)) (sym d.1) ∙ d.0) in
+    and_then (element_at col names bytes at) (λ y. cond (rises_from last y && not (has others y)) (Ok y) (Err at)) x x (c.1 ∙ ap done d.1)
+    (λ i. cond (rises.0 i && not (absent i)) (done x) (Err at))
+
+-- the delta of what is taken out, and of what is put in and not among that, which fill the bytes
+pub changes_from : (col : Column) (names : ℕ) (bytes : List ℕ) (out into m n : ℕ) (minus plus : List Element) → four_bytes any_number bytes 0 ≡ Ok out → elements_at out col names bytes [] 4 None ≡ Ok (minus, m) → four_bytes (λ k. not (out == 0 && k == 0)) bytes m ≡ Ok into → elements_at into col names bytes minus (m + 4) None ≡ Ok (plus, n) → n ≡ length bytes
     → changes_in col names bytes ≡ Ok (record { minus = minus; plus = plus })
-delta_from col names [] out into m n minus plus e f g h apart whole = absurd cc
-delta_from col names (b ∷ rest) out into m n minus plus e f g h apart whole =
+changes_from col names [] out into m n minus plus e f g h whole = absurd cc
+changes_from col names (b ∷ rest) out into m n minus plus e f g h whole =
     let bytes : List ℕ = b ∷ rest in
     let is_count : ℕ → ℕ → Bool = λ out n. not (out == 0 && n == 0) in
     let made : List Element × ℕ → List Element × ℕ → Delta = λ m p. record { minus = m.0; plus = p.0 } in
@@ -59,8 +68,13 @@ delta_from col names (b ∷ rest) out into m n minus plus e f g h apart whole =
     let last : end_at d bytes n ≡ Ok d = ap (λ t. cond t (Ok d) (Err n)) (eq-eqb (length bytes) n (sym whole)) in
     let whole_minus : List Element × ℕ = (minus, m) in
     let whole_plus : List Element × ℕ = (plus, n) in
-    let found = read_beside into col names bytes minus (m + 4) None plus n h apart in
     and_then (four_bytes any_number bytes 0) (λ out. and_read (elements_at out col names bytes [] 4 None) (λ m. and_read (four_bytes (is_count out) bytes m.1) (λ in_count. and_read (elements_at in_count col names bytes m.0 (m.1 + 4) None) (λ p. end_at (made m p) bytes p.1)))) out d e
     (and_then (elements_at out col names bytes [] 4 None) (λ m. and_read (four_bytes (is_count out) bytes m.1) (λ in_count. and_read (elements_at in_count col names bytes m.0 (m.1 + 4) None) (λ p. end_at (made m p) bytes p.1))) whole_minus d f
     (and_then (four_bytes (is_count out) bytes m) (λ in_count. and_read (elements_at in_count col names bytes minus (m + 4) None) (λ p. end_at (made whole_minus p) bytes p.1)) into d g
-    (and_then (elements_at into col names bytes minus (m + 4) None) (λ p. end_at (made whole_minus p) bytes p.1) whole_plus d found last)))
+    (and_then (elements_at into col names bytes minus (m + 4) None) (λ p. end_at (made whole_minus p) bytes p.1) whole_plus d h last)))
+
+-- a delta of two sets that are read each by itself, which fill the bytes
+pub delta_from : (col : Column) (names : ℕ) (bytes : List ℕ) (out into m n : ℕ) (minus plus : List Element) → four_bytes any_number bytes 0 ≡ Ok out → elements_at out col names bytes [] 4 None ≡ Ok (minus, m) → four_bytes (λ k. not (out == 0 && k == 0)) bytes m ≡ Ok into → elements_at into col names bytes [] (m + 4) None ≡ Ok (plus, n) → AreApart minus plus → n ≡ length bytes
+    → changes_in col names bytes ≡ Ok (record { minus = minus; plus = plus })
+delta_from col names bytes out into m n minus plus e f g h apart whole =
+    changes_from col names bytes out into m n minus plus e f g (read_beside into col names bytes minus (m + 4) None plus n h apart) whole

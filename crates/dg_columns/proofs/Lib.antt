@@ -3,6 +3,7 @@ pub mod FieldEvents
 pub mod ColumnWrites
 pub mod FieldElements
 pub mod ColumnGrammarDeltas
+mod SoundEnds
 pub mod Fields
 mod LastElement
 pub mod ColumnLawSpelling

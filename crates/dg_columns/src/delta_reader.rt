@@ -1,6 +1,7 @@
 //! Reading a delta's column.
 
-ghost use Rattle.std.specs.Prelude.{◌≡◌, ◌+◌, ◌≤◌, ◌==◌, ◌&&◌, not, length, Ok, IfOk, IfErr, IfSome, OnOk};
+ghost use Rattle.std.specs.Prelude.{◌≡◌, ◌+◌, ◌≤◌, ◌==◌, ◌&&◌, not, length, Ok, IfOk, IfErr, IfSome, IsTrue, OnOk};
+ghost use Rattle.dg_graph.specs.Composition.{Delta};
 ghost use Rattle.dg_graph.specs.Elements.{element_cmp};
 ghost use Rattle.dg_graph.specs.ColumnGrammar.{four_bytes, element_at, element_size, rises_from, elements_at, may_change, changes_in, delta_in};
 ghost use Rattle.dg_set.specs.Apart.{AreApart};
@@ -13,7 +14,7 @@ use crate::edge::edge_at;
 use crate::fault::ReadFault;
 use crate::layout::{COUNT_SIZE, EDGE, NODE, SMALLEST_ELEMENT};
 use crate::numbers::{byte_at, name_at, u32_at, u64_at};
-use crate::sound_elements::set_here;
+use crate::sound_elements::{end_here, set_here};
 use dg_delta::{Delta, Element, Set};
 use dg_graph::Column;
 use std::alloc::Global;
@@ -291,4 +292,39 @@ pub fn read_delta(
     ensures err { IfErr result (λ fault. IsFaultOf fault (delta_in col name_count bytes.now)) }
 {
     any_delta(alloc, bytes, col, name_count)
+}
+
+// Where a delta ends with which the bytes begin, in a column in which a delta may have elements. `None` where
+// something is wrong, or memory ran out. The elements that are taken out are kept only where others are put in, of
+// which none may be among them.
+fn end_of_changes(alloc: Global, bytes: &[u8], col: Column, name_count: u32) -> Option<usize>
+    ensures { IfSome result (λ end. end ≡ length bytes.now → (d : Delta) × (changes_in col name_count bytes.now ≡ Ok d)) }
+{
+    let none = Set::new(alloc);
+    let out_count = u32_at(bytes, 0).ok()?;
+    let offset = end_here(bytes, COUNT_SIZE, out_count, col, name_count, &none)?;
+    let in_count = in_count_at(bytes, offset, out_count).ok()?;
+    let start = offset + COUNT_SIZE;
+    if out_count == 0 || in_count == 0 {
+        return end_here(bytes, start, in_count, col, name_count, &none);
+    }
+    let (minus, _) = set_here(alloc, bytes, COUNT_SIZE, out_count, col, name_count)?;
+    end_here(bytes, start, in_count, col, name_count, &minus)
+}
+
+/// Whether the bytes are those of a delta in this column, in a history with so many names. `false` also
+/// where memory ran out. No set is made of what is put in.
+pub fn is_delta(alloc: Global, bytes: &[u8], col: Column, name_count: u32) -> bool
+    ensures { IsTrue result → (d : Delta) × (delta_in col name_count bytes.now ≡ Ok d) }
+{
+    if bytes.is_empty() {
+        return true;
+    }
+    if !may_change(col) {
+        return false;
+    }
+    match end_of_changes(alloc, bytes, col, name_count) {
+        Some(end) => end == bytes.len(),
+        None => false,
+    }
 }

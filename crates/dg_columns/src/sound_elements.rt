@@ -1,9 +1,9 @@
 //! The elements of a column that has no damage, read with one test of the room for each element. What
 //! is wrong, and where, is not looked for here.
 
-ghost use Rattle.std.specs.Prelude.{◌≡◌, ◌+◌, ◌≤◌, [], length, true, Ok, None, IfSome, IsTrue};
+ghost use Rattle.std.specs.Prelude.{◌≡◌, ◌+◌, ◌≤◌, List, [], length, true, false, Ok, None, IfSome, IsTrue};
 ghost use Rattle.std.specs.Option.{option_copied};
-ghost use Rattle.dg_graph.specs.Elements.{IsSet, before};
+ghost use Rattle.dg_graph.specs.Elements.{IsSet, before, has};
 ghost use Rattle.dg_graph.specs.ColumnGrammar.{element_size, elements_at, rises_from};
 ghost use Rattle.dg_columns.specs.Fields.{attr_at, edge_fields_at, next_element_at};
 
@@ -226,4 +226,38 @@ pub(crate) fn set_here(
 {
     let (items, end) = elements_here(alloc, bytes, start, count, col, name_count)?;
     Some((Set::from_rising(items), end))
+}
+
+// Whether the element is not among the others.
+fn is_new(element: &Element, others: &Set) -> bool
+    ensures { IsTrue result → has others.now element.now ≡ false }
+{
+    !others.has(element)
+}
+
+/// The offset behind so many elements that each come after the one before and are not among the
+/// others. Nothing is kept of them.
+pub(crate) fn end_here(
+    bytes: &[u8],
+    start: usize,
+    count: u32,
+    col: Column,
+    name_count: u32,
+    others: &Set,
+) -> Option<usize>
+    requires { start ≤ length bytes.now }
+    ensures elements { IfSome result (λ end. (list : List Element) × (elements_at count col name_count bytes.now others.now start None ≡ Ok (list, end))) }
+    ensures fits { IfSome result (λ end. end ≤ length bytes.now) }
+{
+    let mut offset = start;
+    let mut last: Option<Element> = None;
+    for _ in 0..count {
+        let element = next_here(bytes, offset, col, name_count, last.as_ref())?;
+        if !is_new(&element, others) {
+            return None;
+        }
+        offset += element_size(&element);
+        last = Some(element);
+    }
+    Some(offset)
 }

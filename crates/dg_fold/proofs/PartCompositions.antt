@@ -1,5 +1,7 @@
 -- How compositions of parts go together.
 use Rattle.std.proofs.Common.{◌≡◌, ◌≤◌, length, Some, slice_get, arith, ℕ, Bool, true, false, map, List, [], ◌∷◌, ◌++◌, Result, Ok, Err, refl, sym, ap, ◌∙◌}
+use Rattle.std.specs.Prelude.{IfOk, is_ok}
+use Rattle.std.proofs.lemmas.Bool.{false≢true}
 use Rattle.std.proofs.lemmas.List.{append-nil}
 use Rattle.dg_graph.specs.declared.element.Column.{Column}
 use Rattle.dg_graph.specs.declared.event.Event.{Event}
@@ -46,6 +48,18 @@ folds_both d first then a b f g composes = (
   ap (λ r. beside r b) f.1 ∙ ap (beside (Ok f.0)) g.1,
   composes_halves d first then f.0 g.0 (f.0 ++ g.0) composes f.2 g.2 refl,
 )
+
+-- what was read, where something was
+pub read_well : {X F : Type 0} (r : Result X F) (P : X → Type 0) → IfOk r P → is_ok r ≡ true → (x : X) × P x
+read_well (Ok x) P h some = (x, h)
+read_well (Err f) P h some = absurd (false≢true some)
+
+-- it has no fault
+abbrev pub HasDeltas : Due → Type 0
+HasDeltas a = (list : List Delta) × (a ≡ Ok list)
+
+pub both_have_deltas : (a b : Due) → HasDeltas a → HasDeltas b → HasDeltas (beside a b)
+both_have_deltas a b x y = (x.0 ++ y.0, ap (λ r. beside r b) x.1 ∙ ap (beside (Ok x.0)) y.1)
 
 beside_empty : (a : Due) → a ≡ beside (Ok []) a
 beside_empty (Ok list) = refl
@@ -99,6 +113,17 @@ module _ (names : ℕ) (p : Part) (col : Column) where
       ap due_of is
       ∙ ap (λ r. fault_named (λ (n : ℕ). (p.key, col)) (and_then (and_then r (λ (q : Delta). Ok (Exact q))) (λ (x : Record). Ok (taken p.way p.until x)))) h
   fails_exact read.Memory is h = tt
+
+  -- what is read of the column, of whatever kind, has deltas
+  pub events_have_deltas : (placed : List Placed) → is_events p.key ≡ true → events_in col names (bytes_in p.bytes col) ≡ Ok placed → HasDeltas (part_column_in names p col)
+  events_have_deltas placed is read = (
+    taken p.way p.until (Events (map (λ (q : Placed). q.event) placed)),
+    ap due_of is
+        ∙ ap (λ r. fault_named (λ (offset : ℕ). (p.key, col)) (and_then (and_then r (λ (q : List Placed). Ok (Events (map (λ (o : Placed). o.event) q)))) (λ (x : Record). Ok (taken p.way p.until x)))) read,
+  )
+
+  pub delta_has_deltas : is_events p.key ≡ false → (d : Delta) × (delta_in col names (bytes_in p.bytes col) ≡ Ok d) → HasDeltas (part_column_in names p col)
+  delta_has_deltas is d = (taken p.way p.until (Exact d.0), exact_is d.0 is d.1)
 
 -- a list of at most one part, whose first is this one
 pub one_only : (parts : List Part) (p : Part) → length parts ≤ 1 → Some p ≡ slice_get parts 0 → p ∷ [] ≡ parts

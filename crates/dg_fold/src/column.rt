@@ -1,7 +1,8 @@
 //! The delta of a part, column by column.
 
-ghost use Rattle.std.specs.Prelude.{◌≡◌, true, false, map, ℕ, Option, Ok, Err, IfOk, IfErr};
+ghost use Rattle.std.specs.Prelude.{◌≡◌, true, false, map, ℕ, List, Option, Ok, Err, IfOk, IfErr, IsTrue};
 ghost use Rattle.dg_columns.specs.ReadFits.{IsIn, joined_columns};
+ghost use Rattle.dg_graph.specs.Composition.{Delta};
 ghost use Rattle.dg_graph.specs.declared.element.Column.{Column};
 ghost use Rattle.dg_graph.specs.declared.placed.Placed.{Placed};
 ghost use Rattle.dg_index.specs.IndexRecords.{Exact};
@@ -12,7 +13,7 @@ ghost use Rattle.dg_fold.specs.Parts.{is_events, bytes_in, part_column_in, besid
 use crate::fault::FoldFault;
 use crate::net::{joined, net_of, turned};
 use crate::part::{Bytes, Part};
-use dg_columns::{ReadFault, join, read_delta, read_events};
+use dg_columns::{ReadFault, is_delta, join, read_delta, read_events};
 use dg_delta::Delta;
 use dg_graph::{Column, Event, Placed};
 use dg_history::Key;
@@ -217,4 +218,26 @@ pub(crate) fn part_delta<R: Threads>(
     ensures { Folds result (deltas_in_part name_count part.now) }
 {
     part_delta_as(rt, alloc, name_count, part, part.way, part.until)
+}
+
+// Whether a column of the part is in order. `false` also where memory ran out.
+fn is_sound_column(alloc: Global, name_count: u32, part: &Part, col: Column) -> bool
+    ensures { IsTrue result → (list : List Delta) × (part_column_in name_count part.now col ≡ Ok list) }
+{
+    let bytes = bytes_of(&part.bytes, col);
+    if is_events(part.key) {
+        read_events(alloc, bytes, col, name_count).is_ok()
+    } else {
+        is_delta(alloc, bytes, col, name_count)
+    }
+}
+
+/// Whether no column of a part is damaged. `false` also where memory ran out. What the part does is not
+/// composed, and no set is made of what a delta puts in.
+pub fn is_sound_part(alloc: Global, name_count: u32, part: &Part) -> bool
+    ensures { IsTrue result → (list : List Delta) × (deltas_in_part name_count part.now ≡ Ok list) }
+{
+    is_sound_column(alloc, name_count, part, Column::Structure)
+        && is_sound_column(alloc, name_count, part, Column::NodeAttr)
+        && is_sound_column(alloc, name_count, part, Column::EdgeAttr)
 }

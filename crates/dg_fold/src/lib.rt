@@ -18,7 +18,7 @@ mod tree;
 mod tree_step;
 mod writing;
 
-pub use column::part_delta_as;
+pub use column::{is_sound_part, part_delta_as};
 pub use composing::{compose_for, composed, is_for};
 pub use dg_delta::Delta;
 pub use fault::FoldFault;

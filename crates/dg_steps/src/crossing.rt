@@ -11,7 +11,7 @@ ghost use Rattle.dg_steps.specs.TreeSteps.{turned_way};
 ghost use Rattle.dg_steps.specs.TreeStepWalks.{AllAgree, AreKept, IsCrossing, part_of};
 
 use dg_delta::Delta;
-use dg_fold::{FoldFault, Part, part_delta_as};
+use dg_fold::{FoldFault, Part, is_sound_part, part_delta_as};
 use dg_plan::{Edge, Via, Way};
 use std::alloc::{AllocError, Global};
 use std::thread::Threads;
@@ -55,7 +55,8 @@ fn all_agree(takes: &[bool]) -> bool
     takes.iter().all(|take| *take) || takes.iter().all(|take| !*take)
 }
 
-// What is kept of the step of a part. It is decoded the other way only where paths differ in it.
+// What is kept of the step of a part. Where all paths agree it is only tested for damage, and is decoded where it fails
+// the test, so that the damage is named. It is decoded the other way only where paths differ in it.
 fn crossing_of<R: Threads>(
     rt: &R,
     alloc: Global,
@@ -66,11 +67,15 @@ fn crossing_of<R: Threads>(
     ensures ok { IfOk result (λ c. IsCrossing name_count (Some part.now) takes.items c) }
     ensures err { IfErr result (λ f. FailsIn f (part_deltas name_count (Some part.now))) }
 {
+    let agreed = all_agree(&takes);
+    if agreed && is_sound_part(alloc, name_count, part) {
+        return Ok(None);
+    }
     let on = match part_delta_as(rt, alloc, name_count, part, part.way, part.until) {
         Ok(on) => on,
         Err(fault) => return Err(fault),
     };
-    if all_agree(&takes) {
+    if agreed {
         return Ok(None);
     }
     let way = turned(part.way);

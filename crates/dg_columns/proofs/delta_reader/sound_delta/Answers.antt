@@ -1,20 +1,11 @@
-use Rattle.std.proofs.Common.{◌≡◌, ℕ, List, Option, Some, None, Result, Ok, Err, refl, sym, ap, ◌∙◌}
+use Rattle.std.proofs.Common.{◌≡◌, ℕ, List, Option, Some, None, Result, Ok, refl, sym, ap, ◌∙◌}
 use Rattle.std.specs.Prelude.{IfSome, IsSome}
-use Rattle.std.specs.Result.{result_ok}
 use Rattle.dg_graph.specs.declared.element.Element.{Element}
 use Rattle.dg_graph.specs.Composition.{Delta}
 use Rattle.dg_set.specs.Apart.{AreApart}
-use Rattle.dg_columns.specs.declared.fault.ReadFault.{ReadFault}
-use Rattle.dg_columns.specs.ReadOutcome.{IsReadAs}
 use Rattle.dg_columns.proofs.ColumnGrammarDeltas.{delta_from}
+use Rattle.dg_columns.proofs.SoundEnds.{given}
 use Rattle.dg_columns.proofs.delta_reader.sound_delta.Goals as goal
-
--- what a call gave that did not fail
-given : {X Y : Type 0} (view : X → Y) (r : Result X ReadFault) (read : Result Y ℕ) (x : X) → Some x ≡ result_ok r → IsReadAs view r read → read ≡ Ok (view x)
-given {X} {Y} view (Ok y) read x e g =
-    let is : x ≡ y = cc in
-    g ∙ ap (λ (z : X). Ok (view z)) (sym is)
-given view (Err f) read x e g = absurd cc
 
 delta_is : (r : Option Delta) (minus plus : List Element) (read : Result Delta ℕ) → (IsSome r → AreApart minus plus) → IfSome r (λ d. d ≡ record { minus = minus; plus = plus }) → (AreApart minus plus → read ≡ Ok (record { minus = minus; plus = plus })) → IfSome r (λ d. read ≡ Ok d)
 delta_is None minus plus read apart is found = tt
