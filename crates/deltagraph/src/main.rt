@@ -17,9 +17,13 @@ use dg_file_disk::FileDisk;
 use dg_io::{StdSink, StdSource};
 use dg_run::{Status, serve};
 use dg_words::{Words, read_words};
+use std::alloc::{AllocError, Global};
 use std::num::NonZeroUsize;
 use std::process::ExitCode;
 use words::words_after_name;
+
+/// The largest block that the C library keeps, with room for what it notes in front of it.
+const KEPT_BYTES_MAX: usize = 32 * 1024 * 1024 - 4096;
 
 fn main(rt: HostRuntime) -> ExitCode {
     let words = match words_after_name(&rt) {
@@ -30,6 +34,7 @@ fn main(rt: HostRuntime) -> ExitCode {
         Ok(read) => read,
         Err(status) => return ends(&rt, status),
     };
+    keep_freed(rt.alloc());
     // Held to the end, so that no file that is opened gets the number of a standard descriptor that is closed.
     let _held = match hold_standard(&rt) {
         Ok(held) => held,
@@ -64,6 +69,14 @@ fn main(rt: HostRuntime) -> ExitCode {
         &mut disk,
     );
     ends_over(&rt, status, disk.disk())
+}
+
+// Has the C library keep memory that is freed for what is needed next. It gives a large block back to the system at once, and
+// then takes the next one anew, page by page; but it keeps those that are no larger than the largest block that it has given
+// back, up to 32 MiB. No byte of this block is touched. Where memory lacks nothing is lost but time.
+fn keep_freed(alloc: Global) {
+    let block: Result<Vec<u8>, AllocError> = Vec::with_capacity(alloc, KEPT_BYTES_MAX);
+    drop(block);
 }
 
 // What the words say. `Status::Words` where they are not of the written form, and `Status::NoMemory` for want of memory.

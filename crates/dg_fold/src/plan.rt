@@ -43,8 +43,9 @@ impl Weighed for Part {
     }
 }
 
-// The composition of the parts, in order, by halves and without a further thread.
-fn compose_alone<R: Threads>(
+/// The composition of the parts, in order, over so many names, by halves and in this thread alone. `Damaged` names the
+/// first part, and of it the first column, that is damaged, exactly where one is.
+pub fn compose_alone<R: Threads>(
     rt: &R,
     alloc: Global,
     name_count: u32,

@@ -3,6 +3,7 @@
 ghost use Rattle.std.specs.Prelude.{◌≡◌, false, ◌∷◌, [], IfOk, IfSome};
 ghost use Rattle.std.specs.List.{Contains};
 ghost use Rattle.dg_file.specs.Images.{IsOpenedAs};
+ghost use Rattle.dg_fold.specs.Parts.{Folds, parts_in};
 ghost use Rattle.dg_history.specs.declared.node.NodeId.TheVariants.{Root};
 ghost use Rattle.dg_history.specs.History.{History};
 ghost use Rattle.dg_plan.specs.IndexGraph.{arcs_of, nodes_of};
@@ -16,12 +17,16 @@ use crate::fault::RetrievalFault;
 use dg_delta::Delta;
 use dg_disk::Disk;
 use dg_file::Index;
-use dg_fold::{Open, compose_plan, fetch_walk};
+use dg_fold::{FoldFault, Open, Part, compose_alone, compose_plan, fetch_walk};
 use dg_graph::Columns;
 use dg_history::NodeId;
 use dg_planner::{Graft, Planner};
 use std::alloc::{AllocError, Global};
 use std::thread::Threads;
+
+/// A plan of so many bytes, or of fewer, is composed in one thread. Each thread takes memory of its own from the system, which
+/// up to there costs what the other thread saves.
+const ALONE_BYTES_MAX: u64 = 64 * 1024 * 1024;
 
 /// What leads from nothing to the set of a node.
 #[derive(Drop)]
@@ -67,11 +72,28 @@ pub fn retrieve_node<R: Threads + Sync, D: Disk>(
     let route = plan_of(alloc, planner, node)?;
     let walk = edges_at(alloc, planner.edges(), &route.steps)?;
     let parts = fetch_walk(alloc, index, disk, &walk, cols)?;
-    let delta = compose_plan(rt, alloc, &Open, name_count, &parts)?;
+    let delta = compose(rt, alloc, name_count, &parts, route.weight)?;
     Ok(NodeLead {
         delta,
         weight: route.weight,
     })
+}
+
+// The composition of the parts, in order, of a plan of so many bytes.
+fn compose<R: Threads + Sync>(
+    rt: &R,
+    alloc: Global,
+    name_count: u32,
+    parts: &[Part],
+    weight: u64,
+) -> Result<Delta, FoldFault>
+    ensures { Folds result (parts_in name_count parts.now) }
+{
+    if weight <= ALONE_BYTES_MAX {
+        compose_alone(rt, alloc, name_count, parts)
+    } else {
+        compose_plan(rt, alloc, &Open, name_count, parts)
+    }
 }
 
 // The steps of a least plan, and their weight in bytes.
