@@ -1210,12 +1210,25 @@ def peak_of(tests: Tests, tool: str, *words: str) -> int:
     return int((tests.folder / "peak").read_text())
 
 
+def read_whole(terminal: int) -> bytes:
+    """All that was written to a terminal whose other end is closed. It comes in pieces, and on Linux EIO ends it."""
+    pieces = []
+    while True:
+        try:
+            pieces.append(os.read(terminal, 1 << 16))
+        except OSError:
+            break
+        if not pieces[-1]:
+            break
+    return b"".join(pieces)
+
+
 def on_terminal(tests: Tests) -> None:
     ours, theirs = pty.openpty()
     command, environment = tests.command("tools/edges2script", "edges")
     subprocess.run(command, stdout=subprocess.DEVNULL, stderr=theirs, env=environment, cwd=tests.folder)
     os.close(theirs)
-    told = os.read(ours, 1 << 16)
+    told = read_whole(ours)
     os.close(ours)
     # One line in place of another, and at the end the summary alone.
     stages = b"edges2script: reading\r\x1b[Kedges2script: sorting by time\r\x1b[Kedges2script: writing\r\x1b[K"
