@@ -24,7 +24,6 @@ use Rattle.dg_query.specs.declared.answers.Side.TheVariants as side
 use Rattle.dg_plan.specs.declared.certificate.Verdict.{Verdict}
 use Rattle.dg_index.specs.declared.per_column.PerColumn.{PerColumn}
 use Rattle.dg_sound.specs.declared.soundness.Soundness.{Soundness}
-use Rattle.dg_index.specs.declared.per_column.PerColumn.{PerColumn}
 use Rattle.dg_sound.specs.declared.soundness.Soundness.TheVariants.{Sound, Unsound}
 use Rattle.dg_plan.specs.declared.certificate.Verdict.TheVariants as verdict
 
@@ -86,12 +85,12 @@ side_word side.Out = codes "out"
 side_word side.Inward = codes "in"
 side_word side.Both = codes "both"
 
--- the words of a body line
 -- the bytes of each column of a record
 abbrev pub length_words : PerColumn ℕ → List (List ℕ)
 length_words lengths =
     decimal lengths.structure ∷ decimal lengths.node_attrs ∷ decimal lengths.edge_attrs ∷ decimal lengths.transient ∷ []
 
+-- the words of a body line
 abbrev pub body_words : List (List ℕ) → BodyLine → List (List ℕ)
 body_words names (line.Element x) = element_words names x
 body_words names (line.Attribute v) = codes "attr" ∷ name_text names v.key ∷ name_text names v.value ∷ []

@@ -131,7 +131,8 @@ fn keep(kept: &mut Vec<Crossing>, crossing: Option<Crossing>) -> Result<(), Allo
 }
 
 /// The steps of the edges in which paths differ, in order. The parts are those of the edges that name a record; each is
-/// decoded, in order, so that the first damage is found. Which paths take each edge is said of the last edge first.
+/// decoded or tested, in order, so that the first damage is found. Which paths take each edge is said of the last edge
+/// first.
 pub(crate) fn crossings_of<R: Threads>(
     rt: &R,
     alloc: Global,
