@@ -359,12 +359,6 @@ record Alike (x y : Element) : Type 0 where
   ids : element_id_of x ≡ element_id_of y
   needs : (p : ElementId) → needs_id p x ≡ needs_id p y
 
-known_alike : (h : HeldGraphState) (x y : Element) → Alike x y → IsKnown h x → IsKnown h y
-known_alike h x y a k = record {
-  itself = ap (knows h) (sym a.ids) ∙ k.itself;
-  needs = λ p n. k.needs p (a.needs p ∙ n);
-}
-
 node_values_alike : (id key v w : ℕ) → Alike (element.NodeAttr id key v) (element.NodeAttr id key w)
 node_values_alike id key v w = record { ids = refl; needs = same_needs }
   where
@@ -409,17 +403,23 @@ alike (body.EdgeAttr key id old new) x y e f =
     let into = moved_from (element.EdgeAttr id key) new old y f in
     subst (λ q. Alike q y) (sym out.1) (subst (λ q. Alike (element.EdgeAttr id key out.0) q) (sym into.1) (edge_values_alike id key out.0 into.0))
 
--- room for the first of the two is room for what is taken away, and then for what is added
-pub room_out : (h : HeldGraphState) (removed added : Option Element) → IfSome (option_or removed added) (HasRoom h) → IfSome removed (HasRoom h)
-room_out h None added room = tt
-room_out h (Some x) added room = room
+-- what is put in the place of the other, past the event or back, has its id and needs the same
+pub alike_forwards : (b : Body) (removed added : Option Element) → removed ≡ removed_by b → added ≡ added_by b
+    → IfSome removed (λ x. IfSome added (λ y. (element_id_of y ≡ element_id_of x) × ((p : ElementId) → needs_id p y ≡ needs_id p x)))
+alike_forwards b None added e f = tt
+alike_forwards b (Some x) None e f = tt
+alike_forwards b (Some x) (Some y) e f = let a = alike b x y (sym e) (sym f) in (sym a.ids, λ p. sym (a.needs p))
 
-pub room_in : (b : Body) (old new : HeldGraphState) (removed added : Option Element) → removed ≡ removed_by b → added ≡ added_by b
-    → IfSome (option_or removed added) (HasRoom old) → IfSome removed (IsKnown new) → (removed ≡ None → new ≡ old) → IfSome added (HasRoom new)
-room_in b old new None None e f room known same = tt
-room_in b old new None (Some y) e f room known same = subst (λ h. HasRoom h y) (sym (same refl)) room
-room_in b old new (Some x) None e f room known same = tt
-room_in b old new (Some x) (Some y) e f room known same = room_of_known new y (known_alike new x y (alike b x y (sym e) (sym f)) known)
+pub alike_backwards : (b : Body) (removed added : Option Element) → removed ≡ removed_by b → added ≡ added_by b
+    → IfSome added (λ y. IfSome removed (λ x. (element_id_of x ≡ element_id_of y) × ((p : ElementId) → needs_id p x ≡ needs_id p y)))
+alike_backwards b removed None e f = tt
+alike_backwards b None (Some y) e f = tt
+alike_backwards b (Some x) (Some y) e f = let a = alike b x y (sym e) (sym f) in (a.ids, a.needs)
+
+-- where both are known, there is room for the first of the two
+pub room_first : (h : HeldGraphState) (first second : Option Element) → IfSome first (IsKnown h) → IfSome second (IsKnown h) → IfSome (option_or first second) (HasRoom h)
+room_first h None second k l = room_if_known h second l
+room_first h (Some x) second k l = room_of_known h x k
 
 -- what the first of the two needs is in the graph
 pub fed_first : (set : List Element) (b : Body) → IsGraph set → CanHappen set b → (removed added : Option Element) → removed ≡ removed_by b → added ≡ added_by b

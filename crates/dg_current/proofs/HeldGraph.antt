@@ -414,3 +414,85 @@ module _ (base : List Element) (entries new : List (ElementId × ElementEntry)) 
         let total : count_by (needs_id p) base + more_at new p ≡ count_by (needs_id p) (take_out x held) + fewer_at new p = omega arith in
         total ∙ ap (λ s. count_by (needs_id p) s + fewer_at new p) (sym out_elements);
   }
+
+-- an element in the place of another of its id, which no other needs
+module _ (base : List Element) (entries new : List (ElementId × ElementEntry)) (x y : Element) (sound : HeldGraphIsSound base entries) (there : has (elements_of base entries) x ≡ true)
+    (loose : list_any (needs_id (element_id_of x)) (elements_of base entries) ≡ false) (alike : element_id_of y ≡ element_id_of x) (needs : (p : ElementId) → needs_id p y ≡ needs_id p x)
+    (free : at (take_out x (elements_of base entries)) (element_id_of y) ≡ None) (fed : has_needs (take_out x (elements_of base entries)) y ≡ true)
+    (changes : Changes base entries new (element_id_of x) (Some y)) (uses : KeepsUses entries new) where
+  abbrev before : List Element
+  before = elements_of base entries
+
+  -- the others
+  abbrev rest : List Element
+  rest = take_out x before
+
+  swap_has_ids : AllHaveTheirIds base new
+  swap_has_ids p z e = by (either_id (element_id_of x) p (Some y) (held_at base entries p) (held_at base new p) (changes p))
+    where
+      by : ((same_id (element_id_of x) p ≡ true) × (held_at base new p ≡ Some y)) ⊎ ((same_id (element_id_of x) p ≡ false) × (held_at base new p ≡ held_at base entries p)) → element_id_of z ≡ p
+      by (inl (s, is)) = ap element_id_of (some_is z y (sym e ∙ is)) ∙ alike ∙ same_id_exact (element_id_of x) p s
+      by (inr (s, is)) = sound.own_ids p z (sym is ∙ e)
+
+  swap_here : held_at base new (element_id_of x) ≡ Some y
+  swap_here = changes (element_id_of x) ∙ ap (λ b. cond b (Some y) (held_at base entries (element_id_of x))) (same_id_itself (element_id_of x))
+
+  swap_to : (q : Element) → has (elements_of base new) q ≡ true → has (put y rest) q ≡ true
+  swap_to q h =
+      let got = kept_from base new swap_has_ids q h in
+      by got (either_id (element_id_of x) (element_id_of q) (Some y) (held_at base entries (element_id_of q)) (held_at base new (element_id_of q)) (changes (element_id_of q)))
+    where
+      apart : (b : Bool) → same q x ≡ b → same_id (element_id_of x) (element_id_of q) ≡ false → same q x ≡ false
+      apart true e s = absurd (true≢false (sym (same_id_from (element_id_of x) (element_id_of q) (ap element_id_of (sym (element_exact q x e)))) ∙ s))
+      apart false e s = e
+
+      by : held_at base new (element_id_of q) ≡ Some q → ((same_id (element_id_of x) (element_id_of q) ≡ true) × (held_at base new (element_id_of q) ≡ Some y)) ⊎ ((same_id (element_id_of x) (element_id_of q) ≡ false) × (held_at base new (element_id_of q) ≡ held_at base entries (element_id_of q))) → has (put y rest) q ≡ true
+      by got (inl (s, is)) = subst (λ z. has (put y rest) z ≡ true) (some_is y q (sym is ∙ got)) (put_itself y rest)
+      by got (inr (s, is)) = put_keeps y rest q (out_keeps x before q (apart (same q x) refl s) (kept_to base entries (element_id_of q) q (sym is ∙ got)))
+
+  swap_back : (q : Element) → has (put y rest) q ≡ true → has (elements_of base new) q ≡ true
+  swap_back q h = by (put_from y rest q h)
+    where
+      stay : same q x ≡ false → has before q ≡ true → (b : Bool) → same_id (element_id_of x) (element_id_of q) ≡ b → has (elements_of base new) q ≡ true
+      stay apart k true e =
+          let is = one_of_each_id before sound.graph q x k there (sym (same_id_exact (element_id_of x) (element_id_of q) e)) in
+          absurd (true≢false (sym (same_itself x) ∙ ap (λ z. same z x) (sym is) ∙ apart))
+      stay apart k false e =
+          kept_to base new (element_id_of q) q
+          (changes (element_id_of q) ∙ ap (λ b. cond b (Some y) (held_at base entries (element_id_of q))) e ∙ kept_from base entries sound.own_ids q k)
+
+      by : (q ≡ y) ⊎ (has rest q ≡ true) → has (elements_of base new) q ≡ true
+      by (inl is) = subst (λ z. has (elements_of base new) z ≡ true) (sym is) (kept_to base new (element_id_of x) y swap_here)
+      by (inr left) = let got = out_from x before q left in stay got.0 got.1 (same_id (element_id_of x) (element_id_of q)) refl
+
+  pub swap_elements : elements_of base new ≡ put y rest
+  swap_elements =
+      same_members (elements_of base new) (put y rest) (IsSet-collected (held_at base new) (ids_of base new))
+      (IsSet-put y rest (IsSet-take_out x before (IsSet-collected (held_at base entries) (ids_of base entries))))
+      (λ q. bool_is (has (elements_of base new) q) (has (put y rest) q) (swap_to q) (swap_back q))
+
+  swap_lacking : has rest y ≡ false
+  swap_lacking = by (has rest y) refl
+    where
+      by : (b : Bool) → has rest y ≡ b → has rest y ≡ false
+      by true e = absurd (at_lacks rest (element_id_of y) free y e refl)
+      by false e = e
+
+  pub swap_length : length (elements_of base new) ≡ length before
+  swap_length =
+      ap length swap_elements ∙ length_put_new y rest swap_lacking ∙ sym (length_out_there x before sound.graph.rises there)
+
+  pub swap_sound : HeldGraphIsSound base new
+  swap_sound = record {
+    own_ids = swap_has_ids;
+    graph = subst IsGraph (sym swap_elements) (put_graph y rest (out_graph x before sound.graph loose) free fed);
+    uses = λ p.
+        let counts = sound.uses p in
+        let more_uses = count_put (needs_id p) y rest swap_lacking in
+        let less_uses = count_out (needs_id p) x before sound.graph.rises there in
+        let as_many : bit (needs_id p y) ≡ bit (needs_id p x) = ap bit (needs p) in
+        let more = uses.more p in
+        let fewer = uses.fewer p in
+        let total : count_by (needs_id p) base + more_at new p ≡ count_by (needs_id p) (put y rest) + fewer_at new p = omega arith in
+        total ∙ ap (λ s. count_by (needs_id p) s + fewer_at new p) (sym swap_elements);
+  }

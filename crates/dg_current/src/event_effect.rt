@@ -1,11 +1,13 @@
 //! A graph taken past an event or back, and made ready for it first, so that this takes no memory.
 ghost use Rattle.std.specs.Prelude.{◌≡◌, ◌≤◌, true, false, IfOk, IfErr, IfSome, OnOk, OnErr, length, vec_capacity, [], map, None, Some, Ok};
 ghost use Rattle.std.specs.List.{list_any};
+ghost use Rattle.std.specs.Option.{option_or};
 ghost use Rattle.dg_graph.specs.declared.event.Change.{Change};
 ghost use Rattle.dg_graph.specs.CompletedChanges.{completed};
 ghost use Rattle.dg_graph.specs.Effect.{forwards, backwards};
 ghost use Rattle.dg_graph.specs.Elements.{has, without, with_one};
 ghost use Rattle.dg_graph.specs.Graph.{IsGraph, has_needs};
+ghost use Rattle.dg_current.specs.declared.element_id.ElementId.{ElementId};
 ghost use Rattle.dg_current.specs.EventEffect.{CanHappen, CameBy, KnowsEvent, Led, rewound};
 ghost use Rattle.dg_current.specs.HeldGraph.{HasRoom, IsKnown, KeepsIds};
 ghost use Rattle.dg_current.specs.ElementIds.{element_id_of, at, needs_id};
@@ -51,30 +53,22 @@ pub(crate) fn ready_for_event(
     }
 }
 
-// Takes the element out, if there is one.
-fn take_out(graph: &mut HeldGraph, out: Option<Element>)
+// Puts an element in the place of another of its id, each where there is one.
+fn replace(graph: &mut HeldGraph, out: Option<Element>, into: Option<Element>)
     requires loose { IfSome out (λ x. (has graph.old.set x ≡ true) × (list_any (needs_id (element_id_of x)) graph.old.set ≡ false)) }
-    requires room { IfSome out (HasRoom graph.old) }
-    ensures set { graph.new.set ≡ without graph.old.set out }
+    requires fits { IfSome into (λ y. (at (without graph.old.set out) (element_id_of y) ≡ None) × (has_needs (without graph.old.set out) y ≡ true)) }
+    requires alike { IfSome out (λ x. IfSome into (λ y. (element_id_of y ≡ element_id_of x) × ((p : ElementId) → needs_id p y ≡ needs_id p x))) }
+    requires room { IfSome (option_or out into) (HasRoom graph.old) }
+    ensures set { graph.new.set ≡ with_one (without graph.old.set out) into }
     ensures keeps { KeepsIds graph.old graph.new }
-    ensures known { IfSome out (IsKnown graph.new) }
-    ensures none { out ≡ None → graph.new ≡ graph.old }
+    ensures out { IfSome out (IsKnown graph.new) }
+    ensures into { IfSome into (IsKnown graph.new) }
 {
-    if let Some(element) = out {
-        graph.take_out(&element);
-    }
-}
-
-// Puts the element in, if there is one.
-fn put(graph: &mut HeldGraph, into: Option<Element>)
-    requires fits { IfSome into (λ x. (at graph.old.set (element_id_of x) ≡ None) × (has_needs graph.old.set x ≡ true)) }
-    requires room { IfSome into (HasRoom graph.old) }
-    ensures set { graph.new.set ≡ with_one graph.old.set into }
-    ensures keeps { KeepsIds graph.old graph.new }
-    ensures known { IfSome into (IsKnown graph.new) }
-{
-    if let Some(element) = into {
-        graph.put(element);
+    match (out, into) {
+        (Some(old), Some(new)) => graph.replace(&old, new),
+        (Some(old), None) => graph.take_out(&old),
+        (None, Some(new)) => graph.put(new),
+        (None, None) => {}
     }
 }
 
@@ -104,8 +98,7 @@ pub(crate) fn apply(graph: &mut HeldGraph, event: &Event) -> Result<(), AllocErr
     let (removed, added) = effect(event);
     // Where there are both, they need the same, and have one id.
     make_room(graph, removed.or(added))?;
-    take_out(graph, removed);
-    put(graph, added);
+    replace(graph, removed, added);
     Ok(())
 }
 
@@ -117,8 +110,7 @@ fn undo_one(graph: &mut HeldGraph, event: &Event)
     ensures keeps { KeepsIds graph.old graph.new }
 {
     let (removed, added) = effect(event);
-    take_out(graph, added);
-    put(graph, removed);
+    replace(graph, added, removed);
 }
 
 /// Takes the graph back before the events that led to it, the last one first, and leaves none of them.

@@ -202,4 +202,22 @@ impl HeldGraph {
         set_held(&mut self.elements, id, Held::Nothing);
         count_out(&mut self.elements, element);
     }
+
+    /// Puts an element in the place of the one that is there under its id and needs the same. Takes no
+    /// memory.
+    pub(crate) fn replace(&mut self, old: &Element, new: Element)
+        requires there { has self.old.set old.now ≡ true }
+        requires loose { list_any (needs_id (element_id_of old.now)) self.old.set ≡ false }
+        requires alike { element_id_of new ≡ element_id_of old.now }
+        requires needs { (p : ElementId) → needs_id p new ≡ needs_id p old.now }
+        requires free { at (take_out old.now self.old.set) (element_id_of new) ≡ None }
+        requires fed { has_needs (take_out old.now self.old.set) new ≡ true }
+        requires room { HasRoom self.old old.now }
+        ensures set { self.new.set ≡ put new (take_out old.now self.old.set) }
+        ensures keeps { KeepsIds self.old self.new }
+        ensures known { IsKnown self.new new }
+    {
+        let id = ElementId::of(old);
+        set_held(&mut self.elements, id, Held::of(&new));
+    }
 }
