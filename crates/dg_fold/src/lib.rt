@@ -31,6 +31,6 @@ pub use laws::{
     law_records_lead, law_steps_are_walks, law_trees_lead, law_trees_reach, law_walks_lead,
 };
 pub use part::{Bytes, Part};
-pub use plan::{compose_alone, compose_plan};
+pub use plan::{compose_freed, compose_plan};
 pub use tree::Branch;
 pub use writing::{Writing, write_tree};

@@ -5,14 +5,14 @@ ghost use Rattle.std.specs.Thread.{IsSync};
 ghost use Rattle.dg_graph.specs.declared.element.Column.{Column};
 ghost use Rattle.dg_history.specs.declared.node.Key.{Key};
 ghost use Rattle.dg_graph.specs.Composition.{Delta as Deltas};
-ghost use Rattle.dg_fold.specs.Parts.{beside, parts_in, Folds};
+ghost use Rattle.dg_fold.specs.Parts.{beside, deltas_in_part, parts_in, Folds};
 
 use crate::column::part_delta;
 use crate::fault::FoldFault;
 use crate::gate::Gate;
 use crate::halves::{Weighed, all_weigh, cut_at};
 use crate::net::joined;
-use crate::part::Part;
+use crate::part::{Bytes, Part};
 use dg_delta::Delta;
 use std::alloc::Global;
 use std::thread::{Threads, join};
@@ -43,9 +43,9 @@ impl Weighed for Part {
     }
 }
 
-/// The composition of the parts, in order, over so many names, by halves and in this thread alone. `Damaged` names the
-/// first part, and of it the first column, that is damaged, exactly where one is.
-pub fn compose_alone<R: Threads>(
+// The composition of the parts, in order, over so many names, by halves and in this thread alone. `Damaged` names the
+// first part, and of it the first column, that is damaged, exactly where one is.
+fn compose_alone<R: Threads>(
     rt: &R,
     alloc: Global,
     name_count: u32,
@@ -63,6 +63,48 @@ pub fn compose_alone<R: Threads>(
     let first = compose_alone(rt, alloc, name_count, left);
     let then = compose_alone(rt, alloc, name_count, right);
     both(first, then)
+}
+
+// The delta of a part, whose bytes are given back.
+fn freed_delta<R: Threads>(
+    rt: &R,
+    alloc: Global,
+    name_count: u32,
+    part: &mut Part,
+) -> Result<Delta, FoldFault>
+    ensures { Folds result (deltas_in_part name_count part.old) }
+{
+    let delta = part_delta(rt, alloc, name_count, part);
+    part.bytes = Bytes {
+        structure: Vec::new(alloc),
+        node_attr: Vec::new(alloc),
+        edge_attr: Vec::new(alloc),
+    };
+    delta
+}
+
+/// The composition of the parts, in order, over so many names, by halves and in this thread alone. The bytes of each part
+/// are given back once they are decoded, so that they take no memory beside what is composed. `Damaged` names the first
+/// part, and of it the first column, that is damaged, exactly where one is.
+pub fn compose_freed<R: Threads>(
+    rt: &R,
+    alloc: Global,
+    name_count: u32,
+    parts: &mut [Part],
+) -> Result<Delta, FoldFault>
+    ensures { Folds result (parts_in name_count parts.old) }
+{
+    match parts.len() {
+        0 => Ok(Delta::new(alloc)),
+        1 => freed_delta(rt, alloc, name_count, &mut parts[0]),
+        _ => {
+            let middle = cut_at(parts);
+            let (left, right) = parts.split_at_mut(middle);
+            let first = compose_freed(rt, alloc, name_count, left);
+            let then = compose_freed(rt, alloc, name_count, right);
+            both(first, then)
+        }
+    }
 }
 
 /// The composition of the parts, in order, over so many names. The parts are cut in two where their bytes

@@ -17,7 +17,7 @@ use crate::fault::RetrievalFault;
 use dg_delta::Delta;
 use dg_disk::Disk;
 use dg_file::Index;
-use dg_fold::{FoldFault, Open, Part, compose_alone, compose_plan, fetch_walk};
+use dg_fold::{FoldFault, Open, Part, compose_freed, compose_plan, fetch_walk};
 use dg_graph::Columns;
 use dg_history::NodeId;
 use dg_planner::{Graft, Planner};
@@ -72,7 +72,7 @@ pub fn retrieve_node<R: Threads + Sync, D: Disk>(
     let route = plan_of(alloc, planner, node)?;
     let walk = edges_at(alloc, planner.edges(), &route.steps)?;
     let parts = fetch_walk(alloc, index, disk, &walk, cols)?;
-    let delta = compose(rt, alloc, name_count, &parts, route.weight)?;
+    let delta = compose(rt, alloc, name_count, parts, route.weight)?;
     Ok(NodeLead {
         delta,
         weight: route.weight,
@@ -84,15 +84,15 @@ fn compose<R: Threads + Sync>(
     rt: &R,
     alloc: Global,
     name_count: u32,
-    parts: &[Part],
+    mut parts: Vec<Part>,
     weight: u64,
 ) -> Result<Delta, FoldFault>
-    ensures { Folds result (parts_in name_count parts.now) }
+    ensures { Folds result (parts_in name_count parts.items) }
 {
     if weight <= ALONE_BYTES_MAX {
-        compose_alone(rt, alloc, name_count, parts)
+        compose_freed(rt, alloc, name_count, &mut parts)
     } else {
-        compose_plan(rt, alloc, &Open, name_count, parts)
+        compose_plan(rt, alloc, &Open, name_count, &parts)
     }
 }
 

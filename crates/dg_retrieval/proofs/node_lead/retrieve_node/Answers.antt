@@ -31,7 +31,7 @@ pub returns-in_err-delta-clause-over : goal.returns-in_err-delta-clause-over
 returns-in_err-delta-clause-over g c =
     let along = c.deref-2.ensures.value ∙ c.in_ok-walk.ensures ∙ (λ i. edges_at (c.edges.ensures i) (c.deref.ensures.value i)) in
     let image = g.D.Disk.image c.args.disk.now in
-    let read = subst (λ (parts : List Part). IfSome image (λ im. AreParts (kept_in im c.args.index.now.opening) c.args.cols (named_along c.deref-2.result.now) parts)) (sym c.deref-3.ensures.value) c.in_ok-parts.ensures.parts in
+    let read = c.in_ok-parts.ensures.parts in
     of_both image
     (plan_most c.args.index.now.opening c.args.cols c.args.planner.now.edges c.requires.edges c.args.node c.in_ok-route.route.steps.items c.in_ok-route.ensures.plan _ along c.args.name_count _ _ _ c.fetch_walk.ensures.most)
     (plan_never c.args.index.now.opening c.args.cols c.args.planner.now.edges c.requires.edges c.args.node c.in_ok-route.route.steps.items c.in_ok-route.ensures.plan _ along c.args.name_count image _ read c.in_err-delta.field-0.0 c.in_err-delta.ensures)
@@ -41,7 +41,7 @@ pub returns-in_err-delta-clause-damage : goal.returns-in_err-delta-clause-damage
 returns-in_err-delta-clause-damage g c =
     let along = c.deref-2.ensures.value ∙ c.in_ok-walk.ensures ∙ (λ i. edges_at (c.edges.ensures i) (c.deref.ensures.value i)) in
     let image = g.D.Disk.image c.args.disk.now in
-    let read = subst (λ (parts : List Part). IfSome image (λ im. AreParts (kept_in im c.args.index.now.opening) c.args.cols (named_along c.deref-2.result.now) parts)) (sym c.deref-3.ensures.value) c.in_ok-parts.ensures.parts in
+    let read = c.in_ok-parts.ensures.parts in
     damage_told c.args.name_count c.args.planner.now.edges c.args.index.now.opening c.args.cols (c.args.node ∷ []) image c.from_residual-in_err-delta.result (of_fold c.in_err-delta.field-0.0) c.from_residual-in_err-delta.ensures
     (plan_damaged c.args.index.now.opening c.args.cols c.args.planner.now.edges c.requires.edges c.args.node c.in_ok-route.route.steps.items c.in_ok-route.ensures.plan _ along c.args.name_count image _ read c.in_err-delta.field-0.0 c.in_err-delta.ensures)
 
@@ -49,18 +49,18 @@ pub returns-clause-done : goal.returns-clause-done
 returns-clause-done g c =
     let along = c.deref-2.ensures.value ∙ c.in_ok-walk.ensures ∙ (λ i. edges_at (c.edges.ensures i) (c.deref.ensures.value i)) in
     let image = g.D.Disk.image c.args.disk.now in
-    let read = subst (λ (parts : List Part). IfSome image (λ im. AreParts (kept_in im c.args.index.now.opening) c.args.cols (named_along c.deref-2.result.now) parts)) (sym c.deref-3.ensures.value) c.in_ok-parts.ensures.parts in
+    let read = c.in_ok-parts.ensures.parts in
     record {
       plan = (c.in_ok-route.route.steps.items, c.in_ok-route.ensures.plan, c.in_ok-route.ensures.weight);
       led = plan_led c.args.index.now.opening c.args.cols c.args.planner.now.edges c.requires.edges c.args.node c.in_ok-route.route.steps.items c.in_ok-route.ensures.plan _ along c.args.name_count image _ read c.in_ok-delta.delta c.in_ok-delta.ensures;
-      named = folded_there c.args.name_count c.deref-3.result.now c.in_ok-delta.delta c.in_ok-delta.ensures;
+      named = folded_there c.args.name_count c.in_ok-parts.parts.items c.in_ok-delta.delta c.in_ok-delta.ensures;
     }
 
 pub returns-clause-over : goal.returns-clause-over
 returns-clause-over g c =
     let along = c.deref-2.ensures.value ∙ c.in_ok-walk.ensures ∙ (λ i. edges_at (c.edges.ensures i) (c.deref.ensures.value i)) in
     let image = g.D.Disk.image c.args.disk.now in
-    let read = subst (λ (parts : List Part). IfSome image (λ im. AreParts (kept_in im c.args.index.now.opening) c.args.cols (named_along c.deref-2.result.now) parts)) (sym c.deref-3.ensures.value) c.in_ok-parts.ensures.parts in
+    let read = c.in_ok-parts.ensures.parts in
     of_three image
     (plan_set_is c.args.index.now.opening c.args.cols c.args.planner.now.edges c.requires.edges c.args.node c.in_ok-route.route.steps.items c.in_ok-route.ensures.plan _ along c.args.name_count image _ read c.in_ok-delta.delta c.in_ok-delta.ensures)
     (plan_takes c.args.index.now.opening c.args.cols c.args.planner.now.edges c.requires.edges c.args.node c.in_ok-route.route.steps.items c.in_ok-route.ensures.plan _ along c.args.name_count _ c.in_ok-route.route.weight _ _ c.in_ok-route.ensures.weight c.in_ok-parts.ensures.takes)
@@ -71,5 +71,5 @@ pub returns-clause-damage : goal.returns-clause-damage
 returns-clause-damage g c =
     let along = c.deref-2.ensures.value ∙ c.in_ok-walk.ensures ∙ (λ i. edges_at (c.edges.ensures i) (c.deref.ensures.value i)) in
     let image = g.D.Disk.image c.args.disk.now in
-    let read = subst (λ (parts : List Part). IfSome image (λ im. AreParts (kept_in im c.args.index.now.opening) c.args.cols (named_along c.deref-2.result.now) parts)) (sym c.deref-3.ensures.value) c.in_ok-parts.ensures.parts in
+    let read = c.in_ok-parts.ensures.parts in
     plan_whole c.args.index.now.opening c.args.cols c.args.planner.now.edges c.requires.edges c.args.node c.in_ok-route.route.steps.items c.in_ok-route.ensures.plan _ along c.args.name_count image _ read c.in_ok-delta.delta c.in_ok-delta.ensures
