@@ -8,11 +8,13 @@ use Rattle.dg_append.proofs.BatchCrashes.{done_leaves, failed_leaves}
 use Rattle.dg_append.proofs.BatchSegmentIndex.{all_behind, new_counted, new_goes_on, new_names, new_total}
 use Rattle.dg_append.proofs.CompletedChanges.{events_fit}
 use Rattle.dg_append.proofs.FrontEvents.{IsPrepared, come_whole, comes_to_segment, here, known_few, more_event_names, more_names}
+use Rattle.dg_append.proofs.Overlays.{overlay_past, overlay_stays, pool_past, slots_past}
 use Rattle.dg_append.specs.AddedBatches.{AddsBatch, AddsBatchOrNot, AddsBehindOrNot, ComesToSegment, FailsBatch, IsOverHistory, IsReady, IsSegmentOver, MayAdd, MeetsNoDamage, ReadsNothing, TakesForm, TakesOlder, batch_with, recent_behind}
 use Rattle.dg_append.specs.BatchSegments.{IsBuiltOver, IsNext, IsSegmentBehind, MayFollow, StandsForKept, TakesSinglesOver}
-use Rattle.dg_append.specs.KeptBatches.{GainsNextOrNot, KeepsBatch, OverfillsFile, PassesBatch, StopsBatch}
+use Rattle.dg_append.specs.KeptBatches.{GainsNextOrNot, GivesBack, IndexStays, IsCut, KeepsBatch, OverfillsFile, PassesBatch, StopsBatch}
 use Rattle.dg_append.specs.DiskLeft.{LeavesDisk}
 use Rattle.dg_append.specs.LiveHistories.{IsLiveHistory}
+use Rattle.dg_append.specs.Overlays.{IsOverlayOf, SameOverlay, pool_in}
 use Rattle.dg_append.specs.declared.batch.AddedBatch.{AddedBatch}
 use Rattle.dg_append.specs.declared.batch.Batch.{Batch}
 use Rattle.dg_append.specs.declared.fault.BatchFault.{BatchFault}
@@ -20,8 +22,10 @@ use Rattle.dg_append.specs.declared.fault.BatchFault.TheVariants as fault
 use Rattle.dg_append.specs.declared.live.Live.{Live}
 use Rattle.dg_append.specs.declared.next_batch.NextBatch.{NextBatch}
 use Rattle.dg_append.specs.OlderChildSteps.{IsNamedDamage}
-use Rattle.dg_append.specs.OlderGroups.{older_children}
+use Rattle.dg_append.specs.OlderGroups.{leaves_after, leaves_before, older_children}
+use Rattle.dg_build.specs.OlderSteps.{IsTopDue}
 use Rattle.dg_columns.specs.NamesInRange.{NamesFit}
+use Rattle.dg_current.specs.Now.{NowState}
 use Rattle.dg_disk.specs.declared.disk.Disk.{Ghosts}
 use Rattle.dg_file.specs.Images.{BothTold, GainsSegment}
 use Rattle.dg_graph.specs.declared.element.Element.{Element}
@@ -38,14 +42,14 @@ use Rattle.dg_index.specs.IndexGrowth.{index_with}
 use Rattle.dg_index.specs.OpenedIndex.{Opening, event_total, may_be_named}
 use Rattle.dg_plan.specs.IndexGraph.{arcs_of}
 use Rattle.dg_plan.specs.Walks.{AreSingles}
-use Rattle.dg_pool.specs.Graphs.{PoolState, graph_now, slot_graph}
+use Rattle.dg_pool.specs.Graphs.{PoolState}
 use Rattle.dg_retrieval.specs.KeptGraph.{record_edges}
 use Rattle.dg_retrieval.specs.ValueRange.{ValuesFit}
 use Rattle.dg_retrieval.specs.NamesThere.{BodyHasNamesThere, EventNamesAreThere, NamesAreThere}
 use Rattle.dg_retrieval.proofs.NamesThere.{replay_there}
 use Rattle.dg_retrieval.proofs.ValueRanges.{replay_fits}
 use Rattle.dg_start.specs.declared.stored_history.StoredHistory.{StoredHistory}
-use Rattle.dg_start.specs.StoredHistory.{AreCounted, IsHeldBy, IsKeptOf, MayGoOn, index_opening}
+use Rattle.dg_start.specs.StoredHistory.{AreCounted, IsHeldBy, IsKeptOf, IsSoundHistory, MayGoOn, index_opening}
 
 -- ---- what is made over what is kept
 
@@ -157,8 +161,9 @@ module _ (o : Opening) (batch : Batch) (h : StoredHistory) (graph : List Element
     not_added_leaves f stops = failed_leaves g old new (IsHeldBy (index_opening h.index) (take batch.known h.names)) (GainsNextOrNot o next graph) (AddsBatchOrNot batch h) widened image f
 
   -- it may be put behind the index
-  pub next_is : IsSet h.now.graph → IsReady o batch h → IsPrepared o batch h events → IsNext o next graph
-  next_is set r p = record {
+  pub next_is : IsSet h.now.graph → IsReady o batch h → IsPrepared o batch h events
+      → (IsTopDue o.params.k (leaves_before o) (leaves_after o (length batch.changes.items)) → next.top.now ≡ h.now.graph) → IsNext o next graph
+  next_is set r p top = record {
     follows = subst (λ (x : List Event × List Event). MayFollow o x.0 x.1) (let e : (h.recent.items, events) ≡ (next.recent.now, next.events.now) = λ i. (sym n.recent_is i, sym n.events_are i) in e) p.follows;
     within = subst (λ (x : ℕ × List (List ℕ)). x.0 ≤ length x.1) (let e : (batch.known, h.names) ≡ (next.known, next.names.now) = λ i. (sym n.known_is i, sym n.names_are i) in e) r.within;
     counted = ap (λ (ns : List (List ℕ)). length ns) known_names ∙ r.sound.counted.0;
@@ -169,6 +174,7 @@ module _ (o : Opening) (batch : Batch) (h : StoredHistory) (graph : List Element
     set = subst IsSet (sym graph_is) set;
     changes = subst (λ (x : List Element × List Event). AreChangesOf x.0 x.1) (let e : (h.now.graph, events) ≡ (graph, next.events.now) = λ i. (sym graph_is i, sym n.events_are i) in e) p.changes_are;
     form = subst (TakesForm o) (sym n.events_are) p.form;
+    top = λ due. top (subst (λ many. IsTopDue o.params.k (leaves_before o) (leaves_after o many)) (ap length n.events_are ∙ p.many) due) ∙ sym graph_is;
   }
 
 -- the index that is told of is this one
@@ -203,9 +209,9 @@ pub record WentOn (old new : Live) (opened : Opening) (events left : List Event)
   pub pending : new.history.now.pending ≡ []
   pub recent_are : new.history.recent.items ≡ left
 
-module _ {D : Type 0} (g : Ghosts D) (o opened : Opening) (limit : ℕ) (batch : Batch) (old new : Live) (before after : D) (events left : List Event) (next : NextBatch) (pool : PoolState) (pool_is : pool ≡ old.pool.value)
-    (graph_is : graph_now pool ≡ old.history.now.graph) (n : IsNextOf batch old.history events next) (p : IsPrepared o batch old.history events) (k : KeepsBatch g limit o opened next (graph_now pool) before after)
-    (passes : PassesBatch o next left pool new.pool.value) (w : WentOn old new opened events left) where
+module _ {D : Type 0} (g : Ghosts D) (o opened : Opening) (limit : ℕ) (batch : Batch) (old new : Live) (before after : D) (events left : List Event) (next : NextBatch)
+    (overlay : IsOverlayOf old.history.now.graph (pool_in old.pool)) (graph_is : next.current.now.graph ≡ old.history.now.graph) (n : IsNextOf batch old.history events next) (p : IsPrepared o batch old.history events) (k : KeepsBatch g limit o opened next next.current.now.graph before after)
+    (passes : PassesBatch o next left (pool_in old.pool) (pool_in new.pool)) (w : WentOn old new opened events left) where
   abbrev h : StoredHistory
   h = old.history
 
@@ -216,7 +222,7 @@ module _ {D : Type 0} (g : Ghosts D) (o opened : Opening) (limit : ℕ) (batch :
   behind =
       subst (λ (x : List (List ℕ) × List Event × List Event). IsSegmentBehind o x.0 x.1 x.2 segment)
       (let e : (drop next.known next.names.now, next.recent.now, next.events.now) ≡ (drop batch.known h.names, h.recent.items, events) =
-      λ i. (new_names_are o batch h (graph_now pool) events next graph_is n i, n.recent_is i, n.events_are i) in e)
+      λ i. (new_names_are o batch h next.current.now.graph events next graph_is n i, n.recent_is i, n.events_are i) in e)
       k.made.behind
 
   index_is : index_opening new.history.index ≡ Some (index_with o segment)
@@ -249,7 +255,8 @@ module _ {D : Type 0} (g : Ghosts D) (o opened : Opening) (limit : ℕ) (batch :
           (let e : (Some (index_with o segment), recent_behind o.params (event_total o.batches) h.recent.items events) ≡ (index_opening new.history.index, new.history.recent.items) = λ i. (sym index_is i, sym recent_is i) in e)
           (new_goes_on o h.recent.items events p.follows (drop batch.known h.names) segment behind);
     };
-    pool = passes.now ∙ (λ i. replay_from (graph_is i) (n.events_are i)) ∙ sym w.graph_is;
+    pool = subst (λ (x : List Element). IsOverlayOf x (pool_in new.pool)) ((λ i. replay_from old.history.now.graph (n.events_are i)) ∙ sym w.graph_is)
+        (overlay_past next.events.now old.history.now.graph (pool_in old.pool) (pool_in new.pool) overlay passes.past);
   }
     where
       known : ℕ
@@ -274,13 +281,14 @@ module _ {D : Type 0} (g : Ghosts D) (o opened : Opening) (limit : ℕ) (batch :
   adds added image same told = record {
     events = events;
     segment = segment;
-    comes = comes o batch h (graph_now pool) events next graph_is n (g.image before) segment p k.made.built;
-    whole = whole_over o batch h (graph_now pool) events next graph_is n (g.image before) p.many k.made.whole;
+    comes = comes o batch h next.current.now.graph events next graph_is n (g.image before) segment p k.made.built;
+    whole = whole_over o batch h next.current.now.graph events next graph_is n (g.image before) p.many k.made.whole;
     index = index_is;
     names = w.names_are;
     graph = w.graph_is;
     recent = recent_is;
-    slots = λ s. passes.slots s ∙ ap (λ (x : PoolState). slot_graph x s) pool_is;
+    slots = slots_past next.events.now (pool_in old.pool) (pool_in new.pool) passes.past;
+    pool = pool_past next.events.now (pool_in old.pool) (pool_in new.pool) passes.past;
     gains = k.kept.gained;
     held = subst (λ (x : Option Opening × List (List ℕ)). IfSome (g.image after) (λ image. IsHeldBy x.0 x.1 image))
         (let e : (Some opened, take batch.known h.names ++ segment.names) ≡ (index_opening new.history.index, new.history.names) = λ i. (sym w.index i, all_names i) in e)
@@ -291,3 +299,32 @@ module _ {D : Type 0} (g : Ghosts D) (o opened : Opening) (limit : ℕ) (batch :
 
 pub added_is : (a x b y l z : ℕ) → a ≡ x → b ≡ y → l ≡ z → (let r : AddedBatch = record { events = a; total = b; last = l } in r) ≡ record { events = x; total = y; last = z }
 added_is a x b y l z e f g = cc
+
+-- ---- the batch is taken back
+
+-- what was kept before may be gone on with once a batch is taken back that has changed no graph
+module _ (known : ℕ) (o : Opening) (old middle new : Live) (sound : IsSoundHistory (Some o) (take known old.history.names) old.history.now old.history.recent.items)
+    (overlay : IsOverlayOf old.history.now.graph (pool_in old.pool)) (names_are : middle.history.names ≡ old.history.names) (graph_is : middle.history.now.graph ≡ old.history.now.graph)
+    (recent_are : middle.history.recent.items ≡ old.history.recent.items) (same : SameOverlay (pool_in old.pool) (pool_in middle.pool)) where
+  cut_live : index_opening middle.history.index ≡ Some o → IsCut known middle new → IsLiveHistory new
+  cut_live index_is cut = record {
+    sound = subst (λ (x : Option Opening × List (List ℕ) × NowState × List Event). IsSoundHistory x.0 x.1 x.2 x.3)
+        (let e : (Some o, take known old.history.names, old.history.now, old.history.recent.items) ≡ (index_opening new.history.index, new.history.names, new.history.now, new.history.recent.items) =
+        λ i. (sym (ap index_opening cut.index ∙ index_is) i, sym (cut.names ∙ ap (take known) names_are) i, sym now_is i, sym (cut.recent ∙ recent_are) i) in e)
+        sound;
+    pool = subst (λ (x : List Element × Option PoolState). IsOverlayOf x.0 x.1)
+        (let e : (old.history.now.graph, pool_in middle.pool) ≡ (new.history.now.graph, pool_in new.pool) = λ i. (sym (cut.graph ∙ graph_is) i, sym cut.pool i) in e)
+        (overlay_stays old.history.now.graph (pool_in old.pool) (pool_in middle.pool) overlay same);
+  }
+    where
+      now_is : new.history.now ≡ old.history.now
+      now_is = λ i. record { graph = (cut.graph ∙ graph_is) i; pending = (cut.pending ∙ sym sound.pending) i }
+
+  pub back_live : (f : BatchFault) (opened : Opening) → index_opening middle.history.index ≡ Some opened → IndexStays f o opened → GivesBack f known middle new → IsLiveHistory new
+  back_live (fault.BadChange line reason) opened is stays back = cut_live (is ∙ ap (λ (x : Opening). Some x) stays) back
+  back_live fault.OldFormat opened is stays back = cut_live (is ∙ ap (λ (x : Opening). Some x) stays) back
+  back_live (fault.FileFull needed most) opened is stays back = cut_live (is ∙ ap (λ (x : Opening). Some x) stays) back
+  back_live (fault.Damaged key col) opened is stays back = cut_live (is ∙ ap (λ (x : Opening). Some x) stays) back
+  back_live fault.Read opened is stays back = cut_live (is ∙ ap (λ (x : Opening). Some x) stays) back
+  back_live fault.Memory opened is stays back = cut_live (is ∙ ap (λ (x : Opening). Some x) stays) back
+  back_live fault.Store opened is stays back = back.0

@@ -52,21 +52,21 @@ module _ (o : Opening) (p : Params) (before : ℕ) (params : p ≡ o.params) (co
   pub range_of : are_parameters o.params.l o.params.k ≡ true → InRange p.l p.k
   range_of parameters = subst (λ (q : Params). InRange q.l q.k) (sym params) (in_range o.params.l o.params.k parameters)
 
-  -- what is due behind the index is due here
-  top_here : (low high count : ℕ) → low ≡ leaves p before → high ≡ leaves p (before + count) → IsTopDue p.k (leaves p before) (leaves p (before + count)) → IsTopDue p.k low high
-  top_here low high count low_is high_is due =
-      subst (λ (x : ℕ × ℕ). IsTopDue p.k x.0 x.1) (let e : (leaves p before, leaves p (before + count)) ≡ (low, high) = λ i. (sym low_is i, sym high_is i) in e) due
+  -- what is due here is due behind the index
+  top_here : (count : ℕ) → IsTopDue p.k (leaves p before) (leaves p (before + count)) → IsTopDue o.params.k (leaves_before o) (leaves_after o count)
+  top_here count due =
+      subst (λ (x : Params × ℕ). IsTopDue x.0.k (leaves x.0 x.1) (leaves x.0 (x.1 + count))) (let e : (p, before) ≡ (o.params, event_total o.batches) = λ i. (params i, counted i) in e) due
 
   -- the deltas are given behind the index, from its current graph
-  pub given_here : (low high : ℕ) (set graph : List Element) (recent events : List Event) (steps deltas : List Delta) → low ≡ leaves p before → high ≡ leaves p (before + length events)
-      → (IsTopDue p.k low high → set ≡ graph) → AreGiven p before set recent events steps deltas → AreGiven o.params (event_total o.batches) graph recent events steps deltas
-  given_here low high set graph recent events steps deltas low_is high_is taken given =
+  pub given_here : (set graph : List Element) (recent events : List Event) (steps deltas : List Delta)
+      → (IsTopDue o.params.k (leaves_before o) (leaves_after o (length events)) → set ≡ graph) → AreGiven p before set recent events steps deltas → AreGiven o.params (event_total o.batches) graph recent events steps deltas
+  given_here set graph recent events steps deltas taken given =
       subst (λ (x : Params × ℕ). AreGiven x.0 x.1 graph recent events steps deltas) (let e : (p, before) ≡ (o.params, event_total o.batches) = λ i. (params i, counted i) in e)
       (record {
         new = given.new;
         new_leaves = given.new_leaves;
         base = given.base;
-        base_is = λ due. given.base_is due ∙ ap (λ (now : List Element). gone_back steps (taken_back now recent)) (taken (top_here low high (length events) low_is high_is due));
+        base_is = λ due. given.base_is due ∙ ap (λ (now : List Element). gone_back steps (taken_back now recent)) (taken (top_here (length events) due));
         are = given.are;
       })
 
@@ -77,9 +77,9 @@ module _ (o : Opening) (p : Params) (before : ℕ) (params : p ≡ o.params) (co
     pub past_recent : recent ≡ recent_of p past
     past_recent = is.recent_is ∙ ap (λ (q : Params). recent_of q past) (sym params)
 
-    pub past_graph : (low high : ℕ) (set : List Element) → low ≡ leaves p before → high ≡ leaves p (before + length events) → (IsTopDue p.k low high → set ≡ graph)
+    pub past_graph : (set : List Element) → (IsTopDue o.params.k (leaves_before o) (leaves_after o (length events)) → set ≡ graph)
         → IsTopDue p.k (leaves p before) (leaves p (before + length events)) → set ≡ replay past
-    past_graph low high set low_is high_is taken due = taken (top_here low high (length events) low_is high_is due) ∙ is.graph_is
+    past_graph set taken due = taken (top_here (length events) due) ∙ is.graph_is
 
     pub past_steps : AreOlderSteps p past (leaves p (before + length events)) steps
     past_steps =

@@ -9,6 +9,7 @@ pub mod BatchSegmentIndex
 pub mod FrontEvents
 pub mod BatchSegmentHistory
 pub mod KeptBatchOutcomes
+pub mod Overlays
 pub mod AddedBatchOutcomes
 pub mod BatchSegmentNames
 pub mod OlderGroupNodes

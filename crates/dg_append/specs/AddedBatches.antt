@@ -1,5 +1,5 @@
 -- How the next batch is added to a history.
-use Rattle.std.specs.Prelude.{◌≡◌, ◌⊎◌, ◌+◌, ◌-◌, ◌*◌, ◌<◌, ◌≤◌, ℕ, true, false, List, [], ◌∷◌, ◌++◌, Option, Some, Result, Ok, Err, IfErr, IfSome, length, take, drop}
+use Rattle.std.specs.Prelude.{◌≡◌, ◌⊎◌, ◌+◌, ◌-◌, ◌*◌, ◌<◌, ◌≤◌, ℕ, true, false, List, [], ◌∷◌, ◌++◌, Option, Some, Result, Ok, Err, IfErr, IfSome, is_some, length, take, drop}
 use Rattle.std.specs.List.{All, sum}
 use Rattle.dg_append.specs.declared.batch.AddedBatch.{AddedBatch}
 use Rattle.dg_append.specs.declared.batch.Batch.{Batch}
@@ -9,6 +9,7 @@ use Rattle.dg_append.specs.declared.front.Front.TheVariants.{Whole}
 use Rattle.dg_append.specs.declared.live.Live.{Live}
 use Rattle.dg_append.specs.Fronts.{ComeTo}
 use Rattle.dg_append.specs.LiveHistories.{IsForgotten}
+use Rattle.dg_append.specs.Overlays.{IsOverlayOf, SameOverlay, SameSlots, pool_in}
 use Rattle.dg_append.specs.OlderChildSteps.{IsNamedDamage}
 use Rattle.dg_append.specs.OlderGroups.{AreUndamaged, in_groups, older_children}
 use Rattle.dg_file.specs.Images.{BothTold, GainsBatch, GainsBatchOrNot}
@@ -34,7 +35,6 @@ use Rattle.dg_index.specs.IndexGrowth.{index_with, needed_for}
 use Rattle.dg_index.specs.OpenedIndex.{Opening, event_total, may_be_named}
 use Rattle.dg_plan.specs.IndexGraph.{arcs_of}
 use Rattle.dg_plan.specs.Walks.{AreSingles}
-use Rattle.dg_pool.specs.Graphs.{SameGraphs, graph_now, slot_graph}
 use Rattle.dg_retrieval.specs.KeptGraph.{record_edges}
 use Rattle.dg_start.specs.declared.stored_history.StoredHistory.{StoredHistory}
 use Rattle.dg_start.specs.StoredHistory.{IsHeldBy, IsKeptOf, IsSoundHistory, index_opening}
@@ -62,12 +62,13 @@ pub record IsReady (o : Opening) (batch : Batch) (h : StoredHistory) : Type 0 wh
   pub fit : batch.front ≡ Whole → All (λ (change : Change). WhatHasNamesThere (length h.names) change.what) batch.changes.items
   pub timed : batch.front ≡ Whole → All (λ (change : Change). change.time ≤ TIME_MAX) batch.changes.items
 
--- The history has an index, the batch may be a next one behind it, and the current graph of the pool is that of the history.
+-- The history has an index, the batch may be a next one behind it, and where there is a pool its current graph is that of
+-- the history.
 pub record MayAdd (batch : Batch) (l : Live) : Type 0 where
   pub index : Opening
   pub there : index_opening l.history.index ≡ Some index
   pub ready : IsReady index batch l.history
-  pub pool : graph_now l.pool.value ≡ l.history.now.graph
+  pub pool : IsOverlayOf l.history.now.graph (pool_in l.pool)
 
 -- the form of the file takes these events: in the first form none of them is a message
 abbrev pub TakesForm : Opening → List Event → Type 0
@@ -109,8 +110,8 @@ MeetsNoDamage before o known count = IfSome before (λ image. AreUndamaged known
 
 -- ---- what is added
 
--- The batch was added: in the file, behind the segments of the index, and in memory. It met no damage, and no graph of
--- a slot has changed.
+-- The batch was added: in the file, behind the segments of the index, and in memory. It met no damage, no graph of a slot
+-- has changed, and there is a pool where there was one.
 pub record AddsBatch (o : Opening) (limit : ℕ) (batch : Batch) (old new : Live) (before after : Option (List ℕ)) (added : AddedBatch) : Type 0 where
   pub events : List Event
   pub segment : Segment
@@ -120,7 +121,8 @@ pub record AddsBatch (o : Opening) (limit : ℕ) (batch : Batch) (old new : Live
   pub names : new.history.names ≡ old.history.names
   pub graph : new.history.now.graph ≡ replay_from old.history.now.graph events
   pub recent : new.history.recent.items ≡ recent_behind o.params (event_total o.batches) old.history.recent.items events
-  pub slots : (s : ℕ) → slot_graph new.pool.value s ≡ slot_graph old.pool.value s
+  pub slots : SameSlots (pool_in old.pool) (pool_in new.pool)
+  pub pool : is_some (pool_in new.pool) ≡ is_some (pool_in old.pool)
   pub gains : BothTold before after (GainsBatch segment)
   pub held : IfSome after (λ image. IsHeldBy (index_opening new.history.index) new.history.names image)
   pub fits : needed_for o segment ≤ limit
@@ -215,7 +217,7 @@ pub record IsAsKnown (known : ℕ) (old new : Live) : Type 0 where
   pub names : new.history.names ≡ take known old.history.names
   pub graph : new.history.now.graph ≡ old.history.now.graph
   pub recent : new.history.recent.items ≡ old.history.recent.items
-  pub graphs : SameGraphs old.pool.value new.pool.value
+  pub graphs : SameOverlay (pool_in old.pool) (pool_in new.pool)
 
 -- after a fault all is as it was; after a failure of a write or sync nothing is kept
 abbrev pub IsBack : BatchFault → ℕ → Live → Live → Type 0

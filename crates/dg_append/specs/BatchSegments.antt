@@ -6,8 +6,8 @@ use Rattle.dg_append.specs.declared.fault.BatchFault.TheVariants as fault
 use Rattle.dg_append.specs.declared.next_batch.NextBatch.{NextBatch}
 use Rattle.dg_append.specs.AddedBatches.{MeetsNoDamage, TakesForm, batch_with, recent_behind}
 use Rattle.dg_append.specs.OlderChildSteps.{IsFirstWideDelta, IsNamedDamage}
-use Rattle.dg_append.specs.OlderGroups.{leaves_after, older_children}
-use Rattle.dg_build.specs.OlderSteps.{AreOlderSteps}
+use Rattle.dg_append.specs.OlderGroups.{leaves_after, leaves_before, older_children}
+use Rattle.dg_build.specs.OlderSteps.{AreOlderSteps, IsTopDue}
 use Rattle.dg_build.specs.SpelledRecords.{last_in_rows}
 use Rattle.dg_columns.specs.NamesInRange.{NamesFit}
 use Rattle.dg_fold.specs.BytesRead.{TakesAtMost}
@@ -54,7 +54,8 @@ pub record MayFollow (o : Opening) (recent events : ListOf Event) : Type 0 where
   pub goes_on : MayGoOn (Some o) recent
 
 -- The batch may be put behind the index, whose events lead to this graph: its events change the graph, its names may
--- follow those that were known, all names of events can be spelled, and the form of the file takes its events.
+-- follow those that were known, all names of events can be spelled, and the form of the file takes its events. Where it
+-- completes an interior node that is the first of its height, it has the graph as a set.
 pub record IsNext (o : Opening) (next : NextBatch) (graph : ListOf Element) : Type 0 where
   pub follows : MayFollow o next.recent.now next.events.now
   pub within : next.known ≤ length next.names.now
@@ -65,6 +66,7 @@ pub record IsNext (o : Opening) (next : NextBatch) (graph : ListOf Element) : Ty
   pub set : IsSet graph
   pub changes : AreChangesOf graph next.events.now
   pub form : TakesForm o next.events.now
+  pub top : IsTopDue o.params.k (leaves_before o) (leaves_after o (length next.events.now)) → next.top.now ≡ graph
 
 -- ---- what is made
 

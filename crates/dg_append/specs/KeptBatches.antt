@@ -1,5 +1,5 @@
 -- What a batch needs before the first write, and how it is put into the file and into the pool, or why not.
-use Rattle.std.specs.Prelude.{◌≡◌, ◌⊎◌, ◌≤◌, ◌<◌, ℕ, List, [], Option, take}
+use Rattle.std.specs.Prelude.{◌≡◌, ◌⊎◌, ◌≤◌, ◌<◌, ℕ, List, [], Option, Some, None, IfSome, take}
 use Rattle.dg_append.specs.declared.batch_commit.MadeBatch.{MadeBatch}
 use Rattle.dg_append.specs.declared.fault.BatchFault.{BatchFault}
 use Rattle.dg_append.specs.declared.fault.BatchFault.TheVariants as fault
@@ -10,6 +10,7 @@ use Rattle.dg_append.specs.AddedBatches.{batch_with, recent_behind}
 use Rattle.dg_append.specs.BatchNets.{led_by}
 use Rattle.dg_append.specs.BatchSegments.{IsBuiltOver, MakesSegment, StandsForKept, StopsSegment}
 use Rattle.dg_append.specs.LiveHistories.{IsForgotten, IsLiveHistory}
+use Rattle.dg_append.specs.Overlays.{SameOverlay, pool_in}
 use Rattle.dg_cells.specs.Rows.{AllHave, Row}
 use Rattle.dg_disk.specs.declared.disk.Disk.{Ghosts}
 use Rattle.dg_file.specs.Calls.{CommitsPart, CommitsSegment}
@@ -24,7 +25,7 @@ use Rattle.dg_index.specs.FileOfHistory.{Segment}
 use Rattle.dg_index.specs.ImageOfHistory.{IsImageOf}
 use Rattle.dg_index.specs.IndexGrowth.{needed_for}
 use Rattle.dg_index.specs.OpenedIndex.{Opening, event_total}
-use Rattle.dg_pool.specs.Graphs.{PoolState, SameGraphs, graph_now, slot_graph}
+use Rattle.dg_pool.specs.Graphs.{PoolState, graph_now, slot_graph}
 
 -- ---- before the first write
 
@@ -37,13 +38,20 @@ pub record HaveCellsFor (rows : List (Option Row)) (nets : Nets) : Type 0 where
 abbrev pub LeadPast : Nets → List Event → Type 0
 LeadPast nets events = (set : List Element) → IsSet set → led_by nets.earlier nets.later set ≡ replay_from set events
 
--- All that the batch needs is made: its segment, the events behind the last closed list once it is there, and its nets
--- with their cells in the pool.
-pub record MakesBatch (before : Option (List ℕ)) (o : Opening) (next : NextBatch) (old new : PoolState) (made : MadeBatch) : Type 0 where
-  pub segment : MakesSegment before o next (graph_now old) made.segment
+-- there are nets where there is a pool, and their cells are in it
+abbrev pub AreNetsFor : Option PoolState → Option Nets → Type 0
+AreNetsFor None None = Unit {0}
+AreNetsFor None (Some nets) = ⊥
+AreNetsFor (Some pool) None = ⊥
+AreNetsFor (Some pool) (Some nets) = HaveCellsFor pool.rows nets
+
+-- All that the batch needs is made: its segment, the events behind the last closed list once it is there, and where there
+-- is a pool its nets with their cells.
+pub record MakesBatch (before : Option (List ℕ)) (o : Opening) (next : NextBatch) (pool : Option PoolState) (made : MadeBatch) : Type 0 where
+  pub segment : MakesSegment before o next next.current.now.graph made.segment
   pub left : made.left.items ≡ recent_behind o.params (event_total o.batches) next.recent.now next.events.now
-  pub cells : HaveCellsFor new.rows made.nets
-  pub leads : LeadPast made.nets next.events.now
+  pub cells : AreNetsFor pool made.nets
+  pub leads : IfSome made.nets (λ nets. LeadPast nets next.events.now)
 
 -- ---- the segment in the file
 
@@ -66,12 +74,26 @@ pub record KeepsBatch {D : Type 0} (g : Ghosts D) (limit : ℕ) (o new : Opening
   pub made : MakesSegment (g.image before) o next graph segment
   pub kept : CommitsSegment g limit o segment new before after
 
--- What is in memory has gone on with the batch: these are the events behind the last closed list, the current graph of
--- the pool is past its events, and no other graph has changed.
-pub record PassesBatch (o : Opening) (next : NextBatch) (left : List Event) (old new : PoolState) : Type 0 where
+-- the current graph of the pool, where there is one, has gone on by these nets, and no other graph has changed
+abbrev pub GoesOnBy : Option Nets → Option PoolState → Option PoolState → Type 0
+GoesOnBy None None None = Unit {0}
+GoesOnBy (Some nets) (Some old) (Some new) =
+    (graph_now new ≡ led_by nets.earlier nets.later (graph_now old)) × ((s : ℕ) → slot_graph new s ≡ slot_graph old s)
+GoesOnBy _ _ _ = ⊥
+
+-- the current graph of the pool, where there is one, is past these events, and no other graph has changed
+abbrev pub GoesPast : List Event → Option PoolState → Option PoolState → Type 0
+GoesPast events None None = Unit {0}
+GoesPast events None (Some new) = ⊥
+GoesPast events (Some old) None = ⊥
+GoesPast events (Some old) (Some new) =
+    (graph_now new ≡ replay_from (graph_now old) events) × ((s : ℕ) → slot_graph new s ≡ slot_graph old s)
+
+-- What is in memory has gone on with the batch: these are the events behind the last closed list, and the pool, where there
+-- is one, is past its events.
+pub record PassesBatch (o : Opening) (next : NextBatch) (left : List Event) (old new : Option PoolState) : Type 0 where
   pub left_is : left ≡ recent_behind o.params (event_total o.batches) next.recent.now next.events.now
-  pub now : graph_now new ≡ replay_from (graph_now old) next.events.now
-  pub slots : (s : ℕ) → slot_graph new s ≡ slot_graph old s
+  pub past : GoesPast next.events.now old new
 
 -- What a crash may leave while the batch is put into the file: over the image of a history of which these are kept, and
 -- which the batch may follow, an image of it without the batch or with it.
@@ -117,9 +139,9 @@ IndexStays fault.Memory old new = new ≡ old
 IndexStays fault.Store old new = Unit {0}
 
 -- So it is, and no graph of the pool has changed.
-pub record StaysBehind (f : BatchFault) (old new : Opening) (before after : PoolState) : Type 0 where
+pub record StaysBehind (f : BatchFault) (old new : Opening) (before after : Option PoolState) : Type 0 where
   pub index : IndexStays f old new
-  pub graphs : SameGraphs before after
+  pub graphs : SameOverlay before after
 
 -- ---- after a fault
 
@@ -130,7 +152,7 @@ pub record IsCut (known : ℕ) (old new : Live) : Type 0 where
   pub graph : new.history.now.graph ≡ old.history.now.graph
   pub pending : new.history.now.pending ≡ []
   pub recent : new.history.recent.items ≡ old.history.recent.items
-  pub pool : new.pool.value ≡ old.pool.value
+  pub pool : pool_in new.pool ≡ pool_in old.pool
 
 -- what a batch that is not added leaves behind is taken back; after a failure of a write or sync nothing is kept
 abbrev pub GivesBack : BatchFault → ℕ → Live → Live → Type 0

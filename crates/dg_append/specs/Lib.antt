@@ -3,6 +3,7 @@ pub mod OlderGroups
 pub mod OlderChildSteps
 pub mod Faults
 pub mod DiskLeft
+pub mod Overlays
 pub mod LiveHistories
 pub mod AddedBatches
 pub mod BatchSegments

@@ -55,10 +55,10 @@ fn give_back(alloc: Global, known: u32, fault: BatchFault, live: &mut Live)
     }
 }
 
-/// Adds the batch to the history, and takes the current graph of the pool on with it: no other graph changes. The file
-/// may have `limit` bytes in use. Where the batch completes an interior node with older children, the records that
-/// lead to them are read first, in groups of 32, each by one tree over the records alone. All memory is taken before the
-/// first write. A crash at any moment leaves the history without the batch or with it.
+/// Adds the batch to the history, and takes the current graph of the pool, where there is one, on with it: no other graph
+/// changes. The file may have `limit` bytes in use. Where the batch completes an interior node with older children, the
+/// records that lead to them are read first, in groups of 32, each by one tree over the records alone. All memory is taken
+/// before the first write. A crash at any moment leaves the history without the batch or with it.
 ///
 /// `BatchFault::BadChange` for the least line that is refused, and behind it `BatchFault::OldFormat` where a line is a
 /// message and the file is in its first form, both with nothing read; `BatchFault::FileFull` with the bytes that would be
@@ -101,15 +101,20 @@ pub fn add_batch<R: Threads, D: Disk>(
     index.facts();
     history.now.facts();
     // The changes are dropped with this, and the events held where they are pending: one copy of the batch.
-    if let Err(fault) = complete(index, &mut history.now, batch) {
-        give_back(alloc, known, fault, live);
-        return Err(fault);
-    }
+    let top = match complete(alloc, index, &mut history.now, batch) {
+        Ok(top) => top,
+        Err(fault) => {
+            give_back(alloc, known, fault, live);
+            return Err(fault);
+        }
+    };
     let events = history.now.pending();
     let next = NextBatch {
         known,
         names: &history.names,
         recent: &history.recent,
+        current: &history.now,
+        top: &top,
         events,
     };
     match keep_batch(rt, alloc, limit, index, &next, pool, disk) {

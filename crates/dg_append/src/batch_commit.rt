@@ -4,10 +4,10 @@ ghost use Rattle.std.specs.Prelude.{◌≡◌, ◌≤◌, Some, take, IfOk, IfEr
 ghost use Rattle.dg_append.specs.BatchSegments.{IsNext, StopsSegment, TakesSinglesOver};
 ghost use Rattle.dg_append.specs.DiskLeft.{LeavesDisk};
 ghost use Rattle.dg_append.specs.KeptBatches.{GainsNextOrNot, KeepsBatch, MakesBatch, PassesBatch, StaysBehind, StopsBatch};
+ghost use Rattle.dg_append.specs.Overlays.{SameOverlay, pool_in};
 ghost use Rattle.dg_disk.specs.Calls.{Fails, ReadsDisk};
 ghost use Rattle.dg_file.specs.Images.{IsOpenedAs};
 ghost use Rattle.dg_history.specs.declared.limits.TheConstants.{FILE_BYTES_MAX};
-ghost use Rattle.dg_pool.specs.Graphs.{SameGraphs, graph_now};
 ghost use Rattle.dg_start.specs.StoredHistory.{IsHeldBy};
 
 use crate::batch_segment::make_segment;
@@ -22,6 +22,7 @@ use dg_graph::Event;
 use dg_pool::Pool;
 use dg_segment::Segment;
 use std::alloc::Global;
+use std::boxed::Box;
 use std::thread::Threads;
 
 /// What a batch needs, all of it made before the first write.
@@ -31,37 +32,37 @@ struct MadeBatch {
     segment: Segment,
     /// The events behind the last closed list, once the batch is there.
     left: Vec<Event>,
-    /// The nets of the batch.
-    nets: Nets,
+    /// The nets of the batch, where there is a pool.
+    nets: Option<Nets>,
 }
 
-// What the batch needs behind the index; the arguments are those of `make_segment`. No graph changes.
+// What the batch needs behind the index; the arguments are those of `make_segment`, and the pool. No graph changes.
 fn make_batch<R: Threads, D: Disk>(
     rt: &R,
     alloc: Global,
     index: &mut Index,
     next: &NextBatch,
-    pool: &mut Pool,
+    pool: &mut Option<Box<Pool>>,
     disk: &mut D,
 ) -> Result<MadeBatch, BatchFault>
     requires image { IfSome (D.image disk.old) (λ image. IsOpenedAs image index.old.opening) }
-    requires next { IsNext index.old.opening next.now (graph_now pool.old) }
-    ensures made { IfOk result (MakesBatch (D.image disk.old) index.old.opening next.now pool.old pool.new) }
+    requires next { IsNext index.old.opening next.now next.now.current.now.graph }
+    ensures made { IfOk result (MakesBatch (D.image disk.old) index.old.opening next.now (pool_in pool.new)) }
 
     // the bytes read
-    ensures most { TakesSinglesOver (D.image disk.old) index.old.opening next.now (graph_now pool.old) (D.taken disk.old) (D.taken disk.new) }
+    ensures most { TakesSinglesOver (D.image disk.old) index.old.opening next.now next.now.current.now.graph (D.taken disk.old) (D.taken disk.new) }
 
     // why it is not made
-    ensures fails { IfErr result (StopsSegment (D.image disk.old) index.old.opening next.now (graph_now pool.old)) }
+    ensures fails { IfErr result (StopsSegment (D.image disk.old) index.old.opening next.now next.now.current.now.graph) }
     ensures cause { IsErrOf result BatchFault.Read → Fails D.Disk disk.old disk.new }
 
     // what it leaves
     ensures same { index.new ≡ index.old }
-    ensures graphs { SameGraphs pool.old pool.new }
+    ensures graphs { SameOverlay (pool_in pool.old) (pool_in pool.new) }
     ensures disk { ReadsDisk D.Disk disk.old disk.new }
 {
     let left = recent_behind(alloc, index, next.recent, next.events)?;
-    let segment = make_segment(rt, alloc, index, next, pool, disk)?;
+    let segment = make_segment(rt, alloc, index, next, disk)?;
     // Made only now, so that they take no memory while the segment is made.
     let nets = make_nets(alloc, next.events, pool)?;
     Ok(MadeBatch {
@@ -72,8 +73,8 @@ fn make_batch<R: Threads, D: Disk>(
 }
 
 /// Puts the batch into the file, which may have `limit` bytes in use, behind the index, and takes the current graph of
-/// `pool` on by it. It gives the events behind the last closed list, once the batch is there. All memory is taken before
-/// the first write.
+/// the pool, where there is one, on by it. It gives the events behind the last closed list, once the batch is there. All
+/// memory is taken before the first write.
 ///
 /// `FileFull` with the bytes that would be in use, where they are more than `limit`; `Damaged` and `Read` where the
 /// older children cannot be read; `Memory` for want of memory; then the index is as it was. `Store` where the disk
@@ -84,26 +85,26 @@ pub(crate) fn keep_batch<R: Threads, D: Disk>(
     limit: u64,
     index: &mut Index,
     next: &NextBatch,
-    pool: &mut Pool,
+    pool: &mut Option<Box<Pool>>,
     disk: &mut D,
 ) -> Result<Vec<Event>, BatchFault>
     requires limit { limit ≤ FILE_BYTES_MAX }
     requires image { IfSome (D.image disk.old) (IsHeldBy (Some index.old.opening) (take next.now.known next.now.names.now)) }
-    requires next { IsNext index.old.opening next.now (graph_now pool.old) }
+    requires next { IsNext index.old.opening next.now next.now.current.now.graph }
 
     // the batch in the file and in memory
-    ensures kept { IfOk result (λ _. KeepsBatch D.Disk limit index.old.opening index.new.opening next.now (graph_now pool.old) disk.old disk.new) }
-    ensures passed { IfOk result (λ left. PassesBatch index.old.opening next.now left.items pool.old pool.new) }
+    ensures kept { IfOk result (λ _. KeepsBatch D.Disk limit index.old.opening index.new.opening next.now next.now.current.now.graph disk.old disk.new) }
+    ensures passed { IfOk result (λ left. PassesBatch index.old.opening next.now left.items (pool_in pool.old) (pool_in pool.new)) }
 
     // the bytes read
-    ensures most { TakesSinglesOver (D.image disk.old) index.old.opening next.now (graph_now pool.old) (D.taken disk.old) (D.taken disk.new) }
+    ensures most { TakesSinglesOver (D.image disk.old) index.old.opening next.now next.now.current.now.graph (D.taken disk.old) (D.taken disk.new) }
 
     // why it is not kept
-    ensures fails { IfErr result (StopsBatch limit index.old.opening next.now (graph_now pool.old) (D.image disk.old) (D.image disk.new)) }
-    ensures back { IfErr result (λ fault. StaysBehind fault index.old.opening index.new.opening pool.old pool.new) }
+    ensures fails { IfErr result (StopsBatch limit index.old.opening next.now next.now.current.now.graph (D.image disk.old) (D.image disk.new)) }
+    ensures back { IfErr result (λ fault. StaysBehind fault index.old.opening index.new.opening (pool_in pool.old) (pool_in pool.new)) }
 
     // what it leaves of the disk, and what a crash leaves
-    ensures disk { LeavesDisk D.Disk (GainsNextOrNot index.old.opening next.now (graph_now pool.old)) disk.old disk.new result }
+    ensures disk { LeavesDisk D.Disk (GainsNextOrNot index.old.opening next.now next.now.current.now.graph) disk.old disk.new result }
 {
     let made = make_batch(rt, alloc, index, next, pool, disk)?;
     keep_segment(index, disk, made.segment, limit)?;

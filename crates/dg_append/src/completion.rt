@@ -1,22 +1,27 @@
 //! What the changes of a batch come to.
 
-ghost use Rattle.std.specs.Prelude.{◌≡◌, ◌≤◌, ◌<◌, ◌^◌, ◌++◌, ◌∷◌, List, [], Option, None, Ok, length, IfErr, IfSome, IfNone, OnErr, OnOk};
+ghost use Rattle.std.specs.Prelude.{◌≡◌, ◌≤◌, ◌<◌, ◌+◌, ◌^◌, ◌++◌, ◌∷◌, List, [], Option, None, Ok, length, IfOk, IfErr, IfSome, IfNone, OnErr, OnOk};
 ghost use Rattle.dg_append.specs.AddedBatches.{IsRefused, TakesForm};
 ghost use Rattle.dg_append.specs.Fronts.{IsFront, lines};
 ghost use Rattle.dg_graph.specs.declared.event.Change.{Change};
 ghost use Rattle.dg_graph.specs.declared.event.Event.{Event};
 ghost use Rattle.dg_graph.specs.CompletedChanges.{completed};
 ghost use Rattle.dg_history.specs.LegalHistory.{are_silent, is_message};
-ghost use Rattle.dg_index.specs.OpenedIndex.{earliest_in};
-ghost use Rattle.dg_history.specs.declared.limits.TheConstants.{BATCH_LINES_MAX};
+ghost use Rattle.dg_append.specs.OlderGroups.{leaves_after, leaves_before};
+ghost use Rattle.dg_build.specs.OlderSteps.{IsTopDue};
+ghost use Rattle.dg_index.specs.OpenedIndex.{earliest_in, event_total};
+ghost use Rattle.dg_history.specs.declared.limits.TheConstants.{BATCH_LINES_MAX, EVENTS_MAX};
 ghost use Rattle.dg_current.specs.Now.{FaultOf, earliest_time_after};
 
 use crate::batch::Batch;
+use crate::current_set::top_set;
 use crate::fault::BatchFault;
 use crate::front::Front;
 use dg_current::{Now, PrepareFault};
 use dg_file::Index;
 use dg_graph::{Body, Change, Event, REASON_FORM};
+use dg_set::Set;
+use std::alloc::Global;
 
 // Why the changes are refused, if they are, before a line that is no change. The graph has nothing
 // pending, before and after.
@@ -113,23 +118,32 @@ fn prepare(
 }
 
 /// Completes the batch behind the index. Its events are pending then, and the form of the file takes them; the changes are
-/// dropped.
+/// dropped. It gives the graph before the batch as a set, where the batch completes an interior node that is the first of
+/// its height, else any set: it is made before a line is completed, so that nothing has to be taken back from it.
 ///
 /// `BatchFault::BadChange` for the least line that is refused; where none is, `BatchFault::OldFormat` where one is a message
 /// and the file is in its first form, with the events pending; `BatchFault::Memory` for want of memory.
-pub(crate) fn complete(index: &Index, now: &mut Now, batch: Batch) -> Result<(), BatchFault>
+pub(crate) fn complete(
+    alloc: Global,
+    index: &Index,
+    now: &mut Now,
+    batch: Batch,
+) -> Result<Set, BatchFault>
     requires none_pending { now.old.pending ≡ [] }
     requires some { batch.front ≡ Front.Whole → 1 ≤ length batch.changes.items }
     requires few { length batch.changes.items ≤ BATCH_LINES_MAX }
+    requires room { event_total index.now.opening.batches + length batch.changes.items ≤ EVENTS_MAX }
+    ensures top { IfOk result (λ set. IsTopDue index.now.opening.params.k (leaves_before index.now.opening) (leaves_after index.now.opening (length batch.changes.items)) → set ≡ now.old.graph) }
     ensures whole { OnOk result (batch.front ≡ Front.Whole) }
     ensures done { OnOk result (completed 1 (earliest_in 0 index.now.opening.batches) now.old.graph (lines batch.changes.items) ≡ Ok now.new.pending) }
     ensures form { OnOk result (TakesForm index.now.opening now.new.pending) }
     ensures refused { IfErr result (IsRefused index.now.opening now.old.graph batch) }
     ensures same_graph { now.new.graph ≡ now.old.graph }
 {
+    let top = top_set(alloc, index, now, batch.changes.len() as u64)?;
     prepare(now, last_of(index), batch.front, batch.changes)?;
     if !index.is_wide() && !are_silent(now.pending()) {
         return Err(BatchFault::OldFormat);
     }
-    Ok(())
+    Ok(top)
 }

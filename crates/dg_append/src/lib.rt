@@ -7,6 +7,7 @@ mod batch;
 mod batch_commit;
 mod batch_segment;
 mod completion;
+mod current_set;
 mod fault;
 mod front;
 mod live;

@@ -1,29 +1,51 @@
-//! A history and the pool of its current graph, which go on together.
+//! A history and the pool in which graphs are overlaid on its current one, which go on together.
 
+ghost use Rattle.std.specs.Prelude.{◌≡◌, OnErr, OnOk, is_some, true};
 ghost use Rattle.dg_append.specs.LiveHistories.{IsForgotten, IsLiveHistory};
+ghost use Rattle.dg_append.specs.Overlays.{SameSlots, pool_in};
 
 use dg_pool::Pool;
 use dg_start::StoredHistory;
-use std::alloc::Global;
+use std::alloc::{AllocError, Global};
 use std::boxed::Box;
 use std::mem;
 
-/// A history that is kept beside its index, and the pool in which its current graph is overlaid with others.
+/// A history that is kept beside its index, and the pool in which its current graph is overlaid with others. The pool is
+/// made with the first of these: until then the history alone keeps the current graph, and a batch costs nothing more.
 #[derive(Drop)]
 pub struct Live {
     /// The history.
     pub history: StoredHistory,
-    /// The pool. On the heap: it is large.
-    pub pool: Box<Pool>,
+    /// The pool, once graphs are overlaid. On the heap: it is large.
+    pub pool: Option<Box<Pool>>,
 }
 
 impl Live {
+    /// Makes the pool, unless there is one. No graph of a slot changes. An `Err` says that memory ran out; then nothing has
+    /// changed.
+    pub fn overlay(&mut self, alloc: Global) -> Result<(), AllocError>
+        requires { IsLiveHistory self.old }
+        ensures made { OnOk result (is_some self.new.pool ≡ true) }
+        ensures history { self.new.history ≡ self.old.history }
+        ensures slots { SameSlots (pool_in self.old.pool) (pool_in self.new.pool) }
+        ensures live { IsLiveHistory self.new }
+        ensures err { OnErr result (self.new ≡ self.old) }
+    {
+        if self.pool.is_some() {
+            return Ok(());
+        }
+        let set = self.history.now.set_past(alloc)?;
+        let pool = Pool::from_set(alloc, &set)?;
+        self.pool = Some(Box::new(alloc, pool)?);
+        Ok(())
+    }
+
     /// Forgets the history and all graphs. Takes no memory.
     pub fn forget(&mut self, alloc: Global)
         ensures none { IsForgotten self.new }
         ensures live { IsLiveHistory self.new }
     {
         drop(mem::replace(&mut self.history, StoredHistory::empty(alloc)));
-        drop(mem::replace(&mut *self.pool, Pool::new(alloc)));
+        self.pool = None;
     }
 }

@@ -1,15 +1,17 @@
-//! How the current graph of a pool goes on with a batch: by the nets of the two halves of its events. They are not
-//! composed, so that a long batch takes no memory for what both of them name.
+//! How the current graph of a pool, where there is one, goes on with a batch: by the nets of the two halves of its
+//! events. They are not composed, so that a long batch takes no memory for what both of them name.
 
-ghost use Rattle.std.specs.Prelude.{◌≡◌, ℕ, IfOk, OnOk};
+ghost use Rattle.std.specs.Prelude.{◌≡◌, ℕ, IfOk, IfSome, OnOk};
 ghost use Rattle.dg_append.specs.BatchNets.{led_by};
-ghost use Rattle.dg_append.specs.KeptBatches.{HaveCellsFor, LeadPast};
+ghost use Rattle.dg_append.specs.KeptBatches.{AreNetsFor, GoesOnBy, HaveCellsFor, LeadPast};
+ghost use Rattle.dg_append.specs.Overlays.{SameOverlay, pool_in};
 ghost use Rattle.dg_pool.specs.Graphs.{SameGraphs, graph_now, slot_graph};
 
 use dg_graph::Event;
 use dg_net::{Delta, whole_net};
 use dg_pool::Pool;
 use std::alloc::{AllocError, Global};
+use std::boxed::Box;
 
 /// The nets of the events' two halves.
 #[derive(Drop)]
@@ -41,28 +43,43 @@ fn make_cells(pool: &mut Pool, nets: &Nets) -> Result<(), AllocError>
     Ok(())
 }
 
-/// The nets of the events, with a cell in the pool for each element that one of them brings. No graph changes. An
-/// `Err` says that memory ran out.
+/// The nets of the events, where there is a pool, with a cell in it for each element that one of them brings. No graph
+/// changes. An `Err` says that memory ran out.
 pub(crate) fn make_nets(
     alloc: Global,
     events: &[Event],
-    pool: &mut Pool,
-) -> Result<Nets, AllocError>
-    ensures graphs { SameGraphs pool.old pool.new }
-    ensures cells { IfOk result (λ nets. HaveCellsFor pool.new.rows nets) }
-    ensures leads { IfOk result (λ nets. LeadPast nets events.now) }
+    pool: &mut Option<Box<Pool>>,
+) -> Result<Option<Nets>, AllocError>
+    ensures graphs { SameOverlay (pool_in pool.old) (pool_in pool.new) }
+    ensures cells { IfOk result (AreNetsFor (pool_in pool.new)) }
+    ensures leads { IfOk result (λ nets. IfSome nets (λ n. LeadPast n events.now)) }
 {
-    let nets = nets_of(alloc, events)?;
-    make_cells(pool, &nets)?;
-    Ok(nets)
+    match pool {
+        Some(pool) => {
+            let nets = nets_of(alloc, events)?;
+            make_cells(pool, &nets)?;
+            Ok(Some(nets))
+        }
+        None => Ok(None),
+    }
 }
 
-/// Takes the current graph of the pool on by the nets, the earlier first. No other graph changes.
-pub(crate) fn pass_batch(pool: &mut Pool, nets: &Nets)
-    requires cells { HaveCellsFor pool.old.rows nets.now }
+// Takes the current graph of the pool on by the nets, the earlier first. No other graph changes.
+fn pass_nets(pool: &mut Pool, nets: &Nets)
+    requires { HaveCellsFor pool.old.rows nets.now }
     ensures now { graph_now pool.new ≡ led_by nets.now.earlier nets.now.later (graph_now pool.old) }
     ensures slots { (s : ℕ) → slot_graph pool.new s ≡ slot_graph pool.old s }
 {
     pool.pass(&nets.earlier);
     pool.pass(&nets.later);
+}
+
+/// Takes the current graph of the pool, where there is one, on by the nets. No other graph changes.
+pub(crate) fn pass_batch(pool: &mut Option<Box<Pool>>, nets: &Option<Nets>)
+    requires { AreNetsFor (pool_in pool.old) nets.now }
+    ensures { GoesOnBy nets.now (pool_in pool.old) (pool_in pool.new) }
+{
+    if let (Some(pool), Some(nets)) = (pool, nets) {
+        pass_nets(pool, nets);
+    }
 }

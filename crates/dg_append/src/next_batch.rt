@@ -1,7 +1,9 @@
 //! A batch whose events are known, with what it follows.
 
+use dg_current::Now;
 use dg_graph::Event;
 use dg_names::Names;
+use dg_set::Set;
 
 /// A batch whose events are known, with the names and the events that it follows.
 #[derive(Drop)]
@@ -12,6 +14,10 @@ pub(crate) struct NextBatch<'a> {
     pub(crate) names: &'a Names,
     /// The events behind the last closed list.
     pub(crate) recent: &'a [Event],
+    /// The current graph before the batch, with its events pending.
+    pub(crate) current: &'a Now,
+    /// This graph as a set, where the batch completes an interior node that is the first of its height; else any set.
+    pub(crate) top: &'a Set,
     /// The events of the batch.
     pub(crate) events: &'a [Event],
 }

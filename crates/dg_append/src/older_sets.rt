@@ -15,12 +15,13 @@ ghost use Rattle.dg_graph.specs.ExactEvents.{AreChangesOf};
 ghost use Rattle.dg_graph.specs.Replay.{replay_from};
 ghost use Rattle.dg_history.specs.declared.node.NodeId.{NodeId};
 ghost use Rattle.dg_history.specs.History.{History};
-ghost use Rattle.dg_pool.specs.Graphs.{graph_now};
 ghost use Rattle.dg_retrieval.specs.Calls.{GivesSetsOver, ReadsRecords};
 ghost use Rattle.dg_retrieval.specs.KeptGraph.{record_edges, record_nodes};
 ghost use Rattle.dg_retrieval.specs.NodeSets.{HasNoEvents, IsIndexOver};
 
+use crate::current_set::set_before;
 use crate::next_batch::NextBatch;
+use dg_current::Now;
 use dg_delta::Delta;
 use dg_disk::Disk;
 use dg_file::Index;
@@ -28,7 +29,6 @@ use dg_graph::Event;
 use dg_history::NodeId;
 use dg_net::net_back;
 use dg_planner::Planner;
-use dg_pool::Pool;
 use dg_retrieval::{RetrievalFault, node_sets};
 use dg_set::Set;
 use std::alloc::{AllocError, Global};
@@ -82,12 +82,12 @@ fn read_groups<R: Threads, D: Disk>(
     Ok(sets)
 }
 
-// The set of the last leaf, from the current graph and the events behind that leaf.
-fn last_leaf(alloc: Global, pool: &Pool, recent: &[Event]) -> Result<Set, AllocError>
-    ensures back { IfOk result (λ leaf. leaf ≡ taken_back (graph_now pool.now) recent.now) }
-    ensures is { IfOk result (λ leaf. (set : List Element) → IsSet set → AreChangesOf set recent.now → graph_now pool.now ≡ replay_from set recent.now → leaf ≡ set) }
+// The set of the last leaf, from the current graph before the batch and the events behind that leaf.
+fn last_leaf(alloc: Global, current: &Now, recent: &[Event]) -> Result<Set, AllocError>
+    ensures back { IfOk result (λ leaf. leaf ≡ taken_back current.now.graph recent.now) }
+    ensures is { IfOk result (λ leaf. (set : List Element) → IsSet set → AreChangesOf set recent.now → current.now.graph ≡ replay_from set recent.now → leaf ≡ set) }
 {
-    let now = pool.now_set(alloc)?;
+    let now = set_before(alloc, current)?;
     // Its clause says that the set rises.
     now.items();
     let back = net_back(alloc, recent)?;
@@ -157,7 +157,7 @@ fn steps_between(
 }
 
 /// The exact steps from each of the nodes in time to the next, and from the last to the last leaf, by the sets of all the
-/// nodes and of that leaf, which is led back to from the current graph of `pool`. The sets are read in groups of
+/// nodes and of that leaf, which is led back to from the current graph before the batch. The sets are read in groups of
 /// `GROUP_MAX`, each by one tree over the records alone, with all their columns.
 ///
 /// `Disk` where a read failed, `Damaged` with the first column that is in no spelling in the first group that has one,
@@ -167,7 +167,6 @@ pub(crate) fn steps_by_sets<R: Threads, D: Disk>(
     alloc: Global,
     index: &mut Index,
     next: &NextBatch,
-    pool: &Pool,
     disk: &mut D,
     planner: &Planner,
     nodes: &[NodeId],
@@ -183,18 +182,18 @@ pub(crate) fn steps_by_sets<R: Threads, D: Disk>(
 
     // the steps, and over an image of a history which they are and the bytes read
     ensures count { IfOk result (λ steps. length steps.items ≡ length in_time.now) }
-    ensures over { IfSome (D.image disk.old) (λ image. (z : History) → StandsForKept z image index.old.opening next.now (graph_now pool.now)
+    ensures over { IfSome (D.image disk.old) (λ image. (z : History) → StandsForKept z image index.old.opening next.now next.now.current.now.graph
         → GivesOlderSteps z (record_edges index.old.opening) nodes.now in_time.now (D.taken disk.old) (D.taken disk.new) result) }
 
     // over whatever image: which steps the records lead to, and where these are damaged
     ensures led { IfSome (D.image disk.old) (λ image. IfOk result (λ steps.
-        AreLedBySets next.now.known image index.old.opening nodes.now in_time.now (taken_back (graph_now pool.now) next.now.recent.now) steps.items)) }
+        AreLedBySets next.now.known image index.old.opening nodes.now in_time.now (taken_back next.now.current.now.graph next.now.recent.now) steps.items)) }
     ensures damage { IfSome (D.image disk.old) (λ image. TellsGroupDamage next.now.known index.old.opening image nodes.now result) }
 
     // what it leaves, and why a read failed
     ensures reads { ReadsRecords D.Disk index.old index.new disk.old disk.new result }
 {
     let sets = read_groups(rt, alloc, index, disk, next.known, planner, nodes)?;
-    let leaf = last_leaf(alloc, pool, next.recent)?;
+    let leaf = last_leaf(alloc, next.current, next.recent)?;
     Ok(steps_between(alloc, nodes, &sets, in_time, &leaf)?)
 }

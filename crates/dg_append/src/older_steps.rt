@@ -11,7 +11,6 @@ ghost use Rattle.dg_history.specs.declared.node.NodeId.{NodeId};
 ghost use Rattle.dg_history.specs.declared.node.NodeId.TheVariants.{Leaf};
 ghost use Rattle.dg_history.specs.History.{History};
 ghost use Rattle.dg_index.specs.OpenedIndex.{event_total};
-ghost use Rattle.dg_pool.specs.Graphs.{graph_now};
 ghost use Rattle.dg_retrieval.specs.Calls.{ReadsRecords};
 ghost use Rattle.dg_retrieval.specs.KeptGraph.{record_edges, record_nodes, shape_with};
 ghost use Rattle.dg_retrieval.specs.NodeSets.{HasNoEvents, IsIndexOver};
@@ -25,7 +24,6 @@ use dg_disk::Disk;
 use dg_file::Index;
 use dg_history::{NodeId, Params};
 use dg_planner::Planner;
-use dg_pool::Pool;
 use dg_retrieval::{ALL_COLUMNS, RetrievalFault};
 use dg_steps::node_steps;
 use std::alloc::{AllocError, Global};
@@ -115,7 +113,6 @@ fn steps_of<R: Threads, D: Disk>(
     alloc: Global,
     index: &mut Index,
     next: &NextBatch,
-    pool: &Pool,
     disk: &mut D,
     nodes: &[NodeId],
     in_time: &[NodeId],
@@ -129,12 +126,12 @@ fn steps_of<R: Threads, D: Disk>(
 
     // the steps, and over an image of a history which they are and the bytes read
     ensures count { IfOk result (λ steps. length steps.items ≡ length in_time.now) }
-    ensures over { IfSome (D.image disk.old) (λ image. (z : History) → StandsForKept z image index.old.opening next.now (graph_now pool.now)
+    ensures over { IfSome (D.image disk.old) (λ image. (z : History) → StandsForKept z image index.old.opening next.now next.now.current.now.graph
         → GivesOlderSteps z (record_edges index.old.opening) nodes.now in_time.now (D.taken disk.old) (D.taken disk.new) result) }
 
     // over whatever image: which steps the records lead to, and where these are damaged
     ensures led { IfSome (D.image disk.old) (λ image. IfOk result (λ steps.
-        AreLedOlder next.now.known image index.old.opening nodes.now in_time.now next.now.recent.now (graph_now pool.now) steps.items)) }
+        AreLedOlder next.now.known image index.old.opening nodes.now in_time.now next.now.recent.now next.now.current.now.graph steps.items)) }
     ensures damage { IfSome (D.image disk.old) (λ image. TellsGroupDamage next.now.known index.old.opening image nodes.now result) }
 
     // what it leaves, and why a read failed
@@ -144,13 +141,12 @@ fn steps_of<R: Threads, D: Disk>(
     if has_one_tree(index, nodes, in_time) {
         steps_by_tree(rt, alloc, index, next.known, disk, &planner, nodes, in_time)
     } else {
-        steps_by_sets(rt, alloc, index, next, pool, disk, &planner, nodes, in_time)
+        steps_by_sets(rt, alloc, index, next, disk, &planner, nodes, in_time)
     }
 }
 
 /// The exact steps of the older children of the interior nodes that the batch completes behind the index, in the order of
-/// time: from each to the next, and from the last to the last leaf. The current graph of `pool` is that before the batch.
-/// Where there are none nothing is planned or read.
+/// time: from each to the next, and from the last to the last leaf. Where there are none nothing is planned or read.
 ///
 /// They are read in groups of `GROUP_MAX`, by height and number, each by one tree over the records alone, with all their
 /// columns. Where one group has all of them and the last leaf is among them, the steps are those of its tree, and no set is
@@ -164,16 +160,15 @@ pub(crate) fn older_steps<R: Threads, D: Disk>(
     alloc: Global,
     index: &mut Index,
     next: &NextBatch,
-    pool: &Pool,
     disk: &mut D,
 ) -> Result<Vec<Delta>, RetrievalFault>
     requires image { IfSome (D.image disk.old) (λ image. IsOpenedAs image index.old.opening) }
-    requires next { IsNext index.old.opening next.now (graph_now pool.now) }
+    requires next { IsNext index.old.opening next.now next.now.current.now.graph }
 
     // the steps, and over an image of a history which they are and the bytes read: at most those of the single plans
     ensures count { IfOk result (λ steps. length steps.items
         ≡ length (older_in_time index.old.opening.params.k (leaves_before index.old.opening) (leaves_after index.old.opening (length next.now.events.now)))) }
-    ensures over { IfSome (D.image disk.old) (λ image. (z : History) → StandsForKept z image index.old.opening next.now (graph_now pool.now)
+    ensures over { IfSome (D.image disk.old) (λ image. (z : History) → StandsForKept z image index.old.opening next.now next.now.current.now.graph
         → GivesOlderSteps z (record_edges index.old.opening) (older_children index.old.opening (length next.now.events.now))
         (older_in_time index.old.opening.params.k (leaves_before index.old.opening) (leaves_after index.old.opening (length next.now.events.now)))
         (D.taken disk.old) (D.taken disk.new) result) }
@@ -182,7 +177,7 @@ pub(crate) fn older_steps<R: Threads, D: Disk>(
     ensures led { IfSome (D.image disk.old) (λ image. IfOk result (λ steps.
         AreLedOlder next.now.known image index.old.opening (older_children index.old.opening (length next.now.events.now))
         (older_in_time index.old.opening.params.k (leaves_before index.old.opening) (leaves_after index.old.opening (length next.now.events.now)))
-        next.now.recent.now (graph_now pool.now) steps.items)) }
+        next.now.recent.now next.now.current.now.graph steps.items)) }
     ensures damage { IfSome (D.image disk.old) (λ image. TellsGroupDamage next.now.known index.old.opening image (older_children index.old.opening (length next.now.events.now)) result) }
 
     // what it leaves, and why a read failed
@@ -195,5 +190,5 @@ pub(crate) fn older_steps<R: Threads, D: Disk>(
     if nodes.is_empty() {
         return Ok(Vec::new(alloc));
     }
-    steps_of(rt, alloc, index, next, pool, disk, &nodes, &in_time)
+    steps_of(rt, alloc, index, next, disk, &nodes, &in_time)
 }

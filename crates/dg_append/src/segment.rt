@@ -5,7 +5,7 @@ ghost use Rattle.dg_append.specs.AddedBatches.{batch_with};
 ghost use Rattle.dg_append.specs.BatchSegments.{IsNext, IsPast, IsSegmentBehind, IsUnmade};
 ghost use Rattle.dg_append.specs.KeptBatches.{StopsKeeping};
 ghost use Rattle.dg_append.specs.OlderGroups.{leaves_after, leaves_before};
-ghost use Rattle.dg_build.specs.OlderSteps.{IsTopDue, older_in_time};
+ghost use Rattle.dg_build.specs.OlderSteps.{older_in_time};
 ghost use Rattle.dg_disk.specs.Calls.{LeftByCrash, WritesDisk};
 ghost use Rattle.dg_file.specs.Calls.{CommitsSegment};
 ghost use Rattle.dg_file.specs.Images.{Fits, GainsBatchOrNot};
@@ -16,11 +16,10 @@ ghost use Rattle.dg_index.specs.FileOfHistory.{segment_of};
 ghost use Rattle.dg_index.specs.IndexGrowth.{IsDue};
 ghost use Rattle.dg_index.specs.IndexRecords.{deltas_due};
 ghost use Rattle.dg_index.specs.OpenedIndex.{event_total};
-ghost use Rattle.dg_pool.specs.Graphs.{graph_now};
 
 use crate::fault::BatchFault;
 use crate::next_batch::NextBatch;
-use dg_build::{BuildFault, build, is_top_due};
+use dg_build::{BuildFault, build};
 use dg_catalogue::{keys_due, leaves};
 use dg_delta::Delta;
 use dg_disk::Disk;
@@ -28,9 +27,7 @@ use dg_file::{CommitFault, Index};
 use dg_graph::{Column, Event};
 use dg_history::Key;
 use dg_names::Names;
-use dg_pool::Pool;
 use dg_segment::Segment;
-use dg_set::Set;
 use std::alloc::{AllocError, Global};
 
 /// The instant of the first event, or 0 where there is none.
@@ -66,25 +63,6 @@ fn add_names(segment: &mut Segment, names: &Names, known: u32) -> Result<(), All
     Ok(())
 }
 
-// The current graph of the pool, where so many leaves behind so many complete an interior node that is the first of its
-// height; else any set.
-fn completed_set(
-    alloc: Global,
-    pool: &Pool,
-    arity: u32,
-    before: u32,
-    after: u32,
-) -> Result<Set, AllocError>
-    requires { 2 ≤ arity }
-    ensures { IfOk result (λ set. IsTopDue arity before after → set ≡ graph_now pool.now) }
-{
-    if is_top_due(arity, before, after) {
-        pool.now_set(alloc)
-    } else {
-        Ok(Set::new(alloc))
-    }
-}
-
 // The key of the delta at this index, from 0, among those that a batch of so many events gives.
 fn delta_key(
     alloc: Global,
@@ -115,8 +93,8 @@ fn begun(alloc: Global, names: &Names, known: u32, events: &[Event]) -> Result<S
     Ok(segment)
 }
 
-/// The segment of the batch behind the index. The current graph of `pool` is that before the batch, and `older` has the
-/// exact steps of the older children of the interior nodes that the batch completes, in the order of time.
+/// The segment of the batch behind the index; `older` has the exact steps of the older children of the interior nodes that
+/// the batch completes, in the order of time.
 ///
 /// `Damaged` names the first due delta that has more elements than its column can count, and its structure; `Memory` says
 /// that memory ran out.
@@ -124,17 +102,16 @@ pub(crate) fn segment_of(
     alloc: Global,
     index: &Index,
     next: &NextBatch,
-    pool: &Pool,
     older: &[Delta],
 ) -> Result<Segment, BatchFault>
-    requires next { IsNext index.now.opening next.now (graph_now pool.now) }
+    requires next { IsNext index.now.opening next.now next.now.current.now.graph }
     requires older { length older.now
         ≡ length (older_in_time index.now.opening.params.k (leaves_before index.now.opening) (leaves_after index.now.opening (length next.now.events.now))) }
     ensures behind { IfOk result (λ s. IsSegmentBehind index.now.opening (drop next.now.known next.now.names.now) next.now.recent.now next.now.events.now s) }
-    ensures is { IfOk result (λ s. (past : List Event) → IsPast index.now.opening past next.now.recent.now (graph_now pool.now) next.now.events.now older.now
+    ensures is { IfOk result (λ s. (past : List Event) → IsPast index.now.opening past next.now.recent.now next.now.current.now.graph next.now.events.now older.now
         → s ≡ segment_of index.now.opening.params past (batch_with next.now.known next.now.names.now next.now.events.now)) }
-    ensures fails { IfErr result (IsUnmade index.now.opening next.now (graph_now pool.now) older.now) }
-    ensures never { IfErr result (λ fault. (past : List Event) → IsPast index.now.opening past next.now.recent.now (graph_now pool.now) next.now.events.now older.now
+    ensures fails { IfErr result (IsUnmade index.now.opening next.now next.now.current.now.graph older.now) }
+    ensures never { IfErr result (λ fault. (past : List Event) → IsPast index.now.opening past next.now.recent.now next.now.current.now.graph next.now.events.now older.now
         → fault ≡ BatchFault.Memory) }
 {
     index.facts();
@@ -142,13 +119,6 @@ pub(crate) fn segment_of(
     let before = index.events_len();
     let count = next.events.len() as u64;
     let segment = begun(alloc, next.names, next.known, next.events)?;
-    let graph = completed_set(
-        alloc,
-        pool,
-        params.k,
-        leaves(params, before),
-        leaves(params, before + count),
-    )?;
     match build(
         alloc,
         params,
@@ -156,7 +126,7 @@ pub(crate) fn segment_of(
         before as usize,
         next.recent,
         next.events,
-        &graph,
+        next.top,
         older,
         segment,
     ) {

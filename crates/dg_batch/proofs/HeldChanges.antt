@@ -3,8 +3,10 @@ use Rattle.std.proofs.Common.{◌≡◌, ℕ, ◌<◌, ◌≤◌, List, Option, 
 use Rattle.std.specs.Prelude.{IfSome, is_some}
 use Rattle.std.specs.List.{All}
 use Rattle.std.proofs.lemmas.List.{length-take}
+use Rattle.dg_append.proofs.Overlays.{same_slots}
 use Rattle.dg_append.specs.AddedBatches.{AddsBatch, IsAsKnown, IsBack, MayAdd}
 use Rattle.dg_append.specs.LiveHistories.{IsLiveHistory}
+use Rattle.dg_append.specs.Overlays.{SameSlots, pool_in, pool_of}
 use Rattle.dg_append.specs.declared.batch.AddedBatch.{AddedBatch}
 use Rattle.dg_append.specs.declared.batch.Batch.{Batch}
 use Rattle.dg_append.specs.declared.fault.BatchFault.{BatchFault}
@@ -18,7 +20,6 @@ use Rattle.dg_batch.specs.Held.{HoldsHandles, IsHeld, graphs_held}
 use Rattle.dg_batch.specs.declared.held.Held.{Held}
 use Rattle.dg_handles.specs.Handles.{TieIsKept}
 use Rattle.dg_index.specs.OpenedIndex.{Opening}
-use Rattle.dg_pool.specs.Graphs.{slot_graph}
 use Rattle.dg_retrieval.specs.NamesThere.{NamesAreThere}
 use Rattle.dg_start.specs.StoredHistory.{index_opening}
 
@@ -28,12 +29,12 @@ module _ (tie : TieIsKept) (batch : Batch) (old : Held) (new : Live) (may : MayA
   Over = record { live = new; handles = old.handles; adjacency = old.adjacency }
 
   -- no graph of a slot has changed, the index has the nodes, and there are no fewer names than the batch found
-  handles_over : (n : ℕ) → ((s : ℕ) → slot_graph new.pool.value s ≡ slot_graph old.live.pool.value s) → HasNodes (index_opening new.history.index) old.handles.table → batch.known ≤ n → HoldsHandles n Over
+  handles_over : (n : ℕ) → SameSlots (pool_in old.live.pool) (pool_in new.pool) → HasNodes (index_opening new.history.index) old.handles.table → batch.known ≤ n → HoldsHandles n Over
   handles_over n slots nodes more = record {
-    tied = tie old.live.pool.value new.pool.value old.handles slots holds.tied;
+    tied = tie (pool_of old.live.pool) (pool_of new.pool) old.handles slots holds.tied;
     nodes = nodes;
-    adjacency = kept_on old.live.pool.value new.pool.value old.handles old.adjacency slots holds.adjacency;
-    named = subst (All (NamesAreThere n)) (sym (graphs_same old.live.pool.value new.pool.value slots old.handles.slots))
+    adjacency = kept_on (pool_of old.live.pool) (pool_of new.pool) old.handles old.adjacency slots holds.adjacency;
+    named = subst (All (NamesAreThere n)) (sym (graphs_same (pool_of old.live.pool) (pool_of new.pool) slots old.handles.slots))
         (names_more batch.known n more (graphs_held old) holds.named);
   }
 
@@ -55,7 +56,7 @@ module _ (tie : TieIsKept) (batch : Batch) (old : Held) (new : Live) (may : MayA
   as_known : IsAsKnown batch.known old.live new → IsLiveHistory new → IsHeld Over
   as_known back live = record {
     live = live;
-    handles = handles_over (length new.history.names) back.graphs.slots (subst (λ (i : Option Opening). HasNodes i old.handles.table) (sym back.index) holds.nodes)
+    handles = handles_over (length new.history.names) (same_slots (pool_in old.live.pool) (pool_in new.pool) back.graphs) (subst (λ (i : Option Opening). HasNodes i old.handles.table) (sym back.index) holds.nodes)
         (subst (λ (ns : List (List ℕ)). batch.known ≤ length ns) (sym back.names) (known_is batch.known old.live.history.names may.ready.within));
   }
 

@@ -16,7 +16,8 @@ use dg_start::StoredHistory;
 use std::alloc::Global;
 use std::thread::Threads;
 
-/// Adds the batch to the history, and takes the current graph of the pool past its events. No handle's graph changes.
+/// Adds the batch to the history, and takes the current graph of the pool, where there is one, past its events. No handle's
+/// graph changes.
 /// Where the disk failed while the batch was added, what the file holds is not known, so the history, the handles and
 /// their graphs are forgotten, and with them the adjacencies that are kept.
 ///

@@ -4,11 +4,11 @@ use dg_append::Live;
 use dg_ask::KeptAdjacency;
 use dg_handles::Handles;
 
-/// What a session lives on: a history with its graphs in one pool, the live handles on these, and the adjacencies that
-/// are kept for them.
+/// What a session lives on: a history, the pool in which graphs are overlaid on its current one, the live handles on these,
+/// and the adjacencies that are kept for them.
 #[derive(Drop)]
 pub struct Held {
-    /// The history, and the pool of its current graph and of those of the handles.
+    /// The history, and the pool of its current graph and of those of the handles, once there are any.
     pub live: Live,
     /// The live handles, each with its slot of the pool.
     pub handles: Handles,

@@ -6,6 +6,8 @@ use Rattle.std.proofs.lemmas.Bool.{false≢true, not-false}
 use Rattle.std.proofs.lemmas.List.{length-map, take-append-drop}
 use Rattle.std.proofs.Math.ListN.{get_or-map}
 use borrow.Author.Tests.{le-leb, lt-ltb, le-ltb, ltb-false}
+use Rattle.dg_append.proofs.Overlays.{same_slots}
+use Rattle.dg_append.specs.Overlays.{IsOverlayOf, SameSlots, pool_in, pool_of}
 use Rattle.dg_append.specs.AddedBatches.{AddsBatch, BreaksBatch, ComesToSegment, FailsBatch, FailsToRead, FillsFile, IsAsKnown, IsBack, IsOldFormat, IsOverHistory, IsReady, MayAdd, TakesForm, batch_with, recent_behind}
 use Rattle.dg_append.specs.Fronts.{ComeTo, IsFront, lines}
 use Rattle.dg_append.specs.declared.batch.AddedBatch.{AddedBatch}
@@ -80,7 +82,7 @@ use Rattle.dg_batch.specs.Halt.{batch_halt}
 use Rattle.dg_batch.specs.GeneratedBatch.{IsGenerated}
 use Rattle.dg_ask.specs.HeldIndex.{events_held, span_held}
 use Rattle.dg_handles.specs.Handles.{HandlesState, slot_graphs}
-use Rattle.dg_pool.specs.Graphs.{PoolState, graph_now, slot_graph}
+use Rattle.dg_pool.specs.Graphs.{PoolState, slot_graph}
 use Rattle.dg_ask.proofs.KeptAdjacencies.{graphs_same}
 use Rattle.dg_session.specs.Parts.{Parts}
 use Rattle.dg_session.specs.Session.{Accepts, ComesTo, CutsOff, Denies, Moves, StandsFor, TakesLines, is_reached, is_too_full, refusals_by, refused_by}
@@ -408,7 +410,7 @@ module _ (from : Origin) (got : List ScriptLine) (p : Parts) (count limit : ℕ)
     timed = λ whole k d lt. (change_fits whole k d lt).time;
   })
 
-  pub may_add : IsSoundHistory p.index p.names c.now c.recent.items → graph_now l.pool.value ≡ c.now.graph → MayAdd b l
+  pub may_add : IsSoundHistory p.index p.names c.now c.recent.items → IsOverlayOf c.now.graph (pool_in l.pool) → MayAdd b l
   may_add sound pool = record {
     index = free.index;
     there = opening_there;
@@ -617,12 +619,12 @@ module _ (from : Origin) (got : List ScriptLine) (p : Parts) (count limit : ℕ)
         let recent : new.history.recent.items ≡ p.recent = s.recent ∙ a.recent in
         λ i. record p { index = index i; names = names i; graph = graph i; recent = recent i }
 
-    kept_as : (h h' : HandlesState) → IsAsKnown known l new → h' ≡ h → with_handles p h l.pool.value ≡ p → with_handles (with_history p new.history) h' new.pool.value ≡ p
+    kept_as : (h h' : HandlesState) → IsAsKnown known l new → h' ≡ h → with_handles p h (pool_of l.pool) ≡ p → with_handles (with_history p new.history) h' (pool_of new.pool) ≡ p
     kept_as h h' back hs same =
-        kept_handles (with_history p new.history) h h' l.pool.value new.pool.value hs back.graphs.slots ∙ ap (λ (y : Parts). with_handles y h l.pool.value) (stays back) ∙ same
+        kept_handles (with_history p new.history) h h' (pool_of l.pool) (pool_of new.pool) hs (same_slots (pool_in l.pool) (pool_in new.pool) back.graphs) ∙ ap (λ (y : Parts). with_handles y h (pool_of l.pool)) (stays back) ∙ same
 
     -- after a fault the session keeps what it kept, its handles and their graphs among it
-    pub failed_stays : (f : BatchFault) (h h' : HandlesState) → IsBack f known l new → HandlesStay (Err f) h h' → with_handles p h l.pool.value ≡ p → StaysAs f p (with_handles (with_history p new.history) h' new.pool.value)
+    pub failed_stays : (f : BatchFault) (h h' : HandlesState) → IsBack f known l new → HandlesStay (Err f) h h' → with_handles p h (pool_of l.pool) ≡ p → StaysAs f p (with_handles (with_history p new.history) h' (pool_of new.pool))
     failed_stays (fault.BadChange line reason) h h' back hs same = kept_as h h' back hs same
     failed_stays fault.OldFormat h h' back hs same = kept_as h h' back hs same
     failed_stays (fault.FileFull n most) h h' back hs same = kept_as h h' back hs same
@@ -632,8 +634,11 @@ module _ (from : Origin) (got : List ScriptLine) (p : Parts) (count limit : ℕ)
     failed_stays fault.Store h h' back hs same = tt
 
     -- no graph of a slot has changed
-    pub added_slots : (x : AddedBatch) → IfSome (index_opening c.index) (λ o. AddsBatch o limit b l new before after x) → (s : ℕ) → slot_graph new.pool.value s ≡ slot_graph l.pool.value s
+    pub added_slots : (x : AddedBatch) → IfSome (index_opening c.index) (λ o. AddsBatch o limit b l new before after x) → SameSlots (pool_in l.pool) (pool_in new.pool)
     added_slots x adds = (of_here (index_opening c.index) free.index (λ o. AddsBatch o limit b l new before after x) opening_there adds).slots
+
+    pub added_pool : (x : AddedBatch) → IfSome (index_opening c.index) (λ o. AddsBatch o limit b l new before after x) → is_some (pool_in new.pool) ≡ is_some (pool_in l.pool)
+    added_pool x adds = (of_here (index_opening c.index) free.index (λ o. AddsBatch o limit b l new before after x) opening_there adds).pool
 
     pub batch_added : (x : AddedBatch) → IfSome (index_opening c.index) (λ o. AddsBatch o limit b l new before after x)
         → Accepts (adding from count) got p before (with_history p new.history) after (headed (head_over from new.history.now.graph x.events x.total x.last))

@@ -4,6 +4,7 @@ pub mod AnswerHandles
 pub mod SessionQueryStep
 pub mod AnswerQueries
 pub mod SessionReleaseStep
+pub mod PoolOverlays
 pub mod SessionPoolStep
 pub mod PlanStep
 pub mod MessageLeads

@@ -3,7 +3,7 @@ use Rattle.std.proofs.Common.{◌≡◌, ℕ, zero, suc, ◌<◌, Bool, true, fa
 use Rattle.std.specs.Prelude.{filter}
 use Rattle.std.proofs.lemmas.Bool.{false≢true, or_right}
 use Rattle.dg_fold.specs.declared.part.Part.{Part}
-use Rattle.dg_fold.specs.BytesRead.{AreParts, ColumnBytes, IsPartOf, kept_in, named_along}
+use Rattle.dg_fold.specs.BytesRead.{AreParts, ColumnBytes, IsPartOf, named_along}
 use Rattle.dg_fold.specs.Parts.{parts_in}
 use Rattle.dg_graph.proofs.Sets.{has_first}
 use Rattle.dg_graph.specs.Columns.{same_column}
@@ -31,7 +31,7 @@ use Rattle.dg_retrieval.specs.NodeSets.{IsIndexOver, IsLedAlong}
 use Rattle.dg_retrieval.proofs.KeptGraphRecords.{graph_of_index}
 use Rattle.dg_retrieval.proofs.KeptGraphWalks.{walk_records}
 use Rattle.dg_retrieval.proofs.StepRecords.{records_lead}
-use Rattle.dg_session.proofs.NodeSets.{IsNoMessage, node_quiet}
+use Rattle.dg_session.proofs.NodeSets.{node_quiet}
 
 -- ---- what is shown of a set of a node
 

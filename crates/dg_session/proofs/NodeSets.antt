@@ -1,5 +1,5 @@
 -- No set of a node has a message.
-use Rattle.std.proofs.Common.{◌≡◌, ℕ, Bool, true, false, cond, ◌||◌, List, [], ◌∷◌, Option, Some, None, sym, ◌∙◌, ap, subst, refl}
+use Rattle.std.proofs.Common.{◌≡◌, ℕ, Bool, true, false, cond, ◌||◌, List, [], ◌∷◌, Option, Some, None, sym, ◌∙◌, subst, refl}
 use Rattle.std.specs.Prelude.{IfSome, nat_eq}
 use Rattle.std.specs.Option.{option_eq, option_map}
 use Rattle.std.proofs.lemmas.Bool.{false≢true}
@@ -17,7 +17,7 @@ use Rattle.dg_history.specs.declared.node.NodeId.{NodeId}
 use Rattle.dg_history.specs.declared.node.NodeId.TheVariants as node
 use Rattle.dg_history.specs.declared.params.Params.{Params}
 use Rattle.dg_index.specs.EverAdded.{ever}
-use Rattle.dg_index.specs.Hierarchy.{leaves, set_of}
+use Rattle.dg_index.specs.Hierarchy.{set_of}
 use Rattle.dg_index.proofs.EverAddedBounds.{node_within, replay_within}
 
 abbrev pub IsNoMessage : Element → Type 0

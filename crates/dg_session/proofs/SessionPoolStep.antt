@@ -1,6 +1,8 @@
 -- The answers of commands that clean the pool, or tell its size.
-use Rattle.std.proofs.Common.{◌≡◌, ℕ, false, List, [], ◌∷◌, Option, None, length, refl, sym, ◌∙◌, ap, subst}
-use Rattle.std.specs.Prelude.{IfSome}
+use Rattle.std.proofs.Common.{◌≡◌, ℕ, false, List, [], ◌∷◌, Option, None, Some, length, refl, sym, ◌∙◌, ap, subst}
+use Rattle.std.specs.Prelude.{IfSome, MatchOption}
+use Rattle.dg_append.specs.Overlays.{SameOverlay}
+use Rattle.dg_handles.specs.Handles.{IsSweptWhole}
 use Rattle.dg_machine.specs.declared.command.Command.{Command}
 use Rattle.dg_machine.specs.declared.command.Command.TheVariants as command
 use Rattle.dg_machine.specs.declared.reply.Head.{Head}
@@ -11,6 +13,7 @@ use Rattle.dg_machine.specs.MachineState.{MachineState, elements_held, union_of_
 use Rattle.dg_machine.specs.Needs.{needs}
 use Rattle.dg_machine.specs.Planning.{no_plan}
 use Rattle.dg_pool.specs.Graphs.{PoolState}
+use Rattle.dg_pool.specs.Sweeps.{cells_of}
 use Rattle.dg_session.proofs.ReplyNames.{head_names}
 use Rattle.dg_session.specs.ReplyNames.{ReplyNamesAreThere}
 use Rattle.dg_session.proofs.PartStates.{kept, one_image, stands_on}
@@ -18,7 +21,7 @@ use Rattle.dg_session.proofs.SessionSteps.{IsUnplanned, moved}
 use Rattle.dg_session.specs.Decided.{IsHeadOf}
 use Rattle.dg_session.specs.Parts.{Parts}
 use Rattle.dg_session.specs.Session.{Accepts, StandsFor, refused_by}
-use Rattle.dg_session.specs.Sweeps.{All_cells, IsNoSweep, No_cell, Some_cells, Sweep, SweepsAs}
+use Rattle.dg_session.specs.Sweeps.{All_cells, IsNoSweep, No_cell, Some_cells, Sweep, SweepsOverlay, SweepsPool}
 use Rattle.dg_start.specs.StoredHistory.{IsHeldBy}
 
 -- a command that needs nothing and changes nothing that the machine knows
@@ -61,10 +64,18 @@ pool_answers p live size image reply live_is size_is is =
     ∙ (λ i. say m (headed (head.Pool (sym live_is i) (sym size_is i)))) ∙ ap (say m) (sym is)) (ap (λ (r : Reply). is_refusal r.head) is)
     (subst (λ (r : Reply). IsHeadOf command.Pool r.head) (sym is) tt) (head_names (length p.names) (head.Pool live size) reply is)
 
--- ---- of all commands
+-- ---- what is swept
+
+-- a whole sweep, of which the reply tells the cells that are left
+pub whole_sweep : (old new : Option PoolState) (graph cells : ℕ) (h : Head) → SameOverlay old new → IfSome new IsSweptWhole → MatchOption new (cells ≡ graph) (λ p. cells ≡ length (cells_of p))
+    → h ≡ head.CleanedAll cells → SweepsPool command.CleanAll old new h
+whole_sweep None None graph cells h same swept many is = refl
+whole_sweep None (Some new) graph cells h same swept many is = absurd same
+whole_sweep (Some old) None graph cells h same swept many is = absurd same
+whole_sweep (Some old) (Some new) graph cells h same swept many is = (swept, is ∙ ap (λ n. head.CleanedAll n) many)
 
 -- a command that sweeps nothing owes nothing of it
-pub nothing_swept : (s : Sweep) (old new : PoolState) (h : Head) → IsNoSweep s → SweepsAs s old new h
+pub nothing_swept : (s : Sweep) (old new : Option PoolState) (h : Head) → IsNoSweep s → SweepsOverlay s old new h
 nothing_swept (Some_cells cells) old new h none = absurd none
 nothing_swept All_cells old new h none = absurd none
 nothing_swept No_cell old new h none = tt

@@ -1,5 +1,5 @@
--- What commands that clean do to the pool.
-use Rattle.std.specs.Prelude.{◌≡◌, ℕ, length}
+-- What commands that clean do to the pool, where there is one.
+use Rattle.std.specs.Prelude.{◌≡◌, ℕ, Option, None, Some, length}
 use Rattle.dg_handles.specs.Handles.{IsSweptWhole}
 use Rattle.dg_machine.specs.declared.command.Command.{Command}
 use Rattle.dg_machine.specs.declared.command.Command.TheVariants as command
@@ -25,10 +25,17 @@ SweepsAs (Some_cells cells) old new h = (answer : Swept) × IsSweep old new cell
 SweepsAs All_cells old new h = IsSweptWhole new × (h ≡ head.CleanedAll (length (cells_of new)))
 SweepsAs No_cell old new h = Unit {0}
 
+-- where there is no pool, there is none afterwards, and nothing is swept
+abbrev pub SweepsOverlay : Sweep → Option PoolState → Option PoolState → Head → Type 0
+SweepsOverlay No_cell old new h = Unit {0}
+SweepsOverlay sweep None new h = new ≡ None
+SweepsOverlay sweep (Some old) None h = ⊥
+SweepsOverlay sweep (Some old) (Some new) h = SweepsAs sweep old new h
+
 -- `clean N` sweeps N cells on from where the last sweep stopped; `clean all` is a whole sweep, and its reply tells the
 -- cells that are left. Of other commands nothing is said.
-abbrev pub SweepsPool : Command → PoolState → PoolState → Head → Type 0
-SweepsPool c old new h = SweepsAs (sweep_of c) old new h
+abbrev pub SweepsPool : Command → Option PoolState → Option PoolState → Head → Type 0
+SweepsPool c old new h = SweepsOverlay (sweep_of c) old new h
 
 abbrev pub IsNoSweep : Sweep → Type 0
 IsNoSweep (Some_cells cells) = ⊥

@@ -1,6 +1,7 @@
 //! The session over one index file: what it keeps, and the step that carries out a command.
 
-ghost use Rattle.std.specs.Prelude.{◌≡◌, ◌⊎◌, ℕ, ◌+◌, ◌<◌, ◌≤◌, IfErr, IfSome, IsErrOf, OnOk, List, [], Ok, Err, Option, None, Some, is_some, true, false, not, IfOk};
+ghost use Rattle.std.specs.Prelude.{◌≡◌, ◌⊎◌, ℕ, ◌+◌, ◌<◌, ◌≤◌, IfErr, IfSome, IsErrOf, OnErr, OnOk, List, [], Ok, Err, Option, None, Some, is_some, option_copied, true, false, not, IfOk};
+ghost use Rattle.dg_append.specs.Overlays.{overlaid};
 ghost use Rattle.dg_columns.specs.ColumnLaws.{AreBytes};
 ghost use Rattle.dg_disk.specs.Calls.{Fails, IsOnDevice, ReadsDisk, SyncsDisk, UsesDisk};
 ghost use Rattle.dg_io.specs.Calls.{TakesFrom};
@@ -41,6 +42,7 @@ use dg_ask::{KeptPlanner, span};
 use dg_batch::{Halt, Held, Stop};
 use dg_disk::Disk;
 use dg_file::Index;
+use dg_handles::law_tie_is_kept;
 use dg_index::law_images_are_opened;
 use dg_io::{Lines, Source};
 use dg_machine::{BodyLines, Command, Head, Limits, Refusal, Reply};
@@ -49,7 +51,7 @@ use dg_pool::Pool;
 use dg_sound_files::{law_sound_files_stand, law_standing_files_are_sound};
 use dg_start::StartFault;
 use dg_verify::verify;
-use std::alloc::Global;
+use std::alloc::{AllocError, Global};
 use std::marker::Model;
 use std::thread::Threads;
 
@@ -64,6 +66,7 @@ pub struct Session {
 
 impl Model for Session {
     ghost use Rattle.dg_machine.specs.MachineState.{IsWithin};
+    ghost use Rattle.dg_append.specs.Overlays.{pool_in};
     ghost use Rattle.dg_ask.specs.KeptPlanner.{IsKeptFor};
     ghost use Rattle.dg_batch.specs.Held.{IsHeld, graphs_held};
     ghost use Rattle.dg_session.specs.SessionState.{SessionState};
@@ -82,7 +85,7 @@ impl Model for Session {
         graphs = graphs_held s.held;
         next = s.held.handles.next;
       };
-      pool = s.held.live.pool.value;
+      pool = pool_in s.held.live.pool;
       slots = s.held.handles.slots;
     } };
 
@@ -153,15 +156,18 @@ impl Session {
         &self.held.live.history.names
     }
 
-    /// The pool in which the current graph and the graphs of the live handles are overlaid. Each live handle has a slot
-    /// of its own, and no other slot is live.
-    pub fn pool(&self) -> &Pool
-        ensures pool { result.now ≡ self.now.pool }
-        ensures now { graph_now result.now ≡ self.now.parts.graph }
-        ensures graphs { slot_graphs result.now self.now.slots ≡ self.now.parts.graphs }
-        ensures tied { IsTied result.now (handles_of self.now) }
+    /// The pool in which the graphs of the live handles are overlaid on the current one: there is one from the first handle
+    /// on. Each live handle has a slot of its own, and no other slot is live.
+    pub fn pool(&self) -> Option<&Pool>
+        ensures pool { option_copied result ≡ self.now.pool }
+        ensures now { IfSome result (λ pool. graph_now pool.now ≡ self.now.parts.graph) }
+        ensures graphs { slot_graphs (overlaid self.now.pool) self.now.slots ≡ self.now.parts.graphs }
+        ensures tied { IsTied (overlaid self.now.pool) (handles_of self.now) }
     {
-        &self.held.live.pool
+        match &self.held.live.pool {
+            Some(pool) => Some(pool),
+            None => None,
+        }
     }
 
     /// Carries out the command, and answers it. A load and an append read the lines that follow them,
@@ -278,6 +284,17 @@ impl Session {
             Command::Tree => self.tree(),
             _ => unreachable!(),
         }
+    }
+
+    // Makes the pool, unless there is one. An `Err` says that memory ran out; then nothing has changed.
+    fn overlay(&mut self) -> Result<(), AllocError>
+        ensures parts { self.new.parts ≡ self.old.parts }
+        ensures made { OnOk result (is_some self.new.pool ≡ true) }
+        ensures err { OnErr result (self.new ≡ self.old) }
+    {
+        // No graph of a handle changes.
+        law_tie_is_kept();
+        self.held.live.overlay(self.alloc)
     }
 
     // Whether there is an index.

@@ -67,11 +67,9 @@ pub record AreReadEvents (image : Option (List ℕ)) (name_count : ℕ) (o : Ope
 
 -- ---- the history
 
--- This is the current graph with the recent events with which the image starts, and a sound one; the caller made its
--- own of a set that the events lead on to it.
-pub record IsCurrent (image : Option (List ℕ)) (o : Opening) (names : List (List ℕ)) (makes : List Element → Type 0) (now : NowState) (recent : List Event) : Type 0 where
+-- This is the current graph with the recent events with which the image starts, and a sound one.
+pub record IsCurrent (image : Option (List ℕ)) (o : Opening) (names : List (List ℕ)) (now : NowState) (recent : List Event) : Type 0 where
   pub started : IfSome image (λ image. Starts image (Ok (started_with (Some o) names now.graph recent)))
-  pub made : (set : List Element) × makes set × (now.graph ≡ replay_from set recent)
   pub none : now.pending ≡ []
   pub values : ValuesFit now.graph
   pub named : NamesAreThere (length names) now.graph
@@ -81,10 +79,9 @@ pub record IsCurrent (image : Option (List ℕ)) (o : Opening) (names : List (Li
   pub goes_on : MayGoOn (Some o) recent
 
 -- This is the history with which the image starts, the one for which it stands where it stands for one, and a sound
--- one that the image holds afterwards too; the caller made its own of a set that the events lead on to the graph.
-pub record IsOpenedFile (before after : Option (List ℕ)) (makes : List Element → Type 0) (index : Option Opening) (names : List (List ℕ)) (now : NowState) (recent : List Event) : Type 0 where
+-- one that the image holds afterwards too.
+pub record IsOpenedFile (before after : Option (List ℕ)) (index : Option Opening) (names : List (List ℕ)) (now : NowState) (recent : List Event) : Type 0 where
   pub started : IfSome before (λ image. Starts image (Ok (started_with index names now.graph recent)))
   pub stands : IfSome before (λ image. (z : Option History) → StandsAs z image → KeepsHistory z index names now.graph recent)
-  pub made : (set : List Element) × makes set × (now.graph ≡ replay_from set recent)
   pub sound : IsSoundHistory index names now recent
   pub held : IfSome after (λ image. IsHeldBy index names image)

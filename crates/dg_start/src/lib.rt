@@ -17,6 +17,6 @@ pub use event_source::EventSource;
 pub use fault::{RecordColumn, RecordFault, StartFault};
 pub use keys::has_key;
 pub use laws::{law_images_start_as_they_stand, law_starts_are_determined};
-pub use opening::{OpenedFile, open};
+pub use opening::open;
 pub use record::read_record;
 pub use stored_history::StoredHistory;

@@ -1,7 +1,6 @@
 //! Opening an index file.
 
 ghost use Rattle.std.specs.Prelude.{◌≡◌, ◌⊎◌, [], Ok, Err, Option, None, Some, IfErr, IfOk, IfSome, IsErrOf, MatchOption, OnErr, OnOk, length};
-ghost use Rattle.std.specs.Fn.{FnOnceReturnsAt};
 ghost use Rattle.dg_disk.specs.Calls.{Fails, IsOnDevice, ReadsDisk, SyncsDisk};
 ghost use Rattle.dg_disk.specs.Counts.{raised_by};
 ghost use Rattle.dg_file.specs.Images.{taken_after};
@@ -27,42 +26,29 @@ use dg_disk::Disk;
 use dg_file::{Index, ReopenFault};
 use dg_graph::Event;
 use dg_names::Names;
-use dg_set::Set;
 use std::alloc::Global;
 use std::thread::Threads;
 
-/// An index file that was opened: its history, and what was made of the graph behind the last closed list.
-#[derive(Drop)]
-pub struct OpenedFile<T> {
-    /// The history.
-    pub history: StoredHistory,
-    /// What was made of the graph behind its last closed list.
-    pub made: T,
-}
-
-// The current graph, the recent events, and what was made of the graph behind the last closed list.
-struct Current<T> {
+// The current graph and the recent events.
+struct Current {
     now: Now,
     recent: Vec<Event>,
-    made: T,
 }
 
-// The current graph and the recent events of an index with these names, and what is made of the graph behind the last
-// closed list, which the current graph then keeps.
-fn read_current<R: Threads + Sync, D: Disk, T: Drop, F: FnOnce(&Set) -> T>(
+// The current graph and the recent events of an index with these names. The current graph keeps the graph behind the last
+// closed list.
+fn read_current<R: Threads + Sync, D: Disk>(
     rt: &R,
     alloc: Global,
     index: &mut Index,
     disk: &mut D,
     names: &Names,
-    make: F,
-) -> Result<Current<T>, StartFault>
-    requires make { F.IsAlwaysCallable make }
+) -> Result<Current, StartFault>
     requires image { IfSome (D.image disk.old) (λ image. opening image ≡ Ok (record { index = index.old.opening; names = names.now })) }
 
     // the graph and the events, and over an image of a history the bytes read
     ensures done { IfOk result (λ current. IsCurrent (D.image disk.old) index.old.opening names.now
-        (λ set. FnOnceReturnsAt F.FnOnce make set current.made) current.now current.recent.items) }
+        current.now current.recent.items) }
     ensures takes { IfSome (D.image disk.old) (λ image.
         TakesAlongPlan result (current_bytes index.old.opening) image index.old.opening (length names.now) (D.taken disk.old) (D.taken disk.new)) }
 
@@ -78,25 +64,8 @@ fn read_current<R: Threads + Sync, D: Disk, T: Drop, F: FnOnce(&Set) -> T>(
     let sources = recent_sources(alloc, index)?;
     let recent = read_sources(alloc, index, disk, names.len(), &sources)?;
     let set = last_set(rt, alloc, index, disk, names.len())?;
-    let made = make(&set);
     let now = current_graph(alloc, names, set, first_recent(index), &sources, &recent)?;
-    Ok(Current { now, recent, made })
-}
-
-// No index, and what is made of the empty graph. Takes no other memory.
-fn blank<T, F: FnOnce(&Set) -> T>(alloc: Global, make: F) -> OpenedFile<T>
-    requires make { F.IsAlwaysCallable make }
-    ensures index { result.history.index ≡ None }
-    ensures names { result.history.names ≡ [] }
-    ensures graph { result.history.now.graph ≡ [] }
-    ensures pending { result.history.now.pending ≡ [] }
-    ensures recent { result.history.recent.items ≡ [] }
-    ensures made { FnOnceReturnsAt F.FnOnce make [] result.made }
-{
-    OpenedFile {
-        history: StoredHistory::empty(alloc),
-        made: make(&Set::new(alloc)),
-    }
+    Ok(Current { now, recent })
 }
 
 // The index that the disk has, and none where there is no index. Fills `names` with the names of its batches.
@@ -134,22 +103,19 @@ fn reopen<D: Disk>(
 }
 
 // Starts over an index with these names.
-fn open_index<R: Threads + Sync, D: Disk, T: Drop, F: FnOnce(&Set) -> T>(
+fn open_index<R: Threads + Sync, D: Disk>(
     rt: &R,
     alloc: Global,
     disk: &mut D,
     mut index: Index,
     names: Names,
-    make: F,
-) -> Result<OpenedFile<T>, StartFault>
-    requires make { F.IsAlwaysCallable make }
+) -> Result<StoredHistory, StartFault>
     requires image { IfSome (D.image disk.old) (λ image. opening image ≡ Ok (record { index = index.opening; names = names })) }
     requires counted_names { length names ≡ name_total index.opening.batches }
 
     // the history, and over an image of a history the bytes read
     ensures done { IfOk result (λ opened. IsOpenedFile (D.image disk.old) (D.image disk.new)
-        (λ set. FnOnceReturnsAt F.FnOnce make set opened.made)
-        (index_opening opened.history.index) opened.history.names opened.history.now opened.history.recent.items) }
+        (index_opening opened.index) opened.names opened.now opened.recent.items) }
     ensures takes { IfSome (D.image disk.old) (λ image.
         TakesAlongPlan result (current_bytes index.opening) image index.opening (length names) (D.taken disk.old) (D.taken disk.new)) }
 
@@ -161,21 +127,18 @@ fn open_index<R: Threads + Sync, D: Disk, T: Drop, F: FnOnce(&Set) -> T>(
     ensures disk { ReadsDisk D.Disk disk.old disk.new }
 {
     law_images_start_as_they_stand();
-    let Current { now, recent, made } = read_current(rt, alloc, &mut index, disk, &names, make)?;
-    Ok(OpenedFile {
-        history: StoredHistory {
-            index: Some(index),
-            names,
-            now,
-            recent,
-        },
-        made,
+    let Current { now, recent } = read_current(rt, alloc, &mut index, disk, &names)?;
+    Ok(StoredHistory {
+        index: Some(index),
+        names,
+        now,
+        recent,
     })
 }
 
 /// Opens the index over the disk, if there is one: reads its recent events, composes the records along the plan of
-/// its last leaf, makes something of the graph that they come to, and takes that graph past the recent events, each of
-/// which some change comes to. Nothing else is read. The current graph keeps the graph of the last leaf, which is
+/// its last leaf, and takes the graph that they come to past the recent events, each of which some change comes to.
+/// Nothing else is read. The current graph keeps the graph of the last leaf, which is
 /// nowhere copied.
 ///
 /// In this order: `StartFault::Foreign` where the file is not one of an index, `StartFault::Damaged` with the offset
@@ -185,18 +148,15 @@ fn open_index<R: Threads + Sync, D: Disk, T: Drop, F: FnOnce(&Set) -> T>(
 /// time; `StartFault::Disk` where the disk failed, `StartFault::Memory` for want of memory. Over an image of a history
 /// a start that fails reads no more than one that does not; of a blank file the 18 bytes of a header are read where it
 /// has as many, else none. After a start all that the disk has is on the device.
-pub fn open<R: Threads + Sync, D: Disk, T: Drop, F: FnOnce(&Set) -> T>(
+pub fn open<R: Threads + Sync, D: Disk>(
     rt: &R,
     alloc: Global,
     disk: &mut D,
-    make: F,
-) -> Result<OpenedFile<T>, StartFault>
-    requires make { F.IsAlwaysCallable make }
+) -> Result<StoredHistory, StartFault>
 
     // the history, and over an image of a history or a blank one the bytes read
     ensures done { IfOk result (λ opened. IsOpenedFile (D.image disk.old) (D.image disk.new)
-        (λ set. FnOnceReturnsAt F.FnOnce make set opened.made)
-        (index_opening opened.history.index) opened.history.names opened.history.now opened.history.recent.items) }
+        (index_opening opened.index) opened.names opened.now opened.recent.items) }
     ensures takes { IfSome (D.image disk.old) (λ image. TakesStart result image (D.taken disk.old) (D.taken disk.new)) }
 
     // why there is none
@@ -212,8 +172,8 @@ pub fn open<R: Threads + Sync, D: Disk, T: Drop, F: FnOnce(&Set) -> T>(
     law_images_start_as_they_stand();
     let mut names = Names::new(alloc);
     let Some(index) = reopen(alloc, disk, &mut names)? else {
-        return Ok(blank(alloc, make));
+        return Ok(StoredHistory::empty(alloc));
     };
-    let opened = open_index(rt, alloc, disk, index, names, make)?;
+    let opened = open_index(rt, alloc, disk, index, names)?;
     Ok(opened)
 }

@@ -101,10 +101,12 @@ impl Session {
         ensures added { OnOk result (self.new.parts ≡ with_new_handles self.old.parts (Stands.Base node cols ∷ []) (shown (applied delta.now []) (with_messages cols) ∷ [])) }
         ensures err { OnErr result (self.new.parts ≡ self.old.parts) }
     {
+        self.overlay()?;
         self.planner.forget();
-        self.held
-            .handles
-            .add_base(&mut self.held.live.pool, node, cols, delta)
+        let Some(pool) = &mut self.held.live.pool else {
+            unreachable!()
+        };
+        self.held.handles.add_base(pool, node, cols, delta)
     }
 
     // A new handle that holds the set of a leaf or an interior node in these columns.

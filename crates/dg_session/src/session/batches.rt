@@ -194,6 +194,8 @@ impl Session {
         if let Some(refusal) = self.barred(BatchCommand::Load, count) {
             return Err(Halt::Refusal(refusal));
         }
+        // The reply counts the graph behind the batch, which the pool does. No element is in it yet.
+        self.overlay()?;
         let batch = generated_batch(self.alloc, seed, count, &mut self.held.live.history.names)?;
         self.planner.forget();
         let added = add_changes(
@@ -204,7 +206,10 @@ impl Session {
             &mut self.held,
             disk,
         )?;
-        let counts = self.held.live.pool.counts_now();
+        let Some(pool) = &self.held.live.pool else {
+            unreachable!()
+        };
+        let counts = pool.counts_now();
         Ok(headed(
             self.alloc,
             Head::Generated {

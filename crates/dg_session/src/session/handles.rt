@@ -1,19 +1,27 @@
 //! Handles that end, and the pool in which they leave cells.
 
-ghost use Rattle.std.specs.Prelude.{◌≡◌, ℕ, ◌<◌, ◌≤◌, List, [], Ok, Option, Some, true, false};
+ghost use Rattle.std.specs.Prelude.{◌≡◌, ℕ, ◌<◌, ◌≤◌, List, [], ◌∷◌, Ok, Option, Some, true, false, IfSome, MatchOption, length};
+ghost use Rattle.dg_append.specs.Overlays.{IsOverlayOf, SameOverlay, pool_in, pool_of};
+ghost use Rattle.dg_batch.specs.Held.{IsHeld, graphs_held};
+ghost use Rattle.dg_graph.specs.declared.element.Element.{Element};
+ghost use Rattle.dg_handles.specs.Handles.{IsSweptWhole, IsTied, graphs_without, slot_graphs};
 ghost use Rattle.dg_machine.specs.Answer.{headed};
 ghost use Rattle.dg_machine.specs.declared.stands.Stands.TheVariants as Stands;
+ghost use Rattle.dg_machine.specs.MachineState.{dependent_on, union_of_sets, without_handle};
 ghost use Rattle.dg_machine.specs.Needs.{is_base};
+ghost use Rattle.dg_pool.specs.Sweeps.{cells_of};
 ghost use Rattle.dg_session.specs.Session.{ComesTo};
 ghost use Rattle.dg_session.specs.Sweeps.{SweepsPool};
 ghost use Rattle.dg_batch.specs.declared.stop.Stop.TheVariants as stop;
 
 use super::{Session, headed};
+use dg_append::Live;
 use dg_ask::KeptPlanner;
-use dg_batch::{Halt, Stop};
-use dg_handles::{law_tie_is_kept, law_union_of_handles};
+use dg_batch::{Halt, Held, Stop};
+use dg_handles::{Handles, law_tie_is_kept, law_union_of_handles};
 use dg_machine::{Command, Head, Refusal, Reply, Stands};
 use dg_pool::Pool;
+use std::boxed::Box;
 
 impl Session {
     // Gives a handle up.
@@ -29,30 +37,30 @@ impl Session {
         }
         forget_base(&mut self.planner, stands);
         self.held.adjacency.forget_handle(handle);
-        self.held.handles.release(&mut self.held.live.pool, handle);
+        give_up(&mut self.held.handles, &mut self.held.live.pool, handle);
         Ok(headed(self.alloc, Head::Released { handle }))
     }
 
-    // Sweeps so many cells of the pool.
+    // Sweeps so many cells of the pool, if there is one.
     pub(super) fn clean(&mut self, cells: u32) -> Reply
         requires { 1 ≤ cells }
         ensures comes { (image : Option (List ℕ)) → ComesTo (Command.Clean cells) [] self.old.parts image self.new.parts image (Ok result) }
         ensures swept { SweepsPool (Command.Clean cells) self.old.pool self.new.pool result.head }
     {
         law_tie_is_kept();
-        self.held.live.pool.clean(cells);
+        sweep(&mut self.held.live.pool, cells);
         headed(self.alloc, Head::Cleaned)
     }
 
-    // Sweeps all cells of the pool.
+    // Sweeps all cells of the pool, if there is one. Else there is the current graph alone.
     pub(super) fn clean_all(&mut self) -> Reply
         ensures comes { (image : Option (List ℕ)) → ComesTo Command.CleanAll [] self.old.parts image self.new.parts image (Ok result) }
         ensures swept { SweepsPool Command.CleanAll self.old.pool self.new.pool result.head }
     {
         law_tie_is_kept();
         law_union_of_handles();
-        self.held.live.pool.clean_all();
-        let cells = self.held.live.pool.cell_len();
+        sweep_whole(&mut self.held.live.pool);
+        let cells = cells_left(&self.held.live);
         headed(self.alloc, Head::CleanedAll { cells })
     }
 
@@ -60,9 +68,8 @@ impl Session {
     pub(super) fn pool_size(&self) -> Reply
         ensures comes { (image : Option (List ℕ)) → ComesTo Command.Pool [] self.now.parts image self.now.parts image (Ok result) }
     {
-        law_union_of_handles();
         let live = self.held.handles.live();
-        let size = self.held.live.pool.union_len();
+        let size = union_len(&self.held);
         headed(self.alloc, Head::Pool { live, size })
     }
 }
@@ -74,5 +81,64 @@ fn forget_base(planner: &mut KeptPlanner, stands: Stands)
 {
     if matches!(stands, Stands::Base { .. }) {
         planner.forget();
+    }
+}
+
+// Gives the handle up, on which no live one rests, and ends its slot. Where there is no pool, no handle lives.
+fn give_up(handles: &mut Handles, pool: &mut Option<Box<Pool>>, handle: u32)
+    requires tied { IsTied (pool_of pool.old) handles.old }
+    requires unused { dependent_on handle handles.old.table ≡ None }
+    ensures table { handles.new.table ≡ without_handle handle handles.old.table }
+    ensures next { handles.new.next ≡ handles.old.next }
+    ensures graphs { slot_graphs (pool_of pool.new) handles.new.slots ≡ graphs_without handle handles.old.table (slot_graphs (pool_of pool.old) handles.old.slots) }
+    ensures tied { IsTied (pool_of pool.new) handles.new }
+    ensures now { (graph : List Element) → IsOverlayOf graph (pool_in pool.old) → IsOverlayOf graph (pool_in pool.new) }
+{
+    if let Some(pool) = pool {
+        handles.release(pool, handle);
+    }
+}
+
+// Sweeps so many cells of the pool, if there is one.
+fn sweep(pool: &mut Option<Box<Pool>>, cells: u32)
+    requires { 1 ≤ cells }
+    ensures graphs { SameOverlay (pool_in pool.old) (pool_in pool.new) }
+    ensures swept { SweepsPool (Command.Clean cells) (pool_in pool.old) (pool_in pool.new) Head.Cleaned }
+{
+    if let Some(pool) = pool {
+        pool.clean(cells);
+    }
+}
+
+// Sweeps all cells of the pool, if there is one.
+fn sweep_whole(pool: &mut Option<Box<Pool>>)
+    ensures graphs { SameOverlay (pool_in pool.old) (pool_in pool.new) }
+    ensures whole { IfSome (pool_in pool.new) IsSweptWhole }
+{
+    if let Some(pool) = pool {
+        pool.clean_all();
+    }
+}
+
+// How many cells the pool has, and where there is none, how many elements the current graph has.
+fn cells_left(live: &Live) -> u64
+    requires { live.now.history.now.pending ≡ [] }
+    ensures { MatchOption (pool_in live.now.pool) (result ≡ length live.now.history.now.graph) (λ pool. result ≡ length (cells_of pool)) }
+{
+    match &live.pool {
+        Some(pool) => pool.cell_len(),
+        None => live.history.now.len_past(),
+    }
+}
+
+// How many elements the current graph and the graphs of the handles have together.
+fn union_len(held: &Held) -> u64
+    requires { IsHeld held.now }
+    ensures { result ≡ length (union_of_sets (held.now.live.history.now.graph ∷ graphs_held held.now)) }
+{
+    law_union_of_handles();
+    match &held.live.pool {
+        Some(pool) => pool.union_len(),
+        None => held.live.history.now.len_past(),
     }
 }

@@ -3,11 +3,11 @@
 ghost use Rattle.std.specs.Prelude.{◌≡◌, ◌⊎◌, ℕ, ◌+◌, ◌<◌, IfErr, IfSome, IsErrOf, OnOk, Ok, Option, None, not, IfOk};
 ghost use Rattle.dg_disk.specs.Calls.{Fails, IsOnDevice, ReadsDisk, SyncsDisk};
 ghost use Rattle.dg_append.specs.LiveHistories.{IsLiveHistory};
-ghost use Rattle.dg_graph.specs.Replay.{replay_from};
+ghost use Rattle.dg_append.specs.Overlays.{pool_of};
 ghost use Rattle.dg_history.specs.History.{History};
 ghost use Rattle.dg_index.specs.ImageOfHistory.{StandsAs};
 ghost use Rattle.dg_machine.specs.MachineState.{IsWithin, machine_at};
-ghost use Rattle.dg_pool.specs.Graphs.{graph_now, slot_graph};
+ghost use Rattle.dg_pool.specs.Graphs.{slot_graph};
 ghost use Rattle.dg_session.specs.Session.{HoldsImage, StandsFor};
 ghost use Rattle.dg_session.specs.SessionStart.{FailsCheck, IsNew, IsSoundImage};
 ghost use Rattle.dg_start.specs.Calls.{TakesStart};
@@ -20,14 +20,11 @@ use dg_append::Live;
 use dg_ask::{KeptAdjacency, KeptPlanner};
 use dg_batch::Held;
 use dg_disk::Disk;
-use dg_graph::Event;
 use dg_handles::Handles;
 use dg_machine::Limits;
-use dg_pool::Pool;
 use dg_sound::Soundness;
-use dg_start::{OpenedFile, StartFault, StoredHistory, open};
-use std::alloc::{AllocError, Global};
-use std::boxed::Box;
+use dg_start::{StartFault, open};
+use std::alloc::Global;
 use std::thread::Threads;
 
 impl Session {
@@ -62,7 +59,7 @@ impl Session {
         ensures settled { OnOk result (IsOnDevice D.Disk disk.new) }
     {
         let handles = Handles::new(alloc, limits.first_handle)?;
-        match open_overlaid(rt, alloc, disk) {
+        match open_live(rt, alloc, disk) {
             Ok(live) => Ok(Session {
                 limits,
                 held: Held {
@@ -133,18 +130,18 @@ impl Session {
     }
 }
 
-// The history of the file that the disk has, and its pool, which has no other graph than the current one.
-fn open_overlaid<R: Threads + Sync, D: Disk>(
+// The history of the file that the disk has. No graph is overlaid on its current one, and there is no pool.
+fn open_live<R: Threads + Sync, D: Disk>(
     rt: &R,
     alloc: Global,
     disk: &mut D,
 ) -> Result<Live, StartFault>
-    // the history and its pool
+    // the history
     ensures started { IfOk result (λ made. IfSome (D.image disk.old) (λ image.
         Starts image (Ok (started_with (index_opening made.history.index) made.history.names made.history.now.graph made.history.recent.items)))) }
     ensures stands { IfOk result (λ made. IfSome (D.image disk.old) (λ image. (z : Option History) → StandsAs z image
         → KeepsHistory z (index_opening made.history.index) made.history.names made.history.now.graph made.history.recent.items)) }
-    ensures live { IfOk result (λ made. IsLiveHistory made × ((s : ℕ) → slot_graph made.pool.value s ≡ None)) }
+    ensures live { IfOk result (λ made. IsLiveHistory made × ((s : ℕ) → slot_graph (pool_of made.pool) s ≡ None)) }
     ensures held { IfOk result (λ made. IfSome (D.image disk.new) (λ image. IsHeldBy (index_opening made.history.index) made.history.names image)) }
 
     // the bytes read
@@ -160,38 +157,11 @@ fn open_overlaid<R: Threads + Sync, D: Disk>(
     ensures disk { SyncsDisk D.Disk disk.old disk.new }
     ensures settled { OnOk result (IsOnDevice D.Disk disk.new) }
 {
-    match open(
-        rt,
-        alloc,
-        disk,
-        |set| -> Result<Box<Pool>, AllocError>
-            ensures now { IfOk result (λ pool. graph_now pool.value ≡ set.now) }
-            ensures none { IfOk result (λ pool. (s : ℕ) → slot_graph pool.value s ≡ None) }
-        { Ok(Box::new(alloc, Pool::from_set(alloc, set)?)?) },
-    ) {
-        Ok(OpenedFile { history, made }) => match made {
-            Ok(pool) => match past_events(pool, &history.recent) {
-                Ok(pool) => Ok(Live { history, pool }),
-                Err(_) => {
-                    drop(history);
-                    Err(StartFault::Memory)
-                }
-            },
-            Err(_) => {
-                drop(history);
-                Err(StartFault::Memory)
-            }
-        },
+    match open(rt, alloc, disk) {
+        Ok(history) => Ok(Live {
+            history,
+            pool: None,
+        }),
         Err(fault) => Err(fault),
     }
-}
-
-// The pool, with its current graph past the events. An `Err` says that memory ran out.
-fn past_events(mut pool: Box<Pool>, events: &[Event]) -> Result<Box<Pool>, AllocError>
-    ensures now { IfOk result (λ after. graph_now after.value ≡ replay_from (graph_now pool.value) events.now) }
-    ensures slots { IfOk result (λ after. (s : ℕ) → slot_graph after.value s ≡ slot_graph pool.value s) }
-{
-    pool.make_room(events)?;
-    pool.apply_now(events);
-    Ok(pool)
 }

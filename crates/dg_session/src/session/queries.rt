@@ -1,6 +1,7 @@
 //! What is asked of a handle's graph.
 
 ghost use Rattle.std.specs.Prelude.{◌≡◌, ℕ, ◌<◌, IfErr, OnOk, List, [], Ok, Option, None, Some, is_some, true, false, IfOk};
+ghost use Rattle.dg_append.specs.Overlays.{pool_of};
 ghost use Rattle.dg_handles.specs.Handles.{IsTied, graph_among, slot_graphs};
 ghost use Rattle.dg_machine.specs.Answer.{columns_if, headed};
 ghost use Rattle.dg_machine.specs.declared.stands.Stands.TheVariants as Stands;
@@ -17,6 +18,7 @@ use dg_handles::Handles;
 use dg_machine::{BodyLines, Command, Head, Query, Refusal, Reply, Stands};
 use dg_pool::Pool;
 use dg_view::View;
+use std::boxed::Box;
 
 impl Session {
     // What is asked of a handle's graph.
@@ -54,7 +56,7 @@ impl Session {
         ensures live { OnOk result (is_some (stands_at handle self.now.parts.table) ≡ true) }
         ensures none { IfErr result (λ refusal. (is_some (stands_at handle self.now.parts.table) ≡ false) × (refusal ≡ Refusal.UnknownHandle handle)) }
     {
-        match self.held.handles.view(&self.held.live.pool, handle) {
+        match view_of(&self.held.handles, &self.held.live.pool, handle) {
             Some(graph) => Ok(graph),
             None => Err(Refusal::UnknownHandle(handle)),
         }
@@ -111,16 +113,32 @@ fn has_messages(stands: Option<Stands>) -> bool
     }
 }
 
+// The graph of a handle. Where there is no pool there is no handle.
+fn view_of<'a>(handles: &Handles, pool: &'a Option<Box<Pool>>, handle: u32) -> Option<View<'a>>
+    requires tied { IsTied (pool_of pool.now) handles.now }
+    ensures graph { result ≡ graph_among handle handles.now.table (slot_graphs (pool_of pool.now) handles.now.slots) }
+    ensures there { is_some result ≡ is_some (stands_at handle handles.now.table) }
+{
+    match pool {
+        Some(pool) => handles.view(pool, handle),
+        None => None,
+    }
+}
+
 // The graph of a handle that stands for an instant, or why no node of it is asked for.
-fn overlay_of<'a>(handles: &Handles, pool: &'a Pool, handle: u32) -> Result<View<'a>, Refusal>
-    requires tied { IsTied pool.now handles.now }
-    ensures graph { IfOk result (λ graph. graph_among handle handles.now.table (slot_graphs pool.now handles.now.slots) ≡ Some graph) }
+fn overlay_of<'a>(
+    handles: &Handles,
+    pool: &'a Option<Box<Pool>>,
+    handle: u32,
+) -> Result<View<'a>, Refusal>
+    requires tied { IsTied (pool_of pool.now) handles.now }
+    ensures graph { IfOk result (λ graph. graph_among handle handles.now.table (slot_graphs (pool_of pool.now) handles.now.slots) ≡ Some graph) }
     ensures live { OnOk result (is_some (stands_at handle handles.now.table) ≡ true) }
     ensures overlay { OnOk result (is_base (stands_at handle handles.now.table) ≡ false) }
     ensures refused { IfErr result (λ refusal. (p : Parts) → p.table ≡ handles.now.table
         → (id : ℕ) → refused_by p 0 (needs (Command.Ask handle (Query.Node id))) ≡ Some refusal) }
 {
-    let Some(graph) = handles.view(pool, handle) else {
+    let Some(graph) = view_of(handles, pool, handle) else {
         return Err(Refusal::UnknownHandle(handle));
     };
     if matches!(handles.stands(handle), Some(Stands::Base { .. })) {

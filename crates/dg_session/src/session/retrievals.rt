@@ -119,9 +119,11 @@ impl Session {
         ensures added { OnOk result (self.new.parts ≡ with_new_handles self.old.parts (overlays_on cols times.now (bases_of (leads_in leads.now))) (map (led_to self.old.parts.graph (listed_by self.old.parts) cols) (leads_in leads.now))) }
         ensures err { OnErr result (self.new.parts ≡ self.old.parts) }
     {
-        self.held
-            .handles
-            .add(&mut self.held.live.pool, cols, times, leads)
+        self.overlay()?;
+        let Some(pool) = &mut self.held.live.pool else {
+            unreachable!()
+        };
+        self.held.handles.add(pool, cols, times, leads)
     }
 
     // A new handle for the graph as of `t` in these columns.

@@ -1,7 +1,6 @@
 use Rattle.std.proofs.Common.{inl, ◌≡◌, ◌+◌, ◌∙◌, List, Option, Some, length, take, refl, ap, subst}
 use Rattle.std.specs.Prelude.{IfSome}
-use Rattle.std.specs.Box.{with_value}
-use Rattle.dg_append.proofs.AddedBatchOutcomes.{WentOn, added_is, added_leaves, adds, live_after, next_is, not_added, not_added_leaves, nothing_read, ready_here, takes_kept, takes_stopped, total_kept}
+use Rattle.dg_append.proofs.AddedBatchOutcomes.{WentOn, added_is, added_leaves, adds, back_live, live_after, next_is, not_added, not_added_leaves, nothing_read, ready_here, takes_kept, takes_stopped, total_kept}
 use Rattle.dg_append.proofs.BatchCrashes.{cause_refused, reads_leave}
 use Rattle.dg_append.proofs.FrontEvents.{IsPrepared, here, prepared}
 use Rattle.dg_append.proofs.batch.add_batch.Goals as goal
@@ -15,7 +14,6 @@ use Rattle.dg_graph.specs.declared.event.Event.{Event}
 use Rattle.dg_graph.specs.Replay.{replay_from}
 use Rattle.dg_history.specs.History.{last_time_from}
 use Rattle.dg_index.specs.OpenedIndex.{Opening, event_total}
-use Rattle.dg_pool.specs.Graphs.{graph_now}
 use Rattle.dg_start.specs.declared.stored_history.StoredHistory.{StoredHistory}
 use Rattle.dg_start.specs.StoredHistory.{IsHeldBy, index_opening}
 
@@ -29,14 +27,14 @@ keep_batch-requires-clause-next g c =
     let ready : IsReady o b h = ready_here b l o c.requires.may is in
     let events : List Event = c.complete.new.now.pending in
     let p : IsPrepared o b h events =
-    prepared o b h events c.facts.ensures.parameters ready c.facts-2.ensures.graph c.in_default-complete.ensures.whole c.in_default-complete.ensures.done c.in_default-complete.ensures.form in
-    let graph_is : graph_now c.deref_mut.result.now ≡ h.now.graph = ap graph_now c.deref_mut.ensures.value ∙ c.requires.may.pool in
-    next_is o b h (graph_now c.deref_mut.result.now) events _ graph_is
+    prepared o b h events c.facts.ensures.parameters ready c.facts-2.ensures.graph c.in-Ok.ensures.whole c.in-Ok.ensures.done c.in-Ok.ensures.form in
+    let graph_is : c.complete.new.now.graph ≡ h.now.graph = c.complete.ensures.same_graph in
+    next_is o b h c.complete.new.now.graph events _ graph_is
     (record { known_is = refl; names_are = refl; recent_is = c.deref.ensures.value; events_are = c.pending-events.ensures })
-    c.facts-2.ensures.graph.rises ready p
+    c.facts-2.ensures.graph.rises ready p c.in-Ok.ensures.top
 
-pub returns-in-Ok-clause-adds : goal.returns-in-Ok-clause-adds
-returns-in-Ok-clause-adds g c =
+pub returns-in-Ok-keep_batch-clause-adds : goal.returns-in-Ok-keep_batch-clause-adds
+returns-in-Ok-keep_batch-clause-adds g c =
     let o : Opening = c.in-Some.index.opening in
     let b : Batch = c.args.batch in
     let l : Live = c.args.live.now in
@@ -45,28 +43,28 @@ returns-in-Ok-clause-adds g c =
     let ready : IsReady o b h = ready_here b l o c.requires.may is in
     let events : List Event = c.complete.new.now.pending in
     let p : IsPrepared o b h events =
-    prepared o b h events c.facts.ensures.parameters ready c.facts-2.ensures.graph c.in_default-complete.ensures.whole c.in_default-complete.ensures.done c.in_default-complete.ensures.form in
-    let graph_is : graph_now c.deref_mut.result.now ≡ h.now.graph = ap graph_now c.deref_mut.ensures.value ∙ c.requires.may.pool in
+    prepared o b h events c.facts.ensures.parameters ready c.facts-2.ensures.graph c.in-Ok.ensures.whole c.in-Ok.ensures.done c.in-Ok.ensures.form in
+    let graph_is : c.complete.new.now.graph ≡ h.now.graph = c.complete.ensures.same_graph in
     let new : Live = record {
-      history = record { index = Some c.keep_batch.new.index; names = h.names; now = c.commit.new.self; recent = c.in-Ok.left };
-      pool = with_value l.pool c.keep_batch.new.pool;
+      history = record { index = Some c.keep_batch.new.index; names = h.names; now = c.commit.new.self; recent = c.in-Ok-keep_batch.left };
+      pool = c.keep_batch.new.pool;
     } in
-    let went : WentOn l new c.keep_batch.new.index.opening events c.in-Ok.left.items =
+    let went : WentOn l new c.keep_batch.new.index.opening events c.in-Ok-keep_batch.left.items =
     record { index = refl; names_are = refl; graph_is = c.commit.ensures.graph ∙ ap (λ (set : List Element). replay_from set events) c.complete.ensures.same_graph; pending = c.commit.ensures.none; recent_are = refl } in
     let total : c.events_len.result ≡ event_total o.batches + length events =
     c.events_len.ensures.events
-    ∙ total_kept g.D.Disk o c.keep_batch.new.index.opening c.args.limit b l new c.args.disk.now c.keep_batch.new.disk events c.in-Ok.left.items _ c.deref_mut.result.now c.deref_mut.ensures.value graph_is
-    (record { known_is = refl; names_are = refl; recent_is = c.deref.ensures.value; events_are = c.pending-events.ensures }) p c.in-Ok.ensures.kept c.in-Ok.ensures.passed went in
+    ∙ total_kept g.D.Disk o c.keep_batch.new.index.opening c.args.limit b l new c.args.disk.now c.keep_batch.new.disk events c.in-Ok-keep_batch.left.items _ c.requires.may.pool graph_is
+    (record { known_is = refl; names_are = refl; recent_is = c.deref.ensures.value; events_are = c.pending-events.ensures }) p c.in-Ok-keep_batch.ensures.kept c.in-Ok-keep_batch.ensures.passed went in
     let last : c.last_instant.result ≡ last_time_from 0 events = c.last_instant.ensures ∙ ap (last_time_from 0) c.pending-events.ensures in
     let added : AddedBatch = record { events = length c.pending-events.result.now; total = c.events_len.result; last = c.last_instant.result } in
     here (index_opening h.index) o (λ (x : Opening). AddsBatch x c.args.limit b l new (g.D.Disk.image c.args.disk.now) (g.D.Disk.image c.keep_batch.new.disk) added) is
-    (adds g.D.Disk o c.keep_batch.new.index.opening c.args.limit b l new c.args.disk.now c.keep_batch.new.disk events c.in-Ok.left.items _ c.deref_mut.result.now c.deref_mut.ensures.value graph_is
-    (record { known_is = refl; names_are = refl; recent_is = c.deref.ensures.value; events_are = c.pending-events.ensures }) p c.in-Ok.ensures.kept c.in-Ok.ensures.passed went
-    added (subst (λ (i : Option Opening). IfSome (g.D.Disk.image c.args.disk.now) (IsHeldBy i (take b.known h.names))) is c.requires.image) c.in-Ok.ensures.disk.used.told
+    (adds g.D.Disk o c.keep_batch.new.index.opening c.args.limit b l new c.args.disk.now c.keep_batch.new.disk events c.in-Ok-keep_batch.left.items _ c.requires.may.pool graph_is
+    (record { known_is = refl; names_are = refl; recent_is = c.deref.ensures.value; events_are = c.pending-events.ensures }) p c.in-Ok-keep_batch.ensures.kept c.in-Ok-keep_batch.ensures.passed went
+    added (subst (λ (i : Option Opening). IfSome (g.D.Disk.image c.args.disk.now) (IsHeldBy i (take b.known h.names))) is c.requires.image) c.in-Ok-keep_batch.ensures.disk.used.told
     (added_is (length c.pending-events.result.now) (length events) c.events_len.result (event_total o.batches + length events) c.last_instant.result (last_time_from 0 events) (ap length c.pending-events.ensures) total last))
 
-pub returns-in-Ok-clause-live : goal.returns-in-Ok-clause-live
-returns-in-Ok-clause-live g c =
+pub returns-in-Ok-keep_batch-clause-live : goal.returns-in-Ok-keep_batch-clause-live
+returns-in-Ok-keep_batch-clause-live g c =
     let o : Opening = c.in-Some.index.opening in
     let b : Batch = c.args.batch in
     let l : Live = c.args.live.now in
@@ -75,19 +73,19 @@ returns-in-Ok-clause-live g c =
     let ready : IsReady o b h = ready_here b l o c.requires.may is in
     let events : List Event = c.complete.new.now.pending in
     let p : IsPrepared o b h events =
-    prepared o b h events c.facts.ensures.parameters ready c.facts-2.ensures.graph c.in_default-complete.ensures.whole c.in_default-complete.ensures.done c.in_default-complete.ensures.form in
-    let graph_is : graph_now c.deref_mut.result.now ≡ h.now.graph = ap graph_now c.deref_mut.ensures.value ∙ c.requires.may.pool in
+    prepared o b h events c.facts.ensures.parameters ready c.facts-2.ensures.graph c.in-Ok.ensures.whole c.in-Ok.ensures.done c.in-Ok.ensures.form in
+    let graph_is : c.complete.new.now.graph ≡ h.now.graph = c.complete.ensures.same_graph in
     let new : Live = record {
-      history = record { index = Some c.keep_batch.new.index; names = h.names; now = c.commit.new.self; recent = c.in-Ok.left };
-      pool = with_value l.pool c.keep_batch.new.pool;
+      history = record { index = Some c.keep_batch.new.index; names = h.names; now = c.commit.new.self; recent = c.in-Ok-keep_batch.left };
+      pool = c.keep_batch.new.pool;
     } in
-    let went : WentOn l new c.keep_batch.new.index.opening events c.in-Ok.left.items =
+    let went : WentOn l new c.keep_batch.new.index.opening events c.in-Ok-keep_batch.left.items =
     record { index = refl; names_are = refl; graph_is = c.commit.ensures.graph ∙ ap (λ (set : List Element). replay_from set events) c.complete.ensures.same_graph; pending = c.commit.ensures.none; recent_are = refl } in
-    live_after g.D.Disk o c.keep_batch.new.index.opening c.args.limit b l new c.args.disk.now c.keep_batch.new.disk events c.in-Ok.left.items _ c.deref_mut.result.now c.deref_mut.ensures.value graph_is
-    (record { known_is = refl; names_are = refl; recent_is = c.deref.ensures.value; events_are = c.pending-events.ensures }) p c.in-Ok.ensures.kept c.in-Ok.ensures.passed went ready
+    live_after g.D.Disk o c.keep_batch.new.index.opening c.args.limit b l new c.args.disk.now c.keep_batch.new.disk events c.in-Ok-keep_batch.left.items _ c.requires.may.pool graph_is
+    (record { known_is = refl; names_are = refl; recent_is = c.deref.ensures.value; events_are = c.pending-events.ensures }) p c.in-Ok-keep_batch.ensures.kept c.in-Ok-keep_batch.ensures.passed went ready
 
-pub returns-in-Ok-clause-reads : goal.returns-in-Ok-clause-reads
-returns-in-Ok-clause-reads g c =
+pub returns-in-Ok-keep_batch-clause-reads : goal.returns-in-Ok-keep_batch-clause-reads
+returns-in-Ok-keep_batch-clause-reads g c =
     let o : Opening = c.in-Some.index.opening in
     let b : Batch = c.args.batch in
     let l : Live = c.args.live.now in
@@ -96,20 +94,20 @@ returns-in-Ok-clause-reads g c =
     let ready : IsReady o b h = ready_here b l o c.requires.may is in
     let events : List Event = c.complete.new.now.pending in
     let p : IsPrepared o b h events =
-    prepared o b h events c.facts.ensures.parameters ready c.facts-2.ensures.graph c.in_default-complete.ensures.whole c.in_default-complete.ensures.done c.in_default-complete.ensures.form in
-    let graph_is : graph_now c.deref_mut.result.now ≡ h.now.graph = ap graph_now c.deref_mut.ensures.value ∙ c.requires.may.pool in
+    prepared o b h events c.facts.ensures.parameters ready c.facts-2.ensures.graph c.in-Ok.ensures.whole c.in-Ok.ensures.done c.in-Ok.ensures.form in
+    let graph_is : c.complete.new.now.graph ≡ h.now.graph = c.complete.ensures.same_graph in
     here (index_opening h.index) o _ is
     (record {
-      older = takes_kept o b h (graph_now c.deref_mut.result.now) events _ graph_is
+      older = takes_kept o b h c.complete.new.now.graph events _ graph_is
           (record { known_is = refl; names_are = refl; recent_is = c.deref.ensures.value; events_are = c.pending-events.ensures })
           g.D.Disk c.args.limit c.keep_batch.new.index.opening c.args.disk.now c.keep_batch.new.disk (g.D.Disk.taken c.args.disk.now) (g.D.Disk.taken c.keep_batch.new.disk)
-          c.in-Ok.ensures.kept p.many c.keep_batch.ensures.most;
+          c.in-Ok-keep_batch.ensures.kept p.many c.keep_batch.ensures.most;
       refused = tt;
       unkept = λ not. absurd (not p.whole);
     })
 
-pub returns-in-Err-keep_batch-clause-fails : goal.returns-in-Err-keep_batch-clause-fails
-returns-in-Err-keep_batch-clause-fails g c =
+pub returns-clause-fails : goal.returns-clause-fails
+returns-clause-fails g c =
     let o : Opening = c.in-Some.index.opening in
     let b : Batch = c.args.batch in
     let l : Live = c.args.live.now in
@@ -118,15 +116,29 @@ returns-in-Err-keep_batch-clause-fails g c =
     let ready : IsReady o b h = ready_here b l o c.requires.may is in
     let events : List Event = c.complete.new.now.pending in
     let p : IsPrepared o b h events =
-    prepared o b h events c.facts.ensures.parameters ready c.facts-2.ensures.graph c.in_default-complete.ensures.whole c.in_default-complete.ensures.done c.in_default-complete.ensures.form in
-    let graph_is : graph_now c.deref_mut.result.now ≡ h.now.graph = ap graph_now c.deref_mut.ensures.value ∙ c.requires.may.pool in
+    prepared o b h events c.facts.ensures.parameters ready c.facts-2.ensures.graph c.in-Ok.ensures.whole c.in-Ok.ensures.done c.in-Ok.ensures.form in
+    let graph_is : c.complete.new.now.graph ≡ h.now.graph = c.complete.ensures.same_graph in
     here (index_opening h.index) o _ is
-    (not_added o b h (graph_now c.deref_mut.result.now) events _ graph_is
+    (not_added o b h c.complete.new.now.graph events _ graph_is
     (record { known_is = refl; names_are = refl; recent_is = c.deref.ensures.value; events_are = c.pending-events.ensures })
     c.args.limit (g.D.Disk.image c.args.disk.now) (g.D.Disk.image c.keep_batch.new.disk) c.in-Err-keep_batch.fault p c.in-Err-keep_batch.ensures.fails)
 
-pub returns-in-Err-keep_batch-clause-reads : goal.returns-in-Err-keep_batch-clause-reads
-returns-in-Err-keep_batch-clause-reads g c =
+pub returns-clause-live : goal.returns-clause-live
+returns-clause-live g c =
+    let o : Opening = c.in-Some.index.opening in
+    let b : Batch = c.args.batch in
+    let l : Live = c.args.live.now in
+    let is : index_opening l.history.index ≡ Some o = ap index_opening c.in-Some.is in
+    let ready : IsReady o b l.history = ready_here b l o c.requires.may is in
+    let middle : Live = record {
+      history = record { index = Some c.keep_batch.new.index; names = l.history.names; now = c.complete.new.now; recent = l.history.recent };
+      pool = c.keep_batch.new.pool;
+    } in
+    back_live b.known o l middle c.give_back-in-Err-keep_batch.new.live ready.sound c.requires.may.pool refl c.complete.ensures.same_graph refl
+    c.in-Err-keep_batch.ensures.back.graphs c.in-Err-keep_batch.fault c.keep_batch.new.index.opening refl c.in-Err-keep_batch.ensures.back.index c.give_back-in-Err-keep_batch.ensures
+
+pub returns-clause-reads : goal.returns-clause-reads
+returns-clause-reads g c =
     let o : Opening = c.in-Some.index.opening in
     let b : Batch = c.args.batch in
     let l : Live = c.args.live.now in
@@ -135,15 +147,15 @@ returns-in-Err-keep_batch-clause-reads g c =
     let ready : IsReady o b h = ready_here b l o c.requires.may is in
     let events : List Event = c.complete.new.now.pending in
     let p : IsPrepared o b h events =
-    prepared o b h events c.facts.ensures.parameters ready c.facts-2.ensures.graph c.in_default-complete.ensures.whole c.in_default-complete.ensures.done c.in_default-complete.ensures.form in
-    let graph_is : graph_now c.deref_mut.result.now ≡ h.now.graph = ap graph_now c.deref_mut.ensures.value ∙ c.requires.may.pool in
+    prepared o b h events c.facts.ensures.parameters ready c.facts-2.ensures.graph c.in-Ok.ensures.whole c.in-Ok.ensures.done c.in-Ok.ensures.form in
+    let graph_is : c.complete.new.now.graph ≡ h.now.graph = c.complete.ensures.same_graph in
     here (index_opening h.index) o _ is
     (record {
-      older = takes_stopped o b h (graph_now c.deref_mut.result.now) events _ graph_is
+      older = takes_stopped o b h c.complete.new.now.graph events _ graph_is
           (record { known_is = refl; names_are = refl; recent_is = c.deref.ensures.value; events_are = c.pending-events.ensures })
           c.args.limit (g.D.Disk.image c.args.disk.now) (g.D.Disk.image c.keep_batch.new.disk) c.in-Err-keep_batch.fault (g.D.Disk.taken c.args.disk.now) (g.D.Disk.taken c.keep_batch.new.disk)
           c.in-Err-keep_batch.ensures.fails p.many c.keep_batch.ensures.most;
-      refused = nothing_read c.args.limit o _ (graph_now c.deref_mut.result.now) (g.D.Disk.image c.args.disk.now) (g.D.Disk.image c.keep_batch.new.disk) c.in-Err-keep_batch.fault
+      refused = nothing_read c.args.limit o _ c.complete.new.now.graph (g.D.Disk.image c.args.disk.now) (g.D.Disk.image c.keep_batch.new.disk) c.in-Err-keep_batch.fault
           (g.D.Disk.taken c.args.disk.now) (g.D.Disk.taken c.keep_batch.new.disk) c.in-Err-keep_batch.ensures.fails;
       unkept = λ not. absurd (not p.whole);
     })
@@ -159,8 +171,8 @@ returns-in-Err-clause-disk g c =
     (λ before held. here (index_opening h.index) o (λ o. AddsBehindOrNot o b h before before) is (λ z over. inl over.stands))
     c.requires.image c.in-Err.fault (cause_refused g.D.Disk c.args.disk.now o h.now.graph b c.in-Err.fault c.in-Err.ensures.refused)
 
-pub returns-in-Ok-clause-disk : goal.returns-in-Ok-clause-disk
-returns-in-Ok-clause-disk g c =
+pub returns-in-Ok-keep_batch-clause-disk : goal.returns-in-Ok-keep_batch-clause-disk
+returns-in-Ok-keep_batch-clause-disk g c =
     let o : Opening = c.in-Some.index.opening in
     let b : Batch = c.args.batch in
     let l : Live = c.args.live.now in
@@ -169,14 +181,14 @@ returns-in-Ok-clause-disk g c =
     let ready : IsReady o b h = ready_here b l o c.requires.may is in
     let events : List Event = c.complete.new.now.pending in
     let p : IsPrepared o b h events =
-    prepared o b h events c.facts.ensures.parameters ready c.facts-2.ensures.graph c.in_default-complete.ensures.whole c.in_default-complete.ensures.done c.in_default-complete.ensures.form in
-    let graph_is : graph_now c.deref_mut.result.now ≡ h.now.graph = ap graph_now c.deref_mut.ensures.value ∙ c.requires.may.pool in
-    added_leaves o b h (graph_now c.deref_mut.result.now) events _ graph_is
+    prepared o b h events c.facts.ensures.parameters ready c.facts-2.ensures.graph c.in-Ok.ensures.whole c.in-Ok.ensures.done c.in-Ok.ensures.form in
+    let graph_is : c.complete.new.now.graph ≡ h.now.graph = c.complete.ensures.same_graph in
+    added_leaves o b h c.complete.new.now.graph events _ graph_is
     (record { known_is = refl; names_are = refl; recent_is = c.deref.ensures.value; events_are = c.pending-events.ensures })
-    g.D.Disk c.args.limit c.args.disk.now c.keep_batch.new.disk is p c.requires.image c.keep_batch.new.index.opening c.in-Ok.left _ c.in-Ok.ensures.kept c.in-Ok.ensures.disk
+    g.D.Disk c.args.limit c.args.disk.now c.keep_batch.new.disk is p c.requires.image c.keep_batch.new.index.opening c.in-Ok-keep_batch.left _ c.in-Ok-keep_batch.ensures.kept c.in-Ok-keep_batch.ensures.disk
 
-pub returns-in-Err-keep_batch-clause-disk : goal.returns-in-Err-keep_batch-clause-disk
-returns-in-Err-keep_batch-clause-disk g c =
+pub returns-clause-disk : goal.returns-clause-disk
+returns-clause-disk g c =
     let o : Opening = c.in-Some.index.opening in
     let b : Batch = c.args.batch in
     let l : Live = c.args.live.now in
@@ -185,8 +197,8 @@ returns-in-Err-keep_batch-clause-disk g c =
     let ready : IsReady o b h = ready_here b l o c.requires.may is in
     let events : List Event = c.complete.new.now.pending in
     let p : IsPrepared o b h events =
-    prepared o b h events c.facts.ensures.parameters ready c.facts-2.ensures.graph c.in_default-complete.ensures.whole c.in_default-complete.ensures.done c.in_default-complete.ensures.form in
-    let graph_is : graph_now c.deref_mut.result.now ≡ h.now.graph = ap graph_now c.deref_mut.ensures.value ∙ c.requires.may.pool in
-    not_added_leaves o b h (graph_now c.deref_mut.result.now) events _ graph_is
+    prepared o b h events c.facts.ensures.parameters ready c.facts-2.ensures.graph c.in-Ok.ensures.whole c.in-Ok.ensures.done c.in-Ok.ensures.form in
+    let graph_is : c.complete.new.now.graph ≡ h.now.graph = c.complete.ensures.same_graph in
+    not_added_leaves o b h c.complete.new.now.graph events _ graph_is
     (record { known_is = refl; names_are = refl; recent_is = c.deref.ensures.value; events_are = c.pending-events.ensures })
     g.D.Disk c.args.limit c.args.disk.now c.keep_batch.new.disk is p c.requires.image c.in-Err-keep_batch.fault c.in-Err-keep_batch.ensures.fails c.in-Err-keep_batch.ensures.disk

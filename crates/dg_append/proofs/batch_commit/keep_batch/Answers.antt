@@ -1,22 +1,21 @@
-use Rattle.std.proofs.Common.{◌≡◌, inl, Some, Err, ◌∙◌, List, take, drop, sym, ap, subst, arith}
+use Rattle.std.proofs.Common.{◌≡◌, inl, Some, Err, take, drop, sym, ap, subst, arith}
 use Rattle.dg_append.proofs.BatchCrashes.{cause_made, kept_leaves, not_kept_leaves, reads_leave}
 use Rattle.dg_append.proofs.BatchSegmentIndex.{segment_due}
 use Rattle.dg_append.proofs.FrontEvents.{may_name_parts}
 use Rattle.dg_append.proofs.KeptBatchOutcomes.{err_as, err_is, fits_here, keeps_batch, made_stays, opened_as, stays_kept, stops_kept, stops_made}
+use Rattle.dg_append.proofs.Overlays.{goes_past}
 use Rattle.dg_append.proofs.batch_commit.keep_batch.Goals as goal
-use Rattle.dg_append.specs.BatchNets.{led_by}
 use Rattle.dg_append.specs.BatchSegments.{TakesSinglesOver}
 use Rattle.dg_append.specs.declared.fault.BatchFault.{BatchFault}
 use Rattle.dg_append.specs.DiskLeft.{LeavesDisk}
 use Rattle.dg_append.specs.KeptBatches.{GainsNextOrNot, StopsKeeping}
 use Rattle.dg_append.specs.declared.next_batch.NextBatch.{NextBatch}
+use Rattle.dg_append.specs.Overlays.{pool_in}
 use Rattle.dg_file.specs.Calls.{CommitsSegment}
 use Rattle.dg_file.specs.Index.{IndexState}
-use Rattle.dg_graph.specs.declared.element.Element.{Element}
 use Rattle.dg_index.specs.FileOfHistory.{Segment}
 use Rattle.dg_index.specs.IndexGrowth.{IsDue}
 use Rattle.dg_index.specs.OpenedIndex.{Opening}
-use Rattle.dg_pool.specs.Graphs.{graph_now}
 use Rattle.dg_start.specs.StoredHistory.{IsHeldBy}
 
 -- what is said of a segment behind an index is said of it behind one that is the same
@@ -45,7 +44,7 @@ keep_segment-requires-clause-image g c =
 pub returns-in_err-made-clause-fails : goal.returns-in_err-made-clause-fails
 returns-in_err-made-clause-fails g c =
     err_is c.from_residual.result c.in_err-made.field-0.0 _ c.from_residual.ensures
-    (stops_made c.args.limit c.args.index.now.opening c.args.next.now (graph_now c.args.pool.now) (g.D.Disk.image c.args.disk.now) (g.D.Disk.image c.make_batch.new.disk) c.in_err-made.field-0.0
+    (stops_made c.args.limit c.args.index.now.opening c.args.next.now c.args.next.now.current.now.graph (g.D.Disk.image c.args.disk.now) (g.D.Disk.image c.make_batch.new.disk) c.in_err-made.field-0.0
     c.make_batch.ensures.disk.same_image c.in_err-made.ensures.fails)
 
 pub returns-in_err-made-clause-back : goal.returns-in_err-made-clause-back
@@ -59,7 +58,7 @@ returns-in_err-made-clause-back g c =
 pub returns-in_err-keep_segment-clause-fails : goal.returns-in_err-keep_segment-clause-fails
 returns-in_err-keep_segment-clause-fails g c =
     err_is c.from_residual-in_err-keep_segment.result c.in_err-keep_segment.field-0.0 _ c.from_residual-in_err-keep_segment.ensures
-    (stops_kept g.D.Disk c.args.limit c.args.index.now.opening c.keep_segment.new.index.opening c.args.next.now (graph_now c.args.pool.now) c.in_ok-made.made.segment c.args.disk.now c.make_batch.new.disk c.keep_segment.new.disk
+    (stops_kept g.D.Disk c.args.limit c.args.index.now.opening c.keep_segment.new.index.opening c.args.next.now c.args.next.now.current.now.graph c.in_ok-made.made.segment c.args.disk.now c.make_batch.new.disk c.keep_segment.new.disk
     c.make_batch.ensures.disk c.in_ok-made.ensures.made.segment c.in_err-keep_segment.field-0.0
     (behind (λ (o : Opening). StopsKeeping g.D.Disk c.args.limit o c.in_ok-made.made.segment c.keep_segment.new.index.opening c.make_batch.new.disk c.keep_segment.new.disk c.in_err-keep_segment.field-0.0) c.make_batch.ensures.same c.in_err-keep_segment.ensures.fails))
 
@@ -67,7 +66,7 @@ pub returns-in_err-keep_segment-clause-back : goal.returns-in_err-keep_segment-c
 returns-in_err-keep_segment-clause-back g c =
     err_is c.from_residual-in_err-keep_segment.result c.in_err-keep_segment.field-0.0 _ c.from_residual-in_err-keep_segment.ensures
     (record {
-      index = stays_kept g.D.Disk c.args.limit c.args.index.now.opening c.keep_segment.new.index.opening c.args.next.now (graph_now c.args.pool.now) c.in_ok-made.made.segment c.args.disk.now c.make_batch.new.disk c.keep_segment.new.disk
+      index = stays_kept g.D.Disk c.args.limit c.args.index.now.opening c.keep_segment.new.index.opening c.args.next.now c.args.next.now.current.now.graph c.in_ok-made.made.segment c.args.disk.now c.make_batch.new.disk c.keep_segment.new.disk
           c.make_batch.ensures.disk c.in_ok-made.ensures.made.segment c.in_err-keep_segment.field-0.0
           (behind (λ (o : Opening). StopsKeeping g.D.Disk c.args.limit o c.in_ok-made.made.segment c.keep_segment.new.index.opening c.make_batch.new.disk c.keep_segment.new.disk c.in_err-keep_segment.field-0.0) c.make_batch.ensures.same c.in_err-keep_segment.ensures.fails);
       graphs = c.make_batch.ensures.graphs;
@@ -75,47 +74,45 @@ returns-in_err-keep_segment-clause-back g c =
 
 pub returns-clause-kept : goal.returns-clause-kept
 returns-clause-kept g c =
-    keeps_batch g.D.Disk c.args.limit c.args.index.now.opening c.keep_segment.new.index.opening c.args.next.now (graph_now c.args.pool.now) c.in_ok-made.made.segment c.args.disk.now c.make_batch.new.disk c.keep_segment.new.disk
+    keeps_batch g.D.Disk c.args.limit c.args.index.now.opening c.keep_segment.new.index.opening c.args.next.now c.args.next.now.current.now.graph c.in_ok-made.made.segment c.args.disk.now c.make_batch.new.disk c.keep_segment.new.disk
     c.make_batch.ensures.disk c.in_ok-made.ensures.made.segment
     (behind (λ (o : Opening). CommitsSegment g.D.Disk c.args.limit o c.in_ok-made.made.segment c.keep_segment.new.index.opening c.make_batch.new.disk c.keep_segment.new.disk) c.make_batch.ensures.same c.in_ok-keep_segment.ensures.kept)
 
 pub returns-clause-passed : goal.returns-clause-passed
 returns-clause-passed g c = record {
   left_is = c.in_ok-made.ensures.made.left;
-  now =
-      c.pass_batch.ensures.now ∙ ap (λ (set : List Element). led_by c.in_ok-made.made.nets.earlier c.in_ok-made.made.nets.later set) c.make_batch.ensures.graphs.now
-      ∙ c.in_ok-made.ensures.made.leads (graph_now c.args.pool.now) c.requires.next.set;
-  slots = λ s. c.pass_batch.ensures.slots s ∙ c.make_batch.ensures.graphs.slots s;
+  past = goes_past c.args.next.now.events.now c.in_ok-made.made.nets (pool_in c.args.pool.now) (pool_in c.make_batch.new.pool) (pool_in c.pass_batch.new.pool)
+      c.make_batch.ensures.graphs c.in_ok-made.ensures.made.leads c.pass_batch.ensures;
 }
 
 pub returns-in_err-keep_segment-clause-most : goal.returns-in_err-keep_segment-clause-most
 returns-in_err-keep_segment-clause-most g c =
-    subst (λ n. TakesSinglesOver (g.D.Disk.image c.args.disk.now) c.args.index.now.opening c.args.next.now (graph_now c.args.pool.now) (g.D.Disk.taken c.args.disk.now) n)
+    subst (λ n. TakesSinglesOver (g.D.Disk.image c.args.disk.now) c.args.index.now.opening c.args.next.now c.args.next.now.current.now.graph (g.D.Disk.taken c.args.disk.now) n)
     (sym c.keep_segment.ensures.disk.nothing_read) c.make_batch.ensures.most
 
 pub returns-in_err-made-clause-disk : goal.returns-in_err-made-clause-disk
 returns-in_err-made-clause-disk g c =
-    err_as c.from_residual.result c.in_err-made.field-0.0 (LeavesDisk g.D.Disk (GainsNextOrNot c.args.index.now.opening c.args.next.now (graph_now c.args.pool.now)) c.args.disk.now c.make_batch.new.disk) c.from_residual.ensures
+    err_as c.from_residual.result c.in_err-made.field-0.0 (LeavesDisk g.D.Disk (GainsNextOrNot c.args.index.now.opening c.args.next.now c.args.next.now.current.now.graph) c.args.disk.now c.make_batch.new.disk) c.from_residual.ensures
     (reads_leave g.D.Disk c.args.disk.now c.make_batch.new.disk g.met.D.Disk.only_now c.make_batch.ensures.disk
-    (IsHeldBy (Some c.args.index.now.opening) (take c.args.next.now.known c.args.next.now.names.now)) (GainsNextOrNot c.args.index.now.opening c.args.next.now (graph_now c.args.pool.now))
+    (IsHeldBy (Some c.args.index.now.opening) (take c.args.next.now.known c.args.next.now.names.now)) (GainsNextOrNot c.args.index.now.opening c.args.next.now c.args.next.now.current.now.graph)
     (λ a held z kept legal. inl kept.0) c.requires.image c.in_err-made.field-0.0
-    (cause_made g.D.Disk c.args.disk.now c.make_batch.new.disk c.make_batch.ensures.disk (g.D.Disk.image c.args.disk.now) c.args.index.now.opening c.args.next.now (graph_now c.args.pool.now) c.in_err-made.field-0.0
+    (cause_made g.D.Disk c.args.disk.now c.make_batch.new.disk c.make_batch.ensures.disk (g.D.Disk.image c.args.disk.now) c.args.index.now.opening c.args.next.now c.args.next.now.current.now.graph c.in_err-made.field-0.0
     c.in_err-made.ensures.fails (λ read. c.in_err-made.ensures.cause (ap (λ (f : BatchFault). Err f) read))))
 
 pub returns-in_err-keep_segment-clause-disk : goal.returns-in_err-keep_segment-clause-disk
 returns-in_err-keep_segment-clause-disk g c =
-    err_as c.from_residual-in_err-keep_segment.result c.in_err-keep_segment.field-0.0 (LeavesDisk g.D.Disk (GainsNextOrNot c.args.index.now.opening c.args.next.now (graph_now c.args.pool.now)) c.args.disk.now c.keep_segment.new.disk) c.from_residual-in_err-keep_segment.ensures
-    (not_kept_leaves g.D.Disk c.args.limit c.args.index.now.opening c.keep_segment.new.index.opening c.args.next.now (graph_now c.args.pool.now) c.in_ok-made.made.segment c.args.disk.now c.make_batch.new.disk c.keep_segment.new.disk
+    err_as c.from_residual-in_err-keep_segment.result c.in_err-keep_segment.field-0.0 (LeavesDisk g.D.Disk (GainsNextOrNot c.args.index.now.opening c.args.next.now c.args.next.now.current.now.graph) c.args.disk.now c.keep_segment.new.disk) c.from_residual-in_err-keep_segment.ensures
+    (not_kept_leaves g.D.Disk c.args.limit c.args.index.now.opening c.keep_segment.new.index.opening c.args.next.now c.args.next.now.current.now.graph c.in_ok-made.made.segment c.args.disk.now c.make_batch.new.disk c.keep_segment.new.disk
     c.make_batch.ensures.disk c.keep_segment.ensures.disk c.in_ok-made.ensures.made.segment.built c.keep_segment.ensures.crash c.in_err-keep_segment.field-0.0
     (behind (λ (o : Opening). StopsKeeping g.D.Disk c.args.limit o c.in_ok-made.made.segment c.keep_segment.new.index.opening c.make_batch.new.disk c.keep_segment.new.disk c.in_err-keep_segment.field-0.0) c.make_batch.ensures.same c.in_err-keep_segment.ensures.fails))
 
 pub returns-clause-most : goal.returns-clause-most
 returns-clause-most g c =
-    subst (λ n. TakesSinglesOver (g.D.Disk.image c.args.disk.now) c.args.index.now.opening c.args.next.now (graph_now c.args.pool.now) (g.D.Disk.taken c.args.disk.now) n)
+    subst (λ n. TakesSinglesOver (g.D.Disk.image c.args.disk.now) c.args.index.now.opening c.args.next.now c.args.next.now.current.now.graph (g.D.Disk.taken c.args.disk.now) n)
     (sym c.keep_segment.ensures.disk.nothing_read) c.make_batch.ensures.most
 
 pub returns-clause-disk : goal.returns-clause-disk
 returns-clause-disk g c =
-    kept_leaves g.D.Disk c.args.limit c.args.index.now.opening c.keep_segment.new.index.opening c.args.next.now (graph_now c.args.pool.now) c.in_ok-made.made.segment c.args.disk.now c.make_batch.new.disk c.keep_segment.new.disk
+    kept_leaves g.D.Disk c.args.limit c.args.index.now.opening c.keep_segment.new.index.opening c.args.next.now c.args.next.now.current.now.graph c.in_ok-made.made.segment c.args.disk.now c.make_batch.new.disk c.keep_segment.new.disk
     c.make_batch.ensures.disk c.keep_segment.ensures.disk c.in_ok-made.ensures.made.segment.built c.keep_segment.ensures.crash c.in_ok-made.made.left
     (behind (λ (o : Opening). CommitsSegment g.D.Disk c.args.limit o c.in_ok-made.made.segment c.keep_segment.new.index.opening c.make_batch.new.disk c.keep_segment.new.disk) c.make_batch.ensures.same c.in_ok-keep_segment.ensures.kept)

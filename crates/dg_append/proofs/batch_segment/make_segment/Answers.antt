@@ -10,10 +10,9 @@ use Rattle.dg_build.specs.OlderSteps.{older_in_time}
 use Rattle.dg_file.specs.Index.{IndexState}
 use Rattle.dg_graph.specs.Composition.{Delta}
 use Rattle.dg_index.specs.OpenedIndex.{Opening}
-use Rattle.dg_pool.specs.Graphs.{graph_now}
 
 pub segment_of-requires-clause-next : goal.segment_of-requires-clause-next
-segment_of-requires-clause-next g c = subst (λ (x : IndexState). IsNext x.opening c.args.next.now (graph_now c.args.pool.now)) (sym c.older_steps.ensures.reads.same) c.requires.next
+segment_of-requires-clause-next g c = subst (λ (x : IndexState). IsNext x.opening c.args.next.now c.args.next.now.current.now.graph) (sym c.older_steps.ensures.reads.same) c.requires.next
 
 pub segment_of-requires-clause-older : goal.segment_of-requires-clause-older
 segment_of-requires-clause-older g c =
@@ -23,12 +22,12 @@ segment_of-requires-clause-older g c =
 pub returns-in_err-older-clause-fails : goal.returns-in_err-older-clause-fails
 returns-in_err-older-clause-fails g c =
     err_is c.from_residual.result (of_retrieval c.in_err-older.field-0.0) _ c.from_residual.ensures
-    (unread_over c.args.index.now.opening c.args.next.now (graph_now c.args.pool.now) (g.D.Disk.image c.args.disk.now) (g.D.Disk.taken c.args.disk.now) (g.D.Disk.taken c.older_steps.new.disk) c.in_err-older.field-0.0
+    (unread_over c.args.index.now.opening c.args.next.now c.args.next.now.current.now.graph (g.D.Disk.image c.args.disk.now) (g.D.Disk.taken c.args.disk.now) (g.D.Disk.taken c.older_steps.new.disk) c.in_err-older.field-0.0
     c.in_err-older.ensures.over c.in_err-older.ensures.damage)
 
 pub returns-in_err-older-clause-most : goal.returns-in_err-older-clause-most
 returns-in_err-older-clause-most g c =
-    kept_takes c.args.index.now.opening c.args.next.now (graph_now c.args.pool.now) (g.D.Disk.image c.args.disk.now) (g.D.Disk.taken c.args.disk.now) (g.D.Disk.taken c.older_steps.new.disk)
+    kept_takes c.args.index.now.opening c.args.next.now c.args.next.now.current.now.graph (g.D.Disk.image c.args.disk.now) (g.D.Disk.taken c.args.disk.now) (g.D.Disk.taken c.older_steps.new.disk)
     (Err c.in_err-older.field-0.0) c.in_err-older.ensures.over
 
 pub returns-clause-made : goal.returns-clause-made
@@ -36,9 +35,9 @@ returns-clause-made g c =
     let told : Option (List ℕ) = g.D.Disk.image c.args.disk.now in
     let o : Opening = c.args.index.now.opening in
     let n : NextBatch = c.args.next.now in
-    made_over told o c.older_steps.new.index.opening n (graph_now c.args.pool.now) c.in_ok-older.older.items c.deref.result.now
+    made_over told o c.older_steps.new.index.opening n c.args.next.now.current.now.graph c.in_ok-older.older.items c.deref.result.now
     (ap (λ (x : IndexState). x.opening) c.older_steps.ensures.reads.same) c.deref.ensures.value c.requires.next
-    (steps_given o n (graph_now c.args.pool.now) told (g.D.Disk.taken c.args.disk.now) (g.D.Disk.taken c.older_steps.new.disk) c.in_ok-older.older c.in_ok-older.ensures.over)
+    (steps_given o n c.args.next.now.current.now.graph told (g.D.Disk.taken c.args.disk.now) (g.D.Disk.taken c.older_steps.new.disk) c.in_ok-older.older c.in_ok-older.ensures.over)
     c.in_ok-older.ensures.damage c.in_ok-older.ensures.led c.segment_of.result c.segment_of.ensures.behind c.segment_of.ensures.is
 
 pub returns-clause-fails : goal.returns-clause-fails
@@ -46,12 +45,12 @@ returns-clause-fails g c =
     let told : Option (List ℕ) = g.D.Disk.image c.args.disk.now in
     let o : Opening = c.args.index.now.opening in
     let n : NextBatch = c.args.next.now in
-    unmade_over told o c.older_steps.new.index.opening n (graph_now c.args.pool.now) c.in_ok-older.older.items c.deref.result.now
+    unmade_over told o c.older_steps.new.index.opening n c.args.next.now.current.now.graph c.in_ok-older.older.items c.deref.result.now
     (ap (λ (x : IndexState). x.opening) c.older_steps.ensures.reads.same) c.deref.ensures.value c.requires.next
-    (steps_given o n (graph_now c.args.pool.now) told (g.D.Disk.taken c.args.disk.now) (g.D.Disk.taken c.older_steps.new.disk) c.in_ok-older.older c.in_ok-older.ensures.over)
+    (steps_given o n c.args.next.now.current.now.graph told (g.D.Disk.taken c.args.disk.now) (g.D.Disk.taken c.older_steps.new.disk) c.in_ok-older.older c.in_ok-older.ensures.over)
     c.in_ok-older.ensures.damage c.in_ok-older.ensures.led c.segment_of.result c.segment_of.ensures.fails c.segment_of.ensures.never
 
 pub returns-clause-most : goal.returns-clause-most
 returns-clause-most g c =
-    kept_takes c.args.index.now.opening c.args.next.now (graph_now c.args.pool.now) (g.D.Disk.image c.args.disk.now) (g.D.Disk.taken c.args.disk.now) (g.D.Disk.taken c.older_steps.new.disk)
+    kept_takes c.args.index.now.opening c.args.next.now c.args.next.now.current.now.graph (g.D.Disk.image c.args.disk.now) (g.D.Disk.taken c.args.disk.now) (g.D.Disk.taken c.older_steps.new.disk)
     (Ok c.in_ok-older.older) c.in_ok-older.ensures.over

@@ -11,14 +11,13 @@ use Rattle.dg_history.specs.declared.node.NodeId.{NodeId}
 use Rattle.dg_history.specs.History.{events_of}
 use Rattle.dg_index.specs.Hierarchy.{set_of}
 use Rattle.dg_index.specs.OpenedIndex.{Opening}
-use Rattle.dg_pool.specs.Graphs.{graph_now}
 
 pub returns-clause-over : goal.returns-clause-over
 returns-clause-over g c =
     let told : Option (List ℕ) = g.D.Disk.image c.args.disk.now in
     let o : Opening = c.args.index.now.opening in
     let n : NextBatch = c.args.next.now in
-    let graph : List Element = graph_now c.args.pool.now in
+    let graph : List Element = c.args.next.now.current.now.graph in
     some_map told _ _
     (λ image gives z is.
     let over = gives z (index_over z image o n graph is c.requires.known) in

@@ -20,7 +20,6 @@ use Rattle.dg_history.specs.declared.node.NodeId.{NodeId}
 use Rattle.dg_history.specs.History.{History, are_parameters, events_of}
 use Rattle.dg_index.specs.Hierarchy.{set_of}
 use Rattle.dg_index.specs.OpenedIndex.{Opening}
-use Rattle.dg_pool.specs.Graphs.{graph_now}
 use Rattle.dg_retrieval.specs.KeptGraph.{record_edges, record_nodes}
 use Rattle.dg_retrieval.specs.NodeSets.{HasNoEvents}
 
@@ -104,7 +103,7 @@ returns-clause-over g c =
     let count : ℕ = length c.args.next.now.events.now in
     told_of
     (λ nodes in_time. IfSome (g.D.Disk.image c.args.disk.now)
-    (λ image. (z : History) → StandsForKept z image o c.args.next.now (graph_now c.args.pool.now)
+    (λ image. (z : History) → StandsForKept z image o c.args.next.now c.args.next.now.current.now.graph
     → GivesOlderSteps z (record_edges o) nodes in_time (g.D.Disk.taken c.args.disk.now) (g.D.Disk.taken c.steps_of.new.disk) c.steps_of.result))
     c.deref.result.now c.in_ok-nodes.nodes.items (older_children o count) c.deref-2.result.now c.in_ok-in_time.in_time.items (times o count) c.deref.ensures.value c.in_ok-nodes.ensures
     c.deref-2.ensures.value c.in_ok-in_time.ensures c.steps_of.ensures.over
@@ -115,7 +114,7 @@ returns-then-is_empty-clause-led g c =
     let count : ℕ = length c.args.next.now.events.now in
     let bare : older_children o count ≡ [] = sym c.in_ok-nodes.ensures ∙ none_of c.in_ok-nodes.nodes c.is_empty.result c.is_empty.ensures c.if-is_empty.true in
     let none : times o count ≡ [] = none_in_time o count c.facts.ensures.parameters bare in
-    let leaf : List Element = taken_back (graph_now c.args.pool.now) c.args.next.now.recent.now in
+    let leaf : List Element = taken_back c.args.next.now.current.now.graph c.args.next.now.recent.now in
     every_some (g.D.Disk.image c.args.disk.now) _
     (λ image. inr (record {
       sets = [];
@@ -129,6 +128,6 @@ returns-clause-led g c =
     let count : ℕ = length c.args.next.now.events.now in
     told_of
     (λ nodes in_time. IfSome (g.D.Disk.image c.args.disk.now)
-    (λ image. IfOk c.steps_of.result (λ steps. AreLedOlder c.args.next.now.known image o nodes in_time c.args.next.now.recent.now (graph_now c.args.pool.now) steps.items)))
+    (λ image. IfOk c.steps_of.result (λ steps. AreLedOlder c.args.next.now.known image o nodes in_time c.args.next.now.recent.now c.args.next.now.current.now.graph steps.items)))
     c.deref.result.now c.in_ok-nodes.nodes.items (older_children o count) c.deref-2.result.now c.in_ok-in_time.in_time.items (times o count) c.deref.ensures.value c.in_ok-nodes.ensures
     c.deref-2.ensures.value c.in_ok-in_time.ensures c.steps_of.ensures.led

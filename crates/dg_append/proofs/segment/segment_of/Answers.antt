@@ -9,7 +9,6 @@ use Rattle.dg_history.proofs.ParameterRanges.{InRange}
 use Rattle.dg_index.specs.FileOfHistory.{segment_of}
 use Rattle.dg_index.proofs.UnheardRecords.{segment_unheard}
 use Rattle.dg_index.specs.OpenedIndex.{Opening, list_bytes_max, list_row, may_be_listed}
-use Rattle.dg_pool.specs.Graphs.{graph_now}
 use Rattle.dg_start.specs.StoredHistory.{floor_of}
 
 pub build-requires-clause-list : goal.build-requires-clause-list
@@ -56,44 +55,42 @@ returns-in-Ok-clause-is c past is =
     let parts = c.in_ok-segment.ensures.parts in
     let b : Batch = record { names = c.in_ok-segment.segment.names; events = c.args.next.now.events.now } in
     c.in-Ok.ensures.is past
-    (past_long o p n c.params-params.ensures c.events_len-before.ensures.events past c.args.next.now.recent.now (graph_now c.args.pool.now) c.args.next.now.events.now c.args.older.now is)
-    (past_recent o p n c.params-params.ensures c.events_len-before.ensures.events past c.args.next.now.recent.now (graph_now c.args.pool.now) c.args.next.now.events.now c.args.older.now is)
-    (past_graph o p n c.params-params.ensures c.events_len-before.ensures.events past c.args.next.now.recent.now (graph_now c.args.pool.now) c.args.next.now.events.now c.args.older.now is
-    c.leaves.result c.leaves-2.result c.in_ok-graph.graph c.leaves.ensures.leaves c.leaves-2.ensures.leaves c.in_ok-graph.ensures)
+    (past_long o p n c.params-params.ensures c.events_len-before.ensures.events past c.args.next.now.recent.now c.args.next.now.current.now.graph c.args.next.now.events.now c.args.older.now is)
+    (past_recent o p n c.params-params.ensures c.events_len-before.ensures.events past c.args.next.now.recent.now c.args.next.now.current.now.graph c.args.next.now.events.now c.args.older.now is)
+    (past_graph o p n c.params-params.ensures c.events_len-before.ensures.events past c.args.next.now.recent.now c.args.next.now.current.now.graph c.args.next.now.events.now c.args.older.now is c.args.next.now.top.now c.requires.next.top)
     is.changes
-    (past_steps o p n c.params-params.ensures c.events_len-before.ensures.events past c.args.next.now.recent.now (graph_now c.args.pool.now) c.args.next.now.events.now c.args.older.now is)
+    (past_steps o p n c.params-params.ensures c.events_len-before.ensures.events past c.args.next.now.recent.now c.args.next.now.current.now.graph c.args.next.now.events.now c.args.older.now is)
     parts.0 parts.1 parts.2
     ∙ written_whole c.is_wide.result (segment_of p past b) (λ narrow. segment_unheard p past b (is.form (sym c.is_wide.ensures ∙ narrow)))
     ∙ (λ i. segment_of (c.params-params.ensures i) past (record { names = parts.3 i; events = c.args.next.now.events.now }))
 
-pub returns-clause-never : goal.returns-clause-never
-returns-clause-never c past is =
+pub returns-in_ok-key-in-Err-Wide-clause-never : goal.returns-in_ok-key-in-Err-Wide-clause-never
+returns-in_ok-key-in-Err-Wide-clause-never c past is =
     let o : Opening = c.args.index.now.opening in
     let p : Params = c.params-params.result in
     let n : ℕ = c.events_len-before.result in
     let parts = c.in_ok-segment.ensures.parts in
     let none = c.in-Err-Wide.ensures.fault past
-    (past_long o p n c.params-params.ensures c.events_len-before.ensures.events past c.args.next.now.recent.now (graph_now c.args.pool.now) c.args.next.now.events.now c.args.older.now is)
-    (past_recent o p n c.params-params.ensures c.events_len-before.ensures.events past c.args.next.now.recent.now (graph_now c.args.pool.now) c.args.next.now.events.now c.args.older.now is)
-    (past_graph o p n c.params-params.ensures c.events_len-before.ensures.events past c.args.next.now.recent.now (graph_now c.args.pool.now) c.args.next.now.events.now c.args.older.now is
-    c.leaves.result c.leaves-2.result c.in_ok-graph.graph c.leaves.ensures.leaves c.leaves-2.ensures.leaves c.in_ok-graph.ensures)
+    (past_long o p n c.params-params.ensures c.events_len-before.ensures.events past c.args.next.now.recent.now c.args.next.now.current.now.graph c.args.next.now.events.now c.args.older.now is)
+    (past_recent o p n c.params-params.ensures c.events_len-before.ensures.events past c.args.next.now.recent.now c.args.next.now.current.now.graph c.args.next.now.events.now c.args.older.now is)
+    (past_graph o p n c.params-params.ensures c.events_len-before.ensures.events past c.args.next.now.recent.now c.args.next.now.current.now.graph c.args.next.now.events.now c.args.older.now is c.args.next.now.top.now c.requires.next.top)
     is.changes
-    (past_steps o p n c.params-params.ensures c.events_len-before.ensures.events past c.args.next.now.recent.now (graph_now c.args.pool.now) c.args.next.now.events.now c.args.older.now is)
+    (past_steps o p n c.params-params.ensures c.events_len-before.ensures.events past c.args.next.now.recent.now c.args.next.now.current.now.graph c.args.next.now.events.now c.args.older.now is)
     in cc (none, c.in-Err-Wide.field-0-is)
 
-pub returns-clause-fails : goal.returns-clause-fails
-returns-clause-fails c =
+pub returns-in_ok-key-in-Err-Wide-clause-fails : goal.returns-in_ok-key-in-Err-Wide-clause-fails
+returns-in_ok-key-in-Err-Wide-clause-fails c =
     let o : Opening = c.args.index.now.opening in
     let p : Params = c.params-params.result in
     let n : ℕ = c.events_len-before.result in
-    let wide = subst (IsFaultOfSuch (AreGiven p n c.in_ok-graph.graph c.args.next.now.recent.now c.args.next.now.events.now c.args.older.now) 0) c.in-Err-Wide.field-0-is c.in-Err-Wide.ensures.first in (
+    let wide = subst (IsFaultOfSuch (AreGiven p n c.args.next.now.top.now c.args.next.now.recent.now c.args.next.now.events.now c.args.older.now) 0) c.in-Err-Wide.field-0-is c.in-Err-Wide.ensures.first in (
       refl,
       record {
         place = c.in-Err-Wide.delta_index;
         first = record {
           deltas = wide.deltas;
-          are = given_here o p n c.params-params.ensures c.events_len-before.ensures.events c.leaves.result c.leaves-2.result c.in_ok-graph.graph (graph_now c.args.pool.now) c.args.next.now.recent.now c.args.next.now.events.now c.args.older.now wide.deltas
-              c.leaves.ensures.leaves c.leaves-2.ensures.leaves c.in_ok-graph.ensures wide.are;
+          are = given_here o p n c.params-params.ensures c.events_len-before.ensures.events c.args.next.now.top.now c.args.next.now.current.now.graph c.args.next.now.recent.now c.args.next.now.events.now c.args.older.now wide.deltas
+              c.requires.next.top wide.are;
           first = wide.first;
         };
         there = c.in_ok-key-in-Err-Wide.ensures;

@@ -42,28 +42,27 @@ returns-in_err-index-clause-takes g c =
 
 pub returns-in_default-clause-takes : goal.returns-in_default-clause-takes
 returns-in_default-clause-takes g c =
-    none_taken (g.D.Disk.image c.args.disk.now) c.blank.result (g.D.Disk.taken c.args.disk.now) (g.D.Disk.taken c.reopen.new.disk)
+    none_taken (g.D.Disk.image c.args.disk.now) c.empty.result (g.D.Disk.taken c.args.disk.now) (g.D.Disk.taken c.reopen.new.disk)
     (none_found (g.D.Disk.image c.args.disk.now) c.in_ok-index.field-0 c.reopen.new.names c.in_default.is c.in_ok-index.ensures.opened)
     (c.in_ok-index.ensures.blank c.in_default.is)
 
 pub returns-in_default-clause-done : goal.returns-in_default-clause-done
 returns-in_default-clause-done g c =
     let told = g.D.Disk.image c.args.disk.now in
-    let index : Option Opening = index_opening c.blank.result.history.index in
-    let names : List (List ℕ) = c.blank.result.history.names in
-    let none : index ≡ None = ap index_opening c.blank.ensures.index in
+    let index : Option Opening = index_opening c.empty.result.index in
+    let names : List (List ℕ) = c.empty.result.names in
+    let none : index ≡ None = ap index_opening c.empty.ensures.index in
     let found : IfSome told (λ image. opening image ≡ Err No_index) = none_found told c.in_ok-index.field-0 c.reopen.new.names c.in_default.is c.in_ok-index.ensures.opened in
-    let started : IfSome told (λ image. Starts image (Ok (started_with index names c.blank.result.history.now.graph c.blank.result.history.recent.items))) =
-    subst (λ (i : Option Opening). IfSome told (λ image. Starts image (Ok (started_with i names c.blank.result.history.now.graph c.blank.result.history.recent.items)))) (sym none)
+    let started : IfSome told (λ image. Starts image (Ok (started_with index names c.empty.result.now.graph c.empty.result.recent.items))) =
+    subst (λ (i : Option Opening). IfSome told (λ image. Starts image (Ok (started_with i names c.empty.result.now.graph c.empty.result.recent.items)))) (sym none)
     (told_weaker told told (λ image. opening image ≡ Err No_index) (λ image. Starts image (Ok None)) refl blank_starts found) in
-    let empty : AreCounted index names c.blank.result.history.now.graph c.blank.result.history.recent.items =
-    subst (λ (i : Option Opening). AreCounted i names c.blank.result.history.now.graph c.blank.result.history.recent.items) (sym none) (c.blank.ensures.names, c.blank.ensures.graph, c.blank.ensures.recent) in
+    let empty : AreCounted index names c.empty.result.now.graph c.empty.result.recent.items =
+    subst (λ (i : Option Opening). AreCounted i names c.empty.result.now.graph c.empty.result.recent.items) (sym none) (c.empty.ensures.names, c.empty.ensures.graph, c.empty.ensures.recent) in
     record {
       started = started;
-      stands = keeps_history c.law_images_start_as_they_stand.ensures told index names c.blank.result.history.now.graph c.blank.result.history.recent.items started
-          (λ e. (c.blank.ensures.names, c.blank.ensures.graph, c.blank.ensures.recent));
-      made = ([], c.blank.ensures.made, c.blank.ensures.graph ∙ ap (λ (es : List Event). replay_from [] es) (sym c.blank.ensures.recent));
-      sound = empty_sound index names c.blank.result.history.now c.blank.result.history.recent.items none c.blank.ensures.pending empty c.blank.ensures.graph c.blank.ensures.recent;
+      stands = keeps_history c.law_images_start_as_they_stand.ensures told index names c.empty.result.now.graph c.empty.result.recent.items started
+          (λ e. (c.empty.ensures.names, c.empty.ensures.graph, c.empty.ensures.recent));
+      sound = empty_sound index names c.empty.result.now c.empty.result.recent.items none c.empty.ensures.pending empty c.empty.ensures.graph c.empty.ensures.recent;
       held =
           subst (λ (i : Option Opening). IfSome (g.D.Disk.image c.reopen.new.disk) (λ image. IsHeldBy i names image)) (sym none)
           (told_weaker told (g.D.Disk.image c.reopen.new.disk) (λ image. opening image ≡ Err No_index) (λ image. is_blank image ≡ true) c.reopen.ensures.disk.same_image blank_is found);
@@ -100,14 +99,13 @@ pub returns-clause-done : goal.returns-clause-done
 returns-clause-done g c =
     let d = c.in_ok-opened.ensures.done in
     let same = c.reopen.ensures.disk.same_image in
-    let index : Option Opening = index_opening c.in_ok-opened.opened.history.index in
-    let names : List (List ℕ) = c.in_ok-opened.opened.history.names in
-    let now : NowState = c.in_ok-opened.opened.history.now in
-    let recent : List Event = c.in_ok-opened.opened.history.recent.items in
+    let index : Option Opening = index_opening c.in_ok-opened.opened.index in
+    let names : List (List ℕ) = c.in_ok-opened.opened.names in
+    let now : NowState = c.in_ok-opened.opened.now in
+    let recent : List Event = c.in_ok-opened.opened.recent.items in
     record {
       started = subst (λ (t : Option (List ℕ)). IfSome t (λ image. Starts image (Ok (started_with index names now.graph recent)))) same d.started;
       stands = subst (λ (t : Option (List ℕ)). IfSome t (λ image. (z : Option History) → StandsAs z image → KeepsHistory z index names now.graph recent)) same d.stands;
-      made = d.made;
       sound = d.sound;
       held = d.held;
     }

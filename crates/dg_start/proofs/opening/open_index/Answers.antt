@@ -35,7 +35,6 @@ returns-clause-done g c =
     record {
       started = started;
       stands = keeps_sound c.law_images_start_as_they_stand.ensures told (Some c.read_current.new.index.opening) names now recent started sound;
-      made = c.in_ok-now.ensures.done.made;
       sound = sound;
       held =
           subst (λ (told : Option (List ℕ)). IfSome told (λ image. opening image ≡ Ok (record { index = c.read_current.new.index.opening; names = names })))

@@ -99,7 +99,6 @@ returns-clause-done g c =
           (c.first_recent.ensures.number ∙ ap first_recent same) c.deref-2.ensures.value c.deref-3.ensures.value c.in_ok-now.ensures.right)
           c.in_ok-now.now.graph
           (c.in_ok-now.ensures.led ∙ ap (replay_from set) c.deref-3.ensures.value);
-      made = (set, (_, c.make-made.ensures, refl), led);
       none = c.in_ok-now.ensures.none;
       values = values_fit (length names) (omega (arith, c.len-2.ensures.len, c.len-2.ensures.few)) c.in_ok-now.now.graph named;
       named = named;

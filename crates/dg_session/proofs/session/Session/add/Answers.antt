@@ -25,6 +25,7 @@ use Rattle.dg_session.specs.Calls.{TreatsDisk}
 use Rattle.dg_session.proofs.BatchCommandForms.{Lines_of}
 use Rattle.dg_session.proofs.BatchCommandStep.{IsAsked, added_slots, batch_added, batch_failed, failed_stays, is_asked, may_add, kept_handles, takes_failed, unread_comes, with_handles, with_history}
 use Rattle.dg_session.proofs.SessionSteps.{Carried, handed_out, with_crash}
+use Rattle.dg_append.specs.Overlays.{pool_of}
 use Rattle.dg_append.specs.declared.live.Live.{Live}
 use Rattle.dg_session.proofs.DamageStep.{accepted_tells_none, none_met}
 use Rattle.dg_session.proofs.session.Session.add.Goals as goal
@@ -68,7 +69,7 @@ returns-in_err-added-clause-comes g c =
     refl refl refl c.self.invariant.0.events c.requires.some c.requires.few c.in_ok-batch.ensures.reads in
     let image : Option (List ℕ) = g.D.Disk.image c.args.disk.now in
     let then_image : Option (List ℕ) = g.D.Disk.image c.add_changes.new.disk in
-    let q : Parts = with_handles (with_history p c.add_changes.new.held.live.history) c.add_changes.new.held.handles c.add_changes.new.held.live.pool.value in
+    let q : Parts = with_handles (with_history p c.add_changes.new.held.live.history) c.add_changes.new.held.handles (pool_of c.add_changes.new.held.live.pool) in
     handed_out c.from_residual-in_err-added.result (batch_halt c.in_err-added.field-0.0)
     (λ r. Carried (command_with c.args.which c.args.count) takes short c.args.self.now.parts image q then_image r (LeftByCrash g.D.Disk c.args.disk.now c.add_changes.new.disk)) c.from_residual-in_err-added.ensures (
       got,
@@ -95,14 +96,14 @@ returns-clause-comes g c =
     refl refl refl c.self.invariant.0.events c.requires.some c.requires.few c.in_ok-batch.ensures.reads in
     let image : Option (List ℕ) = g.D.Disk.image c.args.disk.now in
     let then_image : Option (List ℕ) = g.D.Disk.image c.add_changes.new.disk in
-    let q : Parts = with_handles (with_history p c.add_changes.new.held.live.history) c.add_changes.new.held.handles c.add_changes.new.held.live.pool.value in
+    let q : Parts = with_handles (with_history p c.add_changes.new.held.live.history) c.add_changes.new.held.handles (pool_of c.add_changes.new.held.live.pool) in
     let reply : headed (batch_head c.args.which c.in_ok-added.added.events c.in_ok-added.added.total c.in_ok-added.added.last) ≡ c.headed.result = sym (c.headed.ensures ∙ ap headed c.head.ensures) in (
       got,
       c.in_ok-batch.ensures.reads.taken,
       subst (λ (r : Reply). Accepts (command_with c.args.which c.args.count) got c.args.self.now.parts image q then_image r) reply
           (subst (λ (x : Parts). Accepts (command_with c.args.which c.args.count) got x image q then_image (headed (batch_head c.args.which c.in_ok-added.added.events c.in_ok-added.added.total c.in_ok-added.added.last))) (ap (λ (x : SessionState). x.parts) c.self.view_is)
           (subst (λ (y : Parts). Accepts (command_with c.args.which c.args.count) got p image y then_image (headed (batch_head c.args.which c.in_ok-added.added.events c.in_ok-added.added.total c.in_ok-added.added.last)))
-          (sym (kept_handles (with_history p c.add_changes.new.held.live.history) c.self.inside.held.handles c.add_changes.new.held.handles c.self.inside.held.live.pool.value c.add_changes.new.held.live.pool.value c.in_ok-added.ensures.handles (added_slots (Lines_of c.args.which) got p c.args.count c.self.inside.limits.file_bytes old c.in_ok-batch.batch asked c.add_changes.new.held.live image then_image c.in_ok-added.added c.in_ok-added.ensures.adds)))
+          (sym (kept_handles (with_history p c.add_changes.new.held.live.history) c.self.inside.held.handles c.add_changes.new.held.handles (pool_of c.self.inside.held.live.pool) (pool_of c.add_changes.new.held.live.pool) c.in_ok-added.ensures.handles (added_slots (Lines_of c.args.which) got p c.args.count c.self.inside.limits.file_bytes old c.in_ok-batch.batch asked c.add_changes.new.held.live image then_image c.in_ok-added.added c.in_ok-added.ensures.adds)))
           (batch_added (Lines_of c.args.which) got p c.args.count c.self.inside.limits.file_bytes old c.in_ok-batch.batch asked c.add_changes.new.held.live image then_image
           c.in_ok-added.added c.in_ok-added.ensures.adds))),
       subst (λ (r : Reply). LeftByCrash g.D.Disk c.args.disk.now c.add_changes.new.disk (LeavesAnswered (command_with c.args.which c.args.count) got c.args.self.now.parts r)) reply

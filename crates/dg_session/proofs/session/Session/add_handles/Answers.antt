@@ -1,7 +1,9 @@
 use Rattle.std.proofs.Common.{◌≡◌, ℕ, ◌+◌, ◌++◌, List, Option, length, map, sym, ◌∙◌, ap, subst}
 use Rattle.std.specs.List.{All}
 use Rattle.std.proofs.lemmas.List.{length-map}
+use Rattle.dg_append.specs.Overlays.{pool_of}
 use Rattle.dg_retrieval.specs.NamesThere.{NamesAreThere}
+use Rattle.dg_session.proofs.PoolOverlays.{now_of}
 use Rattle.dg_session.proofs.GraphNames.{there_after, there_held, there_led}
 use Rattle.dg_graph.specs.declared.element.Element.{Element}
 use Rattle.dg_handles.specs.Handles.{slot_graphs, held_by, numbered, overlays_on}
@@ -27,16 +29,18 @@ returns-clause-added c =
     let new : List Stands = overlays_on cols times bases in
     let view : Parts = (the_view c.self.inside).parts in
     let many : length new ≡ length times = overlays_length cols times bases (length-map leads (λ (l : GraphLead). base_handle l.begins) ∙ c.requires.leads) in
+    let here : view ≡ c.args.self.now.parts = ap (λ (x : SessionState). x.parts) c.self.view_is ∙ c.overlay.ensures.parts in
+    let is : c.deref_mut.result.now ≡ pool_of c.self.inside.held.live.pool = c.deref_mut.ensures.value ∙ ap pool_of (sym c.in-Some.is) in
     on_three c.add.result
     (λ table next graphs.
     let q : Parts = record view { table = c.add.new.self.table; graphs = slot_graphs c.add.new.pool c.add.new.self.slots; next = c.add.new.self.next } in
     let number : c.add.new.self.next ≡ view.next + length new = next ∙ ap (λ n. view.next + n) (sym many) in
     let lists : slot_graphs c.add.new.pool c.add.new.self.slots ≡ view.graphs ++ map (led_to view.graph (listed_by view) cols) leads =
     graphs
-    ∙ ap (λ p. slot_graphs p c.self.inside.held.handles.slots ++ map (led_to (graph_now p) (held_by c.self.inside.held.handles.table (slot_graphs p c.self.inside.held.handles.slots)) cols) leads) c.deref_mut.ensures.value
-    ∙ ap (λ (g : List Element). view.graphs ++ map (led_to g (listed_by view) cols) leads) c.self.invariant.1.live.pool in
+    ∙ ap (λ p. slot_graphs p c.self.inside.held.handles.slots ++ map (led_to (graph_now p) (held_by c.self.inside.held.handles.table (slot_graphs p c.self.inside.held.handles.slots)) cols) leads) is
+    ∙ ap (λ (g : List Element). view.graphs ++ map (led_to g (listed_by view) cols) leads) (now_of view.graph c.self.inside.held.live.pool c.in-Some.pool c.in-Some.is c.self.invariant.1.live.pool) in
     let first : q ≡ with_new_handles view new (map (led_to view.graph (listed_by view) cols) leads) = (λ i. record view { table = table i; graphs = lists i; next = number i }) in
-    first ∙ ap (λ (x : SessionState). with_new_handles x.parts new (map (led_to x.parts.graph (listed_by x.parts) cols) leads)) c.self.view_is)
+    first ∙ ap (λ (x : Parts). with_new_handles x new (map (led_to x.graph (listed_by x) cols) leads)) here)
     c.add.ensures.table c.add.ensures.next c.add.ensures.graphs
 
 pub invariant_of-self : goal.invariant_of-self
@@ -44,13 +48,15 @@ invariant_of-self c =
     let index = (the_view c.self.inside).parts.index in
     let old = c.self.inside.held.handles in
     let pool = c.deref_mut.result.now in
-    let here = c.deref_mut.ensures.value in
+    let here : pool ≡ pool_of c.self.inside.held.live.pool = c.deref_mut.ensures.value ∙ ap pool_of (sym c.in-Some.is) in
+    let view : Parts = (the_view c.self.inside).parts in
+    let on : graph_now pool ≡ view.graph = ap graph_now here ∙ now_of view.graph c.self.inside.held.live.pool c.in-Some.pool c.in-Some.is c.self.invariant.1.live.pool in
     let n : ℕ = length c.self.inside.held.live.history.names in
     let before : All (NamesAreThere n) (slot_graphs pool old.slots) = subst (λ p. All (NamesAreThere n) (slot_graphs p old.slots)) (sym here) c.self.invariant.1.handles.named in
     let bases : List (Option ℕ) = bases_of (leads_in c.args.leads.now) in (
       c.self.invariant.0,
       record {
-        live = record { sound = c.self.invariant.1.live.sound; pool = c.add.ensures.now ∙ ap graph_now here ∙ c.self.invariant.1.live.pool };
+        live = record { sound = c.self.invariant.1.live.sound; pool = c.add.ensures.now ∙ on };
         handles = record {
           tied = c.add.ensures.tied;
           nodes = nodes_after c.add.result index old c.add.new.self c.args.cols c.args.times.now bases c.add.ensures.table c.add.ensures.err c.self.invariant.1.handles.nodes;
@@ -61,8 +67,8 @@ invariant_of-self c =
           named = there_after n c.add.result old c.add.new.self pool c.add.new.pool
               (map (led_to (graph_now pool) (held_by old.table (slot_graphs pool old.slots)) c.args.cols) (leads_in c.args.leads.now)) c.add.ensures.graphs c.add.ensures.err c.add.ensures.graphs_err before
               (there_led n (graph_now pool) (held_by old.table (slot_graphs pool old.slots)) c.args.cols
-              (subst (NamesAreThere n) (sym (ap graph_now here ∙ c.self.invariant.1.live.pool)) c.self.invariant.1.live.sound.named) (there_held n old.table (slot_graphs pool old.slots) before) (leads_in c.args.leads.now)
-              (subst (λ (x : SessionState). All (λ (l : GraphLead). NamesAreThere (length x.parts.names) l.delta.plus) (leads_in c.args.leads.now)) (sym c.self.view_is) c.requires.named));
+              (subst (NamesAreThere n) (sym on) c.self.invariant.1.live.sound.named) (there_held n old.table (slot_graphs pool old.slots) before) (leads_in c.args.leads.now)
+              (subst (λ (x : Parts). All (λ (l : GraphLead). NamesAreThere (length x.names) l.delta.plus) (leads_in c.args.leads.now)) (sym (ap (λ (x : SessionState). x.parts) c.self.view_is ∙ c.overlay.ensures.parts)) c.requires.named));
         };
       },
       kept_after c.add.result index old c.add.new.self c.self.inside.planner c.args.cols c.args.times.now bases c.add.ensures.table c.add.ensures.err c.self.invariant.2,

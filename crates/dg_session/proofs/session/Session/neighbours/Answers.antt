@@ -1,5 +1,6 @@
 use Rattle.std.proofs.Common.{[], true, length, refl, sym, ◌∙◌, ap, subst}
 use Rattle.std.specs.Prelude.{is_some}
+use Rattle.dg_append.specs.Overlays.{pool_of}
 use Rattle.dg_handles.specs.Handles.{graph_among, slot_graphs}
 use Rattle.dg_machine.specs.declared.command.Command.TheVariants as command
 use Rattle.dg_machine.specs.declared.command.Query.TheVariants as query
@@ -30,7 +31,7 @@ returns-in_err-graph-clause-comes c image =
 pub neighbours-requires : goal.neighbours-requires
 neighbours-requires c =
     let s = c.self.inside in
-    record { kept = serves c.args.handle s.held.handles.table (slot_graphs s.held.live.pool.value s.held.handles.slots) c.in_ok-graph.graph s.held.adjacency (ap (λ p. graph_among c.args.handle s.held.handles.table (slot_graphs p s.held.handles.slots)) (sym c.deref.ensures) ∙ c.in_ok-graph.ensures.graph) c.self.invariant.1.handles.adjacency }
+    record { kept = serves c.args.handle s.held.handles.table (slot_graphs (pool_of s.held.live.pool) s.held.handles.slots) c.in_ok-graph.graph s.held.adjacency c.in_ok-graph.ensures.graph c.self.invariant.1.handles.adjacency }
 
 pub returns-in_err-neighbours-clause-comes : goal.returns-in_err-neighbours-clause-comes
 returns-in_err-neighbours-clause-comes c image =
@@ -64,10 +65,10 @@ returns-clause-comes c image =
     let live = ap (λ (x : SessionState). is_some (stands_at h x.parts.table)) (sym c.self.view_is) ∙ c.in_ok-graph.ensures.live in
     let overlay = ap (λ (x : SessionState). is_base (stands_at h x.parts.table)) (sym c.self.view_is) ∙ c.in_ok-graph.ensures.overlay in
     let found = ap (λ (x : SessionState). graph_among h x.parts.table x.parts.graphs) (sym c.self.view_is)
-    ∙ ap (λ p. graph_among h c.self.inside.held.handles.table (slot_graphs p c.self.inside.held.handles.slots)) (sym c.deref.ensures) ∙ c.in_ok-graph.ensures.graph in
+    ∙ c.in_ok-graph.ensures.graph in
     subst (λ (x : Parts). Accepts (command.Ask h (query.Neighbours id)) [] p image x image reply) (sym (ap (λ (x : SessionState). x.parts) c.self.view_is))
     (ask_answers (command.Ask h (query.Neighbours id)) h true (λ cols. neighbours_reply h id) (neighbours_asks h id) p graph image reply live overlay found
-    (c.in_ok-neighbours_reply.ensures graph (c.deref-2.ensures.value ∙ c.in_ok-neighbours.ensures.neighbours))
+    (c.in_ok-neighbours_reply.ensures graph (c.deref.ensures.value ∙ c.in_ok-neighbours.ensures.neighbours))
     (subst (λ (x : SessionState). All (NamesAreThere (length x.parts.names)) x.parts.graphs) c.self.view_is c.self.invariant.1.handles.named))
 
 pub invariant_of-self : goal.invariant_of-self
@@ -79,8 +80,8 @@ invariant_of-self c =
         handles = record {
           tied = c.self.invariant.1.handles.tied;
           nodes = c.self.invariant.1.handles.nodes;
-          adjacency = kept_turned_to c.args.handle s.held.handles.table (slot_graphs s.held.live.pool.value s.held.handles.slots) c.in_ok-graph.graph s.held.adjacency c.neighbours.new.self
-              (ap (λ p. graph_among c.args.handle s.held.handles.table (slot_graphs p s.held.handles.slots)) (sym c.deref.ensures) ∙ c.in_ok-graph.ensures.graph) c.self.invariant.1.handles.adjacency c.neighbours.ensures.kept;
+          adjacency = kept_turned_to c.args.handle s.held.handles.table (slot_graphs (pool_of s.held.live.pool) s.held.handles.slots) c.in_ok-graph.graph s.held.adjacency c.neighbours.new.self
+              c.in_ok-graph.ensures.graph c.self.invariant.1.handles.adjacency c.neighbours.ensures.kept;
           named = c.self.invariant.1.handles.named;
         };
       },

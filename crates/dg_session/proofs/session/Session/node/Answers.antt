@@ -1,5 +1,6 @@
 use Rattle.std.proofs.Common.{[], true, length, refl, sym, ◌∙◌, ap, subst}
 use Rattle.std.specs.Prelude.{is_some}
+use Rattle.dg_append.specs.Overlays.{pool_of}
 use Rattle.dg_handles.specs.Handles.{graph_among, slot_graphs}
 use Rattle.dg_machine.specs.declared.command.Command.TheVariants as command
 use Rattle.dg_machine.specs.declared.command.Query.TheVariants as query
@@ -30,7 +31,7 @@ returns-in_err-graph-clause-comes c image =
 pub node-requires : goal.node-requires
 node-requires c =
     let s = c.self.inside in
-    record { kept = serves c.args.handle s.held.handles.table (slot_graphs s.held.live.pool.value s.held.handles.slots) c.in_ok-graph.graph s.held.adjacency (ap (λ p. graph_among c.args.handle s.held.handles.table (slot_graphs p s.held.handles.slots)) (sym c.deref.ensures) ∙ c.in_ok-graph.ensures.graph) c.self.invariant.1.handles.adjacency }
+    record { kept = serves c.args.handle s.held.handles.table (slot_graphs (pool_of s.held.live.pool) s.held.handles.slots) c.in_ok-graph.graph s.held.adjacency c.in_ok-graph.ensures.graph c.self.invariant.1.handles.adjacency }
 
 pub returns-in_err-node-clause-comes : goal.returns-in_err-node-clause-comes
 returns-in_err-node-clause-comes c image =
@@ -64,7 +65,7 @@ returns-clause-comes c image =
     let live = ap (λ (x : SessionState). is_some (stands_at h x.parts.table)) (sym c.self.view_is) ∙ c.in_ok-graph.ensures.live in
     let overlay = ap (λ (x : SessionState). is_base (stands_at h x.parts.table)) (sym c.self.view_is) ∙ c.in_ok-graph.ensures.overlay in
     let found = ap (λ (x : SessionState). graph_among h x.parts.table x.parts.graphs) (sym c.self.view_is)
-    ∙ ap (λ p. graph_among h c.self.inside.held.handles.table (slot_graphs p c.self.inside.held.handles.slots)) (sym c.deref.ensures) ∙ c.in_ok-graph.ensures.graph in
+    ∙ c.in_ok-graph.ensures.graph in
     subst (λ (x : Parts). Accepts (command.Ask h (query.Node id)) [] p image x image reply) (sym (ap (λ (x : SessionState). x.parts) c.self.view_is))
     (ask_answers (command.Ask h (query.Node id)) h true (λ cols. node_reply h id) (node_asks h id) p graph image reply live overlay found
     (c.in_ok-node_reply.ensures graph c.in_ok-node.ensures.node)
@@ -79,8 +80,8 @@ invariant_of-self c =
         handles = record {
           tied = c.self.invariant.1.handles.tied;
           nodes = c.self.invariant.1.handles.nodes;
-          adjacency = kept_turned_to c.args.handle s.held.handles.table (slot_graphs s.held.live.pool.value s.held.handles.slots) c.in_ok-graph.graph s.held.adjacency c.node.new.self
-              (ap (λ p. graph_among c.args.handle s.held.handles.table (slot_graphs p s.held.handles.slots)) (sym c.deref.ensures) ∙ c.in_ok-graph.ensures.graph) c.self.invariant.1.handles.adjacency c.node.ensures.kept;
+          adjacency = kept_turned_to c.args.handle s.held.handles.table (slot_graphs (pool_of s.held.live.pool) s.held.handles.slots) c.in_ok-graph.graph s.held.adjacency c.node.new.self
+              c.in_ok-graph.ensures.graph c.self.invariant.1.handles.adjacency c.node.ensures.kept;
           named = c.self.invariant.1.handles.named;
         };
       },

@@ -1,10 +1,10 @@
 use Rattle.std.proofs.Common.{[], length, refl, sym, ◌∙◌, ap, subst}
 use Rattle.std.specs.Prelude.{is_some}
 use Rattle.std.specs.List.{All}
+use Rattle.dg_append.specs.Overlays.{pool_of}
 use Rattle.dg_retrieval.specs.NamesThere.{NamesAreThere}
 use Rattle.dg_session.proofs.GraphNames.{there_without}
-use Rattle.dg_handles.specs.Handles.{graphs_without, slot_graphs}
-use Rattle.dg_pool.specs.Graphs.{graph_now}
+use Rattle.dg_handles.specs.Handles.{slot_graphs}
 use Rattle.dg_machine.specs.declared.command.Command.TheVariants as command
 use Rattle.dg_machine.specs.declared.reply.Refusal.TheVariants as refusal
 use Rattle.dg_machine.specs.MachineState.{dependent_on, stands_at, without_handle}
@@ -43,8 +43,7 @@ returns-clause-comes c image =
     let view : Parts = (the_view c.self.inside).parts in
     let there = ap (λ (x : SessionState). is_some (stands_at h x.parts.table)) (sym c.self.view_is) ∙ ap is_some (sym c.stands.ensures ∙ c.in-Some.is) in
     let unused = ap (λ (x : SessionState). dependent_on h x.parts.table) (sym c.self.view_is) ∙ sym c.dependent.ensures ∙ c.in_default-dependent.is in
-    let graphs = c.release.ensures.graphs ∙ ap (λ p. graphs_without h c.self.inside.held.handles.table (slot_graphs p c.self.inside.held.handles.slots)) c.deref_mut.ensures.value in
-    let q_is = (λ i. let x : Parts = record view { table = c.release.ensures.table i; graphs = graphs i; next = c.release.ensures.next i } in x) ∙ ap (λ (x : SessionState). parts_without h x.parts) c.self.view_is in
+    let q_is = (λ i. let x : Parts = record view { table = c.give_up.ensures.table i; graphs = c.give_up.ensures.graphs i; next = c.give_up.ensures.next i } in x) ∙ ap (λ (x : SessionState). parts_without h x.parts) c.self.view_is in
     release_answers p _ h image c.headed.result there unused q_is c.headed.ensures
 
 pub invariant_of-self : goal.invariant_of-self
@@ -54,18 +53,18 @@ invariant_of-self c =
     let index = index_opening s.held.live.history.index in (
       c.self.invariant.0,
       record {
-        live = record { sound = c.self.invariant.1.live.sound; pool = c.release.ensures.now ∙ ap graph_now c.deref_mut.ensures.value ∙ c.self.invariant.1.live.pool };
+        live = record { sound = c.self.invariant.1.live.sound; pool = c.give_up.ensures.now s.held.live.history.now.graph c.self.invariant.1.live.pool };
         handles = record {
-          tied = c.release.ensures.tied;
-          nodes = subst (HasNodes index) (sym c.release.ensures.table) (all_without (λ e. HasNodeOf index e.1) h s.held.handles.table c.self.invariant.1.handles.nodes);
-          adjacency = subst (λ t. KeepsAdjacency t (slot_graphs c.release.new.pool c.release.new.self.slots) c.forget_handle.new.self) (sym c.release.ensures.table)
+          tied = c.give_up.ensures.tied;
+          nodes = subst (HasNodes index) (sym c.give_up.ensures.table) (all_without (λ e. HasNodeOf index e.1) h s.held.handles.table c.self.invariant.1.handles.nodes);
+          adjacency = subst (λ t. KeepsAdjacency t (slot_graphs (pool_of c.give_up.new.pool) c.give_up.new.handles.slots) c.forget_handle.new.self) (sym c.give_up.ensures.table)
               (subst (λ gs. KeepsAdjacency (without_handle h s.held.handles.table) gs c.forget_handle.new.self)
-              (sym (c.release.ensures.graphs ∙ ap (λ p. graphs_without h s.held.handles.table (slot_graphs p s.held.handles.slots)) c.deref_mut.ensures.value))
-              (adjacency_without h s.held.handles.table (slot_graphs s.held.live.pool.value s.held.handles.slots) s.held.adjacency c.forget_handle.new.self c.forget_handle.ensures c.self.invariant.1.handles.adjacency));
-          named = subst (All (NamesAreThere (length s.held.live.history.names))) (sym (c.release.ensures.graphs ∙ ap (λ p. graphs_without h s.held.handles.table (slot_graphs p s.held.handles.slots)) c.deref_mut.ensures.value))
-              (there_without (length s.held.live.history.names) h s.held.handles.table (slot_graphs s.held.live.pool.value s.held.handles.slots) c.self.invariant.1.handles.named);
+              (sym c.give_up.ensures.graphs)
+              (adjacency_without h s.held.handles.table (slot_graphs (pool_of s.held.live.pool) s.held.handles.slots) s.held.adjacency c.forget_handle.new.self c.forget_handle.ensures c.self.invariant.1.handles.adjacency));
+          named = subst (All (NamesAreThere (length s.held.live.history.names))) (sym c.give_up.ensures.graphs)
+              (there_without (length s.held.live.history.names) h s.held.handles.table (slot_graphs (pool_of s.held.live.pool) s.held.handles.slots) c.self.invariant.1.handles.named);
         };
       },
-      subst (λ t. IsKeptFor index t c.forget_base.new.planner) (sym c.release.ensures.table)
+      subst (λ t. IsKeptFor index t c.forget_base.new.planner) (sym c.give_up.ensures.table)
           (kept_without index h s.held.handles.table c.in-Some.stands s.planner c.forget_base.new.planner (sym c.stands.ensures ∙ c.in-Some.is) c.forget_base.ensures.base c.forget_base.ensures.overlay c.self.invariant.2),
     )
