@@ -22,8 +22,8 @@ use std::num::NonZeroUsize;
 use std::process::ExitCode;
 use words::words_after_name;
 
-/// The largest block that the C library keeps, with room for what it notes in front of it.
-const KEPT_BYTES_MAX: usize = 32 * 1024 * 1024 - 4096;
+/// The block that the C library gives back first. With a larger one, blocks of a large graph lie beside one another unused.
+const KEPT_BYTES: usize = 2560 * 1024;
 
 fn main(rt: HostRuntime) -> ExitCode {
     let words = match words_after_name(&rt) {
@@ -73,9 +73,9 @@ fn main(rt: HostRuntime) -> ExitCode {
 
 // Has the C library keep memory that is freed for what is needed next. It gives a large block back to the system at once, and
 // then takes the next one anew, page by page; but it keeps those that are no larger than the largest block that it has given
-// back, up to 32 MiB. No byte of this block is touched. Where memory lacks nothing is lost but time.
+// back. No byte of this block is touched. Where memory lacks nothing is lost but time.
 fn keep_freed(alloc: Global) {
-    let block: Result<Vec<u8>, AllocError> = Vec::with_capacity(alloc, KEPT_BYTES_MAX);
+    let block: Result<Vec<u8>, AllocError> = Vec::with_capacity(alloc, KEPT_BYTES);
     drop(block);
 }
 
