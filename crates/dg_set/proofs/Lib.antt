@@ -2,4 +2,8 @@ pub mod Indices
 pub mod Ranges
 pub mod SetMerges
 pub mod SetReplacements
+pub mod SetThinnings
+pub mod SetUnions
+pub mod SetsWithin
 pub mod Apart
+pub mod SortedSets

@@ -128,7 +128,7 @@ lost_run s set (x ∷ front) lost a t =
     skipped not x (front ++ lost) (s ∷ set) a.0 t ∙ lost_run s set front lost a.1 t
 
 -- those in front of an item of the set are gained, and those lost are passed by
-passed_before : (s : Element) (set lost gained : List Element) (n m : ℕ) → IsSet (s ∷ set) → IsSet gained → take n gained ≡ before_it s gained → take m lost ≡ before_it s lost
+pub passed_before : (s : Element) (set lost gained : List Element) (n m : ℕ) → IsSet (s ∷ set) → IsSet gained → take n gained ≡ before_it s gained → take m lost ≡ before_it s lost
     → exchanged (s ∷ set) lost gained ≡ take n gained ++ exchanged (s ∷ set) (drop m lost) (drop n gained)
 passed_before s set lost gained n m t u gains losses =
     let g = take-append-drop n gained in

@@ -8,4 +8,6 @@ mod search;
 mod set;
 
 pub use dg_graph::Element;
+pub use merge::are_apart;
+pub use replace::replace_within;
 pub use set::Set;

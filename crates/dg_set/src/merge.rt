@@ -73,7 +73,7 @@ pub(crate) fn differences(
 }
 
 /// Whether two sets share no element.
-pub(crate) fn are_apart(left: &[Element], right: &[Element]) -> bool
+pub fn are_apart(left: &[Element], right: &[Element]) -> bool
     requires left_set { IsSet left.now }
     requires right_set { IsSet right.now }
     ensures { IsTrue result ↔ AreApart left.now right.now }

@@ -40,6 +40,27 @@ pub(crate) fn range_from(items: &[Element], from: usize, element: &Element) -> (
     range_within(items, low, items.len(), element)
 }
 
+/// The same, with the end sought from the last item on: the nearer it is to it, the fewer items are compared.
+pub(crate) fn range_to(items: &[Element], element: &Element) -> (usize, usize)
+    requires { IsSet items.now }
+    ensures { IsRange element.now items.now result.0 result.1 }
+{
+    let mut high = items.len();
+    let mut step = 1;
+    while step <= high {
+        let probe = high - step;
+        match items[probe].cmp(element) {
+            Ordering::Less => return range_within(items, probe + 1, high, element),
+            Ordering::Equal => return (probe, probe + 1),
+            Ordering::Greater => {
+                high = probe;
+                step = step.saturating_mul(2);
+            }
+        }
+    }
+    range_within(items, 0, high, element)
+}
+
 /// The same by a binary search, where the items from `to` on are known to come after the element.
 fn range_within(items: &[Element], from: usize, to: usize, element: &Element) -> (usize, usize)
     requires set { IsSet items.now }

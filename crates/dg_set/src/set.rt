@@ -61,6 +61,17 @@ impl Set {
         Set { items }
     }
 
+    /// The set of the items of a list, which may stand in any order and be repeated. They are sorted in their own
+    /// memory: O(n log n).
+    pub fn from_unsorted(items: Vec<Element>) -> Set
+        ensures { result ≡ unioned [] items.items }
+    {
+        let mut rising = items;
+        rising.sort_unstable();
+        rising.dedup();
+        Set { items: rising }
+    }
+
     /// Whether the element is in the set.
     pub fn has(&self, element: &Element) -> bool
         ensures { result ≡ has self.now element.now }
@@ -187,6 +198,18 @@ impl Set {
     {
         let alloc = *self.items.allocator();
         let items = replace::replaced(alloc, &self.items, &out.items, &into.items)?;
+        Ok(Set { items })
+    }
+
+    /// This set without the elements of `out`, and with those of `into`, in its own memory, which grows where
+    /// any are put in. An `Err` says that memory ran out.
+    pub fn into_replaced(self, out: &Set, into: &Set) -> Result<Set, AllocError>
+        ensures { IfOk result (λ set. set ≡ unioned (without_all self out.now) into.now) }
+    {
+        let mut items = self.items;
+        let left = items.len();
+        items.extend_from_slice(&into.items)?;
+        replace::replace_within(&mut items, 0, left, &out.items, &into.items);
         Ok(Set { items })
     }
 
