@@ -5,7 +5,6 @@ pub mod SortedSearches
 pub mod HeldGraphUses
 pub mod HeldGraph
 pub mod HeldSet
-pub mod SortedSets
 pub mod HeldGraphWrites
 pub mod EventEffect
 pub mod EventEffectCompletions

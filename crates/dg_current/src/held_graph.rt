@@ -10,7 +10,7 @@ use crate::element_entry::{ElementEntry, count_in, count_out, set_held, touch_ne
 use crate::element_id::ElementId;
 use crate::fault::FromFault;
 use crate::held::Held;
-use crate::held_set::{changes, set_of};
+use crate::held_set::changes;
 use crate::sorted_graph::SortedGraph;
 use dg_graph::Element;
 use dg_set::Set;
@@ -136,7 +136,8 @@ impl HeldGraph {
         // The start is a graph.
         self.base.facts();
         let (lost, gained) = changes(alloc, &self.base, &self.elements)?;
-        self.base.replaced(&set_of(lost), &set_of(gained))
+        self.base
+            .replaced(&Set::from_unsorted(lost), &Set::from_unsorted(gained))
     }
 
     // Makes entries for the ids that the element needs. Where the start is empty, each id with an

@@ -1,15 +1,13 @@
 //! What the entries of a graph that changes take from the elements at the start, and what they add.
-ghost use Rattle.std.specs.Prelude.{◌≡◌, ◌<◌, ◌++◌, [], length, slice_index_or, IfOk, OnOk};
+ghost use Rattle.std.specs.Prelude.{◌≡◌, ◌<◌, ◌++◌, length, slice_index_or, IfOk, OnOk};
 ghost use Rattle.std.specs.Map.{keys_of};
 ghost use Rattle.std.specs.Option.{option_to_list};
-ghost use Rattle.dg_graph.specs.Sets.{unioned};
 ghost use Rattle.dg_current.specs.HeldSet.{only_first, lost_at, gained_at, listed};
 
 use crate::element_entry::ElementEntry;
 use crate::element_id::ElementId;
 use crate::sorted_graph::SortedGraph;
 use dg_graph::Element;
-use dg_set::Set;
 use indexmap::IndexMap;
 use std::alloc::{AllocError, Global};
 
@@ -75,13 +73,4 @@ pub(crate) fn changes(
         push(&mut all_gained, gained)?;
     }
     Ok((all_lost, all_gained))
-}
-
-/// The set of the elements, which may stand in any order and be repeated. They are sorted: O(n log n).
-pub(crate) fn set_of(mut elements: Vec<Element>) -> Set
-    ensures { result ≡ unioned [] elements.items }
-{
-    elements.sort_unstable();
-    elements.dedup();
-    Set::from_rising(elements)
 }

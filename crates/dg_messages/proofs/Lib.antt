@@ -1,4 +1,3 @@
-mod SortedSets
 mod ToldSets
 mod CollectedMessages
 mod ListColumns

@@ -8,22 +8,13 @@ use dg_graph::Element;
 use dg_set::Set;
 use std::alloc::{AllocError, Global};
 
-// The set of the elements, which may stand in any order and be repeated. They are sorted: O(n log n).
-fn set_of(mut elements: Vec<Element>) -> Set
-    ensures { result ≡ unioned [] elements.items }
-{
-    elements.sort_unstable();
-    elements.dedup();
-    Set::from_rising(elements)
-}
-
 /// The set of the elements of each list. An `Err` says that memory ran out.
 pub(crate) fn sets_of(alloc: Global, lists: Vec<Vec<Element>>) -> Result<Vec<Set>, AllocError>
     ensures { IfOk result (λ sets. sets.items ≡ map (λ (v : Vec Element). unioned [] v.items) lists.items) }
 {
     let mut sets = Vec::with_capacity(alloc, lists.len())?;
     for list in lists {
-        sets.push(set_of(list))?;
+        sets.push(Set::from_unsorted(list))?;
     }
     Ok(sets)
 }

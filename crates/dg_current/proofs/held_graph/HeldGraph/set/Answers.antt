@@ -13,10 +13,10 @@ returns c =
     let base = c.self.inside.base in
     let entries = c.self.inside.elements.entries in
     let both = c.in_ok-lost in
-    let lost : c.set_of.result ≡ collected (lost_at base entries) (keys_of entries) =
-    c.set_of.ensures ∙ ap (unioned []) both.ensures.lost ∙ set_of_listed (lost_at base entries) (keys_of entries) in
-    let gained : c.set_of-2.result ≡ collected (gained_at base entries) (keys_of entries) =
-    c.set_of-2.ensures ∙ ap (unioned []) both.ensures.gained ∙ set_of_listed (gained_at base entries) (keys_of entries) in
+    let lost : c.from_unsorted.result ≡ collected (lost_at base entries) (keys_of entries) =
+    c.from_unsorted.ensures ∙ ap (unioned []) both.ensures.lost ∙ set_of_listed (lost_at base entries) (keys_of entries) in
+    let gained : c.from_unsorted-2.result ≡ collected (gained_at base entries) (keys_of entries) =
+    c.from_unsorted-2.ensures ∙ ap (unioned []) both.ensures.gained ∙ set_of_listed (gained_at base entries) (keys_of entries) in
     subst (λ (s : List Element). IfOk c.replaced-3.result (λ set. set ≡ s))
     ((λ i. unioned (without_all base (lost i)) (gained i)) ∙ changed_is base entries c.facts.ensures c.self.invariant.0.own_ids
     ∙ ap (λ (h : HeldGraphState). h.set) c.self.view_is) c.replaced-3.ensures
