@@ -111,6 +111,17 @@ impl Delta {
         Ok(Delta::of(minus, plus))
     }
 
+    /// This delta and then `later`, as `compose` makes it, in the memory of this one where it can be. An
+    /// `Err` says that memory ran out.
+    pub fn into_composed(self, later: &Delta) -> Result<Delta, AllocError>
+        ensures composes { IfOk result (λ d. Composes d (self ∷ later.now ∷ [])) }
+        ensures sets { IfOk result (λ d. d ≡ composed self later.now) }
+    {
+        let minus = self.minus.into_replaced(&later.plus, &later.minus)?;
+        let plus = self.plus.into_replaced(&later.minus, &later.plus)?;
+        Ok(Delta::of(minus, plus))
+    }
+
     /// This delta and then `later`, which begins where this one ends, as one exact delta: what one
     /// takes out and the other puts in again is as it was. An `Err` says that memory ran out.
     pub fn chain(&self, later: &Delta) -> Result<Delta, AllocError>

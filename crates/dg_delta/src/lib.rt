@@ -5,6 +5,7 @@
 
 mod delta;
 mod laws;
+mod stack;
 
 pub use delta::Delta;
 pub use dg_set::{Element, Set};
@@ -15,3 +16,4 @@ pub use laws::{
     law_composition_of_a_list_applies_as_each_in_turn, law_deltas_that_say_the_same_are_equal,
     law_reversed_between_leads_back,
 };
+pub use stack::{DeltaStack, Height};
