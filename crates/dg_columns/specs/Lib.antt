@@ -6,3 +6,4 @@ pub mod Ranges
 pub mod Rows
 pub mod MergeWalk
 pub mod ReadFits
+pub mod Added

@@ -52,3 +52,7 @@ pub record PlacedFit (col : Column) (names low earliest : ℕ) (placed : List Pl
 -- bytes that are read as events are read as events that fit
 abbrev pub EventsThatAreReadFit : Type 0
 EventsThatAreReadFit = (col : Column) (names : ℕ) (bytes : List ℕ) (placed : List Placed) → AreBytes bytes → events_in col names bytes ≡ Ok placed → PlacedFit col names 0 0 placed
+
+-- The bytes are read as a delta, and what it takes out and puts in stands behind what two lists had.
+abbrev pub IsPushed : Column → ℕ → List ℕ → Delta → Delta → Type 0
+IsPushed col names bytes old new = (d : Delta) × (delta_in col names bytes ≡ Ok d) × DeltaFits col names d × (new ≡ joined old d)

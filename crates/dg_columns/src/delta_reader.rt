@@ -1,22 +1,25 @@
 //! Reading a delta's column.
 
-ghost use Rattle.std.specs.Prelude.{◌≡◌, ◌+◌, ◌≤◌, ◌==◌, ◌&&◌, not, length, Ok, IfOk, IfErr, IfSome, IsTrue, OnOk};
+ghost use Rattle.std.specs.Prelude.{◌≡◌, ◌+◌, ◌≤◌, ◌==◌, ◌&&◌, not, length, Ok, IfOk, IfErr, IfSome, IsSome, IsTrue, OnOk};
 ghost use Rattle.dg_graph.specs.Composition.{Delta};
-ghost use Rattle.dg_graph.specs.Elements.{element_cmp};
+ghost use Rattle.dg_graph.specs.Elements.{IsSet, element_cmp};
 ghost use Rattle.dg_graph.specs.ColumnGrammar.{four_bytes, element_at, element_size, rises_from, elements_at, may_change, changes_in, delta_in};
 ghost use Rattle.dg_set.specs.Apart.{AreApart};
 ghost use Rattle.dg_columns.specs.ReadOutcome.{IsReadAs, IsFaultOf};
+ghost use Rattle.dg_columns.specs.Added.{IsKept, added};
 ghost use Rattle.dg_columns.specs.Fields.{attr_at, next_element_at};
-ghost use Rattle.dg_columns.specs.ReadFits.{DeltaFits};
+ghost use Rattle.dg_columns.specs.ReadFits.{DeltaFits, IsPushed};
+ghost use Rattle.dg_delta.specs.Deltas.{joined};
 
 use crate::delta_writer::element_size;
 use crate::edge::edge_at;
 use crate::fault::ReadFault;
 use crate::layout::{COUNT_SIZE, EDGE, NODE, SMALLEST_ELEMENT};
 use crate::numbers::{byte_at, name_at, u32_at, u64_at};
-use crate::sound_elements::{end_here, set_here};
+use crate::sound_elements::{end_here, push_elements, set_here};
 use dg_delta::{Delta, Element, Set};
 use dg_graph::Column;
+use dg_set::are_apart;
 use std::alloc::Global;
 use std::cmp::Ordering;
 
@@ -292,6 +295,83 @@ pub fn read_delta(
     ensures err { IfErr result (λ fault. IsFaultOf fault (delta_in col name_count bytes.now)) }
 {
     any_delta(alloc, bytes, col, name_count)
+}
+
+// Adds the elements of the two sets of a delta to the lists, where each set by itself has nothing wrong. Answers the
+// offset behind them.
+fn push_sets(
+    bytes: &[u8],
+    col: Column,
+    name_count: u32,
+    minus: &mut Vec<Element>,
+    plus: &mut Vec<Element>,
+) -> Option<usize>
+    ensures minus_kept { IsKept minus.old.items minus.new.items }
+    ensures plus_kept { IsKept plus.old.items plus.new.items }
+    ensures minus_set { IsSome result → IsSet (added minus.old.items minus.new.items) }
+    ensures plus_set { IsSome result → IsSet (added plus.old.items plus.new.items) }
+    ensures sound { IfSome result (λ end. end ≡ length bytes.now → AreApart (added minus.old.items minus.new.items) (added plus.old.items plus.new.items) → changes_in col name_count bytes.now ≡ Ok (record { minus = added minus.old.items minus.new.items; plus = added plus.old.items plus.new.items })) }
+{
+    let out_count = u32_at(bytes, 0).ok()?;
+    let offset = push_elements(minus, bytes, COUNT_SIZE, out_count, col, name_count)?;
+    let in_count = in_count_at(bytes, offset, out_count).ok()?;
+    push_elements(plus, bytes, offset + COUNT_SIZE, in_count, col, name_count)
+}
+
+// Adds the two sets of a delta to the lists, where nothing is wrong with the bytes: each set is read by itself, and
+// one walk shows that they share no element. `false` where something is wrong, or memory ran out: what the lists had
+// stands in front also then.
+fn push_sound(
+    bytes: &[u8],
+    col: Column,
+    name_count: u32,
+    minus: &mut Vec<Element>,
+    plus: &mut Vec<Element>,
+) -> bool
+    ensures pushed { IsTrue result → (d : Delta) × (changes_in col name_count bytes.now ≡ Ok d) × (record { minus = minus.new.items; plus = plus.new.items } ≡ joined (record { minus = minus.old.items; plus = plus.old.items }) d) }
+    ensures minus_kept { IsKept minus.old.items minus.new.items }
+    ensures plus_kept { IsKept plus.old.items plus.new.items }
+{
+    let outs = minus.len();
+    let ins = plus.len();
+    match push_sets(bytes, col, name_count, minus, plus) {
+        Some(end) => end == bytes.len() && are_apart(&minus[outs..], &plus[ins..]),
+        None => false,
+    }
+}
+
+/// Adds what the delta of one column takes out to the one list, and what it puts in to the other: each set stands behind
+/// what its list had, with which it is not compared. `read_delta` says which bytes are those of a delta, and what an
+/// `Err` says; then too what the lists had stands in front, and there may be more behind it.
+pub fn push_delta(
+    alloc: Global,
+    bytes: &[u8],
+    col: Column,
+    name_count: u32,
+    minus: &mut Vec<Element>,
+    plus: &mut Vec<Element>,
+) -> Result<(), ReadFault>
+    ensures ok { OnOk result (IsPushed col name_count bytes.now (record { minus = minus.old.items; plus = plus.old.items }) (record { minus = minus.new.items; plus = plus.new.items })) }
+    ensures err { IfErr result (λ fault. IsFaultOf fault (delta_in col name_count bytes.now)) }
+
+    // Whatever the result.
+    ensures minus_kept { IsKept minus.old.items minus.new.items }
+    ensures plus_kept { IsKept plus.old.items plus.new.items }
+{
+    if may_change(col) && !bytes.is_empty() {
+        let outs = minus.len();
+        let ins = plus.len();
+        if push_sound(bytes, col, name_count, minus, plus) {
+            return Ok(());
+        }
+        // Something is wrong, or memory ran out: the bytes are read again, for the answer.
+        minus.truncate(outs);
+        plus.truncate(ins);
+    }
+    let delta = read_delta(alloc, bytes, col, name_count)?;
+    minus.extend_from_slice(delta.minus().items())?;
+    plus.extend_from_slice(delta.plus().items())?;
+    Ok(())
 }
 
 // Where a delta ends with which the bytes begin, in a column in which a delta may have elements. `None` where

@@ -19,7 +19,7 @@ mod sound_elements;
 
 pub use column_join::join;
 pub use column_merge::{MergeFault, merge};
-pub use delta_reader::{is_delta, read_delta};
+pub use delta_reader::{is_delta, push_delta, read_delta};
 pub use delta_writer::write_delta;
 pub use dg_delta::Delta;
 pub use dg_graph::{Column, Event, Placed};

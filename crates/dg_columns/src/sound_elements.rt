@@ -5,6 +5,7 @@ ghost use Rattle.std.specs.Prelude.{◌≡◌, ◌+◌, ◌≤◌, List, [], len
 ghost use Rattle.std.specs.Option.{option_copied};
 ghost use Rattle.dg_graph.specs.Elements.{IsSet, before, has};
 ghost use Rattle.dg_graph.specs.ColumnGrammar.{element_size, elements_at, rises_from};
+ghost use Rattle.dg_columns.specs.Added.{IsKept, added};
 ghost use Rattle.dg_columns.specs.Fields.{attr_at, edge_fields_at, next_element_at};
 
 use crate::delta_reader::AttrFields;
@@ -17,6 +18,7 @@ use dg_numbers::{byte_at, u32_at, u64_at};
 use std::alloc::Global;
 
 // The fields of a value.
+#[inline(always)]
 fn attr_here(bytes: &[u8], offset: usize, name_count: u32) -> Option<AttrFields>
     requires { offset ≤ length bytes.now }
     ensures fields { IfSome result (λ v. attr_at name_count bytes.now offset ≡ Ok v) }
@@ -36,6 +38,7 @@ fn attr_here(bytes: &[u8], offset: usize, name_count: u32) -> Option<AttrFields>
 }
 
 // The fields of an edge, after its kind.
+#[inline(always)]
 fn edge_here(bytes: &[u8], offset: usize) -> Option<EdgeFields>
     requires { offset ≤ length bytes.now }
     ensures fields { IfSome result (λ e. edge_fields_at bytes.now offset ≡ Ok e) }
@@ -109,6 +112,7 @@ fn if_behind(last: Option<&Element>, element: Element) -> Option<Element>
 }
 
 // A node or an edge that comes after the last one.
+#[inline(always)]
 fn structure_here(
     bytes: &[u8],
     offset: usize,
@@ -144,6 +148,7 @@ fn structure_here(
 }
 
 // The element at the offset, which comes after the last one.
+#[inline(always)]
 fn next_here(
     bytes: &[u8],
     offset: usize,
@@ -183,32 +188,37 @@ fn next_here(
     }
 }
 
-// So many elements from the offset on, each after the one before it, and the offset behind them.
-fn elements_here(
-    alloc: Global,
+/// Adds so many elements from the offset on, each after the one before it, to the list. Answers the offset behind them;
+/// `None` where something is wrong, or memory ran out. What the list had stands in front also then, and the first
+/// element is not compared with it.
+pub(crate) fn push_elements(
+    items: &mut Vec<Element>,
     bytes: &[u8],
     start: usize,
     count: u32,
     col: Column,
     name_count: u32,
-) -> Option<(Vec<Element>, usize)>
+) -> Option<usize>
     requires { start ≤ length bytes.now }
-    ensures elements { IfSome result (λ p. elements_at count col name_count bytes.now [] start None ≡ Ok (p.0.items, p.1)) }
-    ensures fits { IfSome result (λ p. p.1 ≤ length bytes.now) }
+    ensures kept { IsKept items.old.items items.new.items }
+    ensures elements { IfSome result (λ end. elements_at count col name_count bytes.now [] start None ≡ Ok (added items.old.items items.new.items, end)) }
+    ensures fits { IfSome result (λ end. end ≤ length bytes.now) }
 {
     // The bytes bound what is reserved: the count is not trusted.
     let room = count as usize;
     if room > bytes.len() / SMALLEST_ELEMENT {
         return None;
     }
-    let mut items = Vec::with_capacity(alloc, room).ok()?;
+    items.reserve(room).ok()?;
     let mut offset = start;
+    let first = items.len();
     for _ in 0..count {
-        let element = next_here(bytes, offset, col, name_count, items.last())?;
+        let last = items[first..].last();
+        let element = next_here(bytes, offset, col, name_count, last)?;
         offset += element_size(&element);
         items.push_reserved(element);
     }
-    Some((items, offset))
+    Some(offset)
 }
 
 /// So many elements as a set, and the offset behind them.
@@ -224,7 +234,8 @@ pub(crate) fn set_here(
     ensures elements { IfSome result (λ p. elements_at count col name_count bytes.now [] start None ≡ Ok (p.0, p.1)) }
     ensures fits { IfSome result (λ p. p.1 ≤ length bytes.now) }
 {
-    let (items, end) = elements_here(alloc, bytes, start, count, col, name_count)?;
+    let mut items = Vec::new(alloc);
+    let end = push_elements(&mut items, bytes, start, count, col, name_count)?;
     Some((Set::from_rising(items), end))
 }
 
