@@ -81,11 +81,11 @@ entered_named (e ∷ walk) key c =
 -- ---- counts
 
 -- bytes, and then more
-takes_both : (m n a b c : ℕ) → Takes m a b → Takes n b c → Takes (m + n) a c
+pub takes_both : (m n a b c : ℕ) → Takes m a b → Takes n b c → Takes (m + n) a c
 takes_both m n a b c f g = omega arith
 
 -- bytes, and then at most so many more
-takes_most : (m n whole a b c : ℕ) → Takes m a b → TakesAtMost n b c → m + n ≤ whole → TakesAtMost whole a c
+pub takes_most : (m n whole a b c : ℕ) → Takes m a b → TakesAtMost n b c → m + n ≤ whole → TakesAtMost whole a c
 takes_most m n whole a b c f g h = omega arith
 
 -- ---- a walk

@@ -6,6 +6,7 @@ pub mod PathIndependenceEdges
 pub mod PartCompositions
 pub mod PartDeltas
 pub mod PartColumns
+pub mod PartStacks
 pub mod PathIndependencePlans
 pub mod RecordFits
 pub mod Trees
@@ -24,3 +25,4 @@ pub mod WritingRoots
 pub mod WritingSteps
 pub mod WritingCompositions
 pub mod WritingLasts
+pub mod Foldings

@@ -62,14 +62,14 @@ of_column col xs x inside = ap (λ l. has l x) (sym inside) ∙ has-filter (λ y
 has_three : (a b c : List Element) (x : Element) → has ((a ++ b) ++ c) x ≡ ((has a x || has b x) || has c x)
 has_three a b c x = list_any-append (same x) (a ++ b) c ∙ ap (λ t. t || has c x) (list_any-append (same x) a b)
 
-says_joined : (s n e : Delta) → IsIn Structure s → IsIn NodeAttr n → IsIn EdgeAttr e → Composes (joined_columns s n e) (s ∷ n ∷ e ∷ [])
+pub says_joined : (s n e : Delta) → IsIn Structure s → IsIn NodeAttr n → IsIn EdgeAttr e → Composes (joined_columns s n e) (s ∷ n ∷ e ∷ [])
 says_joined s n e is in_n in_e x =
     (λ i. word (has_three s.plus n.plus e.plus x i) (has_three s.minus n.minus e.minus x i))
     ∙ words (column_of x) (has s.plus x) (has s.minus x) (has n.plus x) (has n.minus x) (has e.plus x) (has e.minus x)
     (of_column Structure s.plus x is.plus_in) (of_column Structure s.minus x is.minus_in) (of_column NodeAttr n.plus x in_n.plus_in) (of_column NodeAttr n.minus x in_n.minus_in)
     (of_column EdgeAttr e.plus x in_e.plus_in) (of_column EdgeAttr e.minus x in_e.minus_in)
 
-turned_in : (col : Column) (d : Delta) → IsIn col d → IsIn col (reversed d)
+pub turned_in : (col : Column) (d : Delta) → IsIn col d → IsIn col (reversed d)
 turned_in col d is = record { minus_in = is.plus_in; plus_in = is.minus_in }
 
 -- in whatever way it is taken

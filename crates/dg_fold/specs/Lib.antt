@@ -11,3 +11,4 @@ pub mod PointSplits
 pub mod HistoryTrees
 pub mod Writings
 pub mod WritingSteps
+pub mod Foldings

@@ -9,8 +9,10 @@ use Rattle.dg_history.specs.declared.node.Key.TheVariants as key
 use Rattle.dg_graph.specs.declared.placed.Placed.{Placed}
 use Rattle.dg_graph.specs.Composition.{Delta, IsDelta, Composes, Says, As_it_was, composition}
 use Rattle.dg_graph.specs.Elements.{asks, column_of}
+use Rattle.dg_delta.specs.Deltas.{joined}
 use Rattle.dg_columns.specs.ColumnLaws.{HasNoMessage}
 use Rattle.dg_columns.specs.Ranges.{EventsFit, ElementsFit}
+use Rattle.dg_columns.specs.ReadFits.{IsIn}
 use Rattle.dg_graph.specs.ColumnGrammar.{events_in, delta_in}
 use Rattle.dg_columns.specs.declared.fault.ReadFault.{ReadFault}
 use Rattle.dg_columns.specs.declared.fault.ReadFault.TheVariants as read
@@ -75,6 +77,14 @@ abbrev pub Folds : Result Delta FoldFault → Result (List Delta) (Key × Column
 Folds (Ok d) due = (list : List Delta) × (due ≡ Ok list) × Composes d list
 Folds (Err (fault.Damaged k col)) due = due ≡ Err (k, col)
 Folds (Err fault.Memory) due = Unit {0}
+
+-- the composition of these deltas stands behind what stood there
+abbrev pub StandsOnTop : Result (List Delta) (Key × Column) → Delta → Delta → Type 0
+StandsOnTop due old new = (d : Delta) × IsDelta d × Folds (Ok d) due × (new ≡ joined old d)
+
+-- a column of the part, which is one delta in its way, stands behind what stood there
+abbrev pub ColumnStandsOnTop : ℕ → Part → Column → Delta → Delta → Type 0
+ColumnStandsOnTop names p col old new = (d : Delta) × IsDelta d × IsIn col d × (part_column_in names p col ≡ Ok (d ∷ [])) × (new ≡ joined old d)
 
 -- the fault of a column, as one of the parts
 abbrev pub fault_at : Key → Column → ReadFault → FoldFault

@@ -1,6 +1,6 @@
 //! The delta of a part, column by column.
 
-ghost use Rattle.std.specs.Prelude.{◌≡◌, true, false, map, ℕ, List, Option, Ok, Err, IfOk, IfErr, IsTrue};
+ghost use Rattle.std.specs.Prelude.{◌≡◌, true, false, map, ℕ, List, Option, Ok, Err, IfOk, IfErr, IsTrue, ◌≢◌, OnOk};
 ghost use Rattle.dg_columns.specs.ReadFits.{IsIn, joined_columns};
 ghost use Rattle.dg_graph.specs.Composition.{Delta};
 ghost use Rattle.dg_graph.specs.declared.element.Column.{Column};
@@ -8,13 +8,14 @@ ghost use Rattle.dg_graph.specs.declared.placed.Placed.{Placed};
 ghost use Rattle.dg_index.specs.IndexRecords.{Exact};
 ghost use Rattle.dg_plan.specs.declared.edge.Way.{Way};
 ghost use Rattle.dg_fold.specs.PathIndependence.{taken};
-ghost use Rattle.dg_fold.specs.Parts.{is_events, bytes_in, part_column_in, beside, deltas_in_part, Folds, fault_at, taken_as};
+ghost use Rattle.dg_fold.specs.Parts.{is_events, bytes_in, part_column_in, beside, deltas_in_part, ColumnStandsOnTop, Folds, StandsOnTop, fault_at, taken_as};
+ghost use Rattle.dg_delta.specs.Stacks.{stacked};
 
 use crate::fault::FoldFault;
 use crate::net::{joined, net_of, turned};
 use crate::part::{Bytes, Part};
-use dg_columns::{ReadFault, is_delta, join, read_delta, read_events};
-use dg_delta::Delta;
+use dg_columns::{ReadFault, is_delta, join, push_delta, read_delta, read_events};
+use dg_delta::{Delta, DeltaStack};
 use dg_graph::{Column, Event, Placed};
 use dg_history::Key;
 use dg_plan::Way;
@@ -218,6 +219,80 @@ pub(crate) fn part_delta<R: Threads>(
     ensures { Folds result (deltas_in_part name_count part.now) }
 {
     part_delta_as(rt, alloc, name_count, part, part.way, part.until)
+}
+
+// Puts the delta that a column of the part spells on top, turned where the part is taken back.
+fn push_column(
+    alloc: Global,
+    name_count: u32,
+    part: &Part,
+    col: Column,
+    stack: &mut DeltaStack,
+) -> Result<(), FoldFault>
+    requires kind { is_events part.now.key ≡ false }
+    requires way { part.now.way ≢ Way.Same }
+    ensures ok { OnOk result (ColumnStandsOnTop name_count part.now col (stacked stack.old) (stacked stack.new)) }
+    ensures err { IfErr result (λ f. Folds (Err f) (part_column_in name_count part.now col)) }
+{
+    let bytes = bytes_of(&part.bytes, col);
+    let pushed = match part.way {
+        Way::Back => push_delta(
+            alloc,
+            bytes,
+            col,
+            name_count,
+            &mut stack.plus,
+            &mut stack.minus,
+        ),
+        _ => push_delta(
+            alloc,
+            bytes,
+            col,
+            name_count,
+            &mut stack.minus,
+            &mut stack.plus,
+        ),
+    };
+    match pushed {
+        Ok(()) => Ok(()),
+        Err(fault) => Err(fault_of(fault, part.key, col)),
+    }
+}
+
+// Puts the delta of a part that holds one on top.
+fn push_exact(
+    alloc: Global,
+    name_count: u32,
+    part: &Part,
+    stack: &mut DeltaStack,
+) -> Result<(), FoldFault>
+    requires kind { is_events part.now.key ≡ false }
+    requires way { part.now.way ≢ Way.Same }
+    ensures ok { OnOk result (StandsOnTop (deltas_in_part name_count part.now) (stacked stack.old) (stacked stack.new)) }
+    ensures err { IfErr result (λ f. Folds (Err f) (deltas_in_part name_count part.now)) }
+{
+    push_column(alloc, name_count, part, Column::Structure, stack)?;
+    push_column(alloc, name_count, part, Column::NodeAttr, stack)?;
+    push_column(alloc, name_count, part, Column::EdgeAttr, stack)
+}
+
+/// Puts the delta of a part on top.
+pub(crate) fn push_part<R: Threads>(
+    rt: &R,
+    alloc: Global,
+    name_count: u32,
+    part: &Part,
+    stack: &mut DeltaStack,
+) -> Result<(), FoldFault>
+    ensures ok { OnOk result (StandsOnTop (deltas_in_part name_count part.now) (stacked stack.old) (stacked stack.new)) }
+    ensures err { IfErr result (λ f. Folds (Err f) (deltas_in_part name_count part.now)) }
+{
+    if is_events(part.key) || part.way == Way::Same {
+        let delta = part_delta(rt, alloc, name_count, part)?;
+        stack.push(&delta)?;
+        return Ok(());
+    }
+    push_exact(alloc, name_count, part, stack)
 }
 
 // Whether a column of the part is in order. `false` also where memory ran out.

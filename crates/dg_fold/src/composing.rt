@@ -5,7 +5,7 @@ ghost use Rattle.std.specs.List.{All};
 ghost use Rattle.dg_fold.specs.Writings.{composed_all, is_for, written_for};
 ghost use Rattle.dg_graph.specs.Composition.{Composes, IsDelta};
 
-use crate::halves::{Weighed, cut_at};
+use crate::halves::{Weighed, middle_of};
 use crate::net::{joined, joined_on};
 use crate::writing::Writing;
 use dg_delta::Delta;
@@ -55,7 +55,7 @@ pub fn composed(alloc: Global, deltas: &[&Delta]) -> Result<Delta, AllocError>
             Some(delta) => delta.copy(),
         };
     }
-    let (left, right) = deltas.split_at(cut_at(deltas));
+    let (left, right) = deltas.split_at(middle_of(deltas));
     let then = composed(alloc, right)?;
     if left.len() == 1 {
         return joined_on(left[0], then);

@@ -35,7 +35,7 @@ fn copied(alloc: Global, bytes: &Bytes) -> Result<Bytes, AllocError>
 }
 
 // Whether the two are one key.
-fn is_same(left: Key, right: Key) -> bool
+pub(crate) fn is_same(left: Key, right: Key) -> bool
     ensures same { IsTrue result → left ≡ right }
     ensures all { left ≡ right → IsTrue result }
 {

@@ -17,22 +17,30 @@ pub(crate) fn all_weigh<T: Weighed>(items: &[T]) -> u64 {
     sum
 }
 
-/// Where to cut them in two, so that both sides have about half of the weight.
-pub(crate) fn cut_at<T: Weighed>(items: &[T]) -> usize
+/// Where to cut them in two, so that what is in front comes to this weight.
+pub(crate) fn cut_at<T: Weighed>(items: &[T], weight: u64) -> usize
     requires { 2 ≤ length items.now }
     ensures some { 0 < result }
     ensures within { result < length items.now }
 {
-    let half = all_weigh(items) / 2;
     let mut sum = 0u64;
     for (i, item) in items.iter().enumerate() {
         if i == items.len() - 1 {
             break;
         }
         sum = sum.saturating_add(item.weight());
-        if sum >= half {
+        if sum >= weight {
             return i + 1;
         }
     }
     items.len() - 1
+}
+
+/// Where to cut them in two, so that both sides have about half of the weight.
+pub(crate) fn middle_of<T: Weighed>(items: &[T]) -> usize
+    requires { 2 ≤ length items.now }
+    ensures some { 0 < result }
+    ensures within { result < length items.now }
+{
+    cut_at(items, all_weigh(items) / 2)
 }

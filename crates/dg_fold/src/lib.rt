@@ -7,6 +7,7 @@ mod composing;
 mod ends;
 mod fault;
 mod fetch;
+mod folding;
 mod gate;
 mod halves;
 mod laws;
@@ -23,6 +24,7 @@ pub use composing::{compose_for, composed, is_for};
 pub use dg_delta::Delta;
 pub use fault::FoldFault;
 pub use fetch::fetch_walk;
+pub use folding::fold_walk;
 pub use gate::{Gate, Open};
 pub use laws::{
     law_columns_of_an_image, law_edges_are_sound, law_history_paths_lead, law_history_trees_reach,
@@ -31,6 +33,6 @@ pub use laws::{
     law_records_lead, law_steps_are_walks, law_trees_lead, law_trees_reach, law_walks_lead,
 };
 pub use part::{Bytes, Part};
-pub use plan::{compose_freed, compose_plan};
+pub use plan::compose_plan;
 pub use tree::Branch;
 pub use writing::{Writing, write_tree};

@@ -53,8 +53,8 @@ pub(crate) fn turned(alloc: Global, delta: Delta, way: Way) -> Delta
     }
 }
 
-/// One delta and then another. Where one of them names nothing, nothing is copied. An `Err` says that
-/// memory ran out.
+/// One delta and then another. Where one of them names nothing, nothing is copied; else the first takes the
+/// other in, in its own memory where it can. An `Err` says that memory ran out.
 pub(crate) fn joined(first: Delta, then: Delta) -> Result<Delta, AllocError>
     ensures { IfOk result (λ d. Composes d (first ∷ then ∷ [])) }
 {
@@ -64,7 +64,7 @@ pub(crate) fn joined(first: Delta, then: Delta) -> Result<Delta, AllocError>
     if is_empty(&first) {
         return Ok(then);
     }
-    first.compose(&then)
+    first.into_composed(&then)
 }
 
 /// One delta and then another, of which the first is used on. Where the first names nothing, nothing is

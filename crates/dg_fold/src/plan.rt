@@ -1,19 +1,20 @@
 //! Composing the parts of a plan, by halves.
 
-ghost use Rattle.std.specs.Prelude.{List, Result};
+ghost use Rattle.std.specs.Prelude.{List, Result, Err, IfErr, OnOk};
 ghost use Rattle.std.specs.Thread.{IsSync};
 ghost use Rattle.dg_graph.specs.declared.element.Column.{Column};
 ghost use Rattle.dg_history.specs.declared.node.Key.{Key};
+ghost use Rattle.dg_delta.specs.Stacks.{stacked};
 ghost use Rattle.dg_graph.specs.Composition.{Delta as Deltas};
-ghost use Rattle.dg_fold.specs.Parts.{beside, deltas_in_part, parts_in, Folds};
+ghost use Rattle.dg_fold.specs.Parts.{beside, deltas_in_part, parts_in, Folds, StandsOnTop};
 
-use crate::column::part_delta;
+use crate::column::{part_delta, push_part};
 use crate::fault::FoldFault;
 use crate::gate::Gate;
-use crate::halves::{Weighed, all_weigh, cut_at};
+use crate::halves::{Weighed, all_weigh, cut_at, middle_of};
 use crate::net::joined;
 use crate::part::{Bytes, Part};
-use dg_delta::Delta;
+use dg_delta::{Delta, DeltaStack};
 use std::alloc::Global;
 use std::thread::{Threads, join};
 
@@ -59,50 +60,58 @@ fn compose_alone<R: Threads>(
             Some(part) => part_delta(rt, alloc, name_count, part),
         };
     }
-    let (left, right) = parts.split_at(cut_at(parts));
+    let (left, right) = parts.split_at(middle_of(parts));
     let first = compose_alone(rt, alloc, name_count, left);
     let then = compose_alone(rt, alloc, name_count, right);
     both(first, then)
 }
 
-// The delta of a part, whose bytes are given back.
-fn freed_delta<R: Threads>(
+// Puts the delta of a part on top, whose bytes are given back.
+fn push_freed<R: Threads>(
     rt: &R,
     alloc: Global,
     name_count: u32,
     part: &mut Part,
-) -> Result<Delta, FoldFault>
-    ensures { Folds result (deltas_in_part name_count part.old) }
+    stack: &mut DeltaStack,
+) -> Result<(), FoldFault>
+    ensures ok { OnOk result (StandsOnTop (deltas_in_part name_count part.old) (stacked stack.old) (stacked stack.new)) }
+    ensures err { IfErr result (λ f. Folds (Err f) (deltas_in_part name_count part.old)) }
 {
-    let delta = part_delta(rt, alloc, name_count, part);
+    let pushed = push_part(rt, alloc, name_count, part, stack);
     part.bytes = Bytes {
         structure: Vec::new(alloc),
         node_attr: Vec::new(alloc),
         edge_attr: Vec::new(alloc),
     };
-    delta
+    pushed
 }
 
-/// The composition of the parts, in order, over so many names, by halves and in this thread alone. The bytes of each part
-/// are given back once they are decoded, so that they take no memory beside what is composed. `Damaged` names the first
-/// part, and of it the first column, that is damaged, exactly where one is.
-pub fn compose_freed<R: Threads>(
+/// Puts the composition of the parts on top; the bytes of each are given back once they are decoded. The parts are cut where
+/// those in front come to two thirds of the bytes, since what is composed with these stands twice meanwhile, in `spare` too.
+pub(crate) fn push_composed<R: Threads>(
     rt: &R,
     alloc: Global,
     name_count: u32,
     parts: &mut [Part],
-) -> Result<Delta, FoldFault>
-    ensures { Folds result (parts_in name_count parts.old) }
+    stack: &mut DeltaStack,
+    spare: &mut DeltaStack,
+) -> Result<(), FoldFault>
+    ensures ok { OnOk result (StandsOnTop (parts_in name_count parts.old) (stacked stack.old) (stacked stack.new)) }
+    ensures err { IfErr result (λ f. Folds (Err f) (parts_in name_count parts.old)) }
 {
     match parts.len() {
-        0 => Ok(Delta::new(alloc)),
-        1 => freed_delta(rt, alloc, name_count, &mut parts[0]),
+        0 => Ok(()),
+        1 => push_freed(rt, alloc, name_count, &mut parts[0], stack),
         _ => {
-            let middle = cut_at(parts);
+            let weight = all_weigh(parts) / 3 * 2;
+            let middle = cut_at(parts, weight);
             let (left, right) = parts.split_at_mut(middle);
-            let first = compose_freed(rt, alloc, name_count, left);
-            let then = compose_freed(rt, alloc, name_count, right);
-            both(first, then)
+            let first = stack.height();
+            push_composed(rt, alloc, name_count, left, stack, spare)?;
+            let then = stack.height();
+            push_composed(rt, alloc, name_count, right, stack, spare)?;
+            stack.compose(spare, first, then)?;
+            Ok(())
         }
     }
 }
@@ -123,7 +132,7 @@ pub fn compose_plan<R: Threads + Sync, G: Gate>(
     if parts.len() <= 1 {
         return compose_alone(rt, alloc, name_count, parts);
     }
-    let (left, right) = parts.split_at(cut_at(parts));
+    let (left, right) = parts.split_at(middle_of(parts));
     let (first, then) = join(
         rt,
         || -> Result<Delta, FoldFault>

@@ -1,11 +1,15 @@
 //! What leads to the set of a node of an index, by its records alone.
 
-ghost use Rattle.std.specs.Prelude.{◌≡◌, false, ◌∷◌, [], IfOk, IfSome};
-ghost use Rattle.std.specs.List.{Contains};
+ghost use Rattle.std.specs.Prelude.{◌≡◌, false, ◌∷◌, [], IfOk, IfSome, IsErrOf, OnOk};
+ghost use Rattle.std.specs.List.{All, Contains};
+ghost use Rattle.dg_disk.specs.Calls.{Fails, ReadsDisk};
 ghost use Rattle.dg_file.specs.Images.{IsOpenedAs};
+ghost use Rattle.dg_fold.specs.BytesRead.{HoldsWhatIsEntered, IsKept, Takes, TakesAtMost, entered_length, kept_in};
+ghost use Rattle.dg_fold.specs.Foldings.{HasParts};
 ghost use Rattle.dg_fold.specs.Parts.{Folds, parts_in};
 ghost use Rattle.dg_history.specs.declared.node.NodeId.TheVariants.{Root};
 ghost use Rattle.dg_history.specs.History.{History};
+ghost use Rattle.dg_plan.specs.declared.edge.Edge.{Edge};
 ghost use Rattle.dg_plan.specs.IndexGraph.{arcs_of, nodes_of};
 ghost use Rattle.dg_plan.specs.Walks.{IsPlan, weight_of};
 ghost use Rattle.dg_retrieval.specs.Calls.{LeadsToNode, LeadsToNodeOver, ReadsRecords, TellsDamage};
@@ -16,16 +20,17 @@ use crate::branches::edges_at;
 use crate::fault::RetrievalFault;
 use dg_delta::Delta;
 use dg_disk::Disk;
-use dg_file::Index;
-use dg_fold::{FoldFault, Open, Part, compose_freed, compose_plan, fetch_walk};
+use dg_file::{FetchFault, Index};
+use dg_fold::{FoldFault, Open, compose_plan, fetch_walk, fold_walk};
 use dg_graph::Columns;
 use dg_history::NodeId;
+use dg_plan::Edge;
 use dg_planner::{Graft, Planner};
 use std::alloc::{AllocError, Global};
 use std::thread::Threads;
 
-/// A plan of so many bytes, or of fewer, is composed in one thread. Each thread takes memory of its own from the system, which
-/// up to there costs what the other thread saves.
+/// A plan of so many bytes, or of fewer, is composed in one thread, as it is read. Each thread takes memory of its own from
+/// the system, which up to there costs what the other thread saves.
 const ALONE_BYTES_MAX: u64 = 64 * 1024 * 1024;
 
 /// What leads from nothing to the set of a node.
@@ -38,8 +43,9 @@ pub struct NodeLead {
 }
 
 /// Retrieves what leads from nothing to the set of a node, in these columns, by its least plan over the records of the
-/// index alone. Each record that the plan enters is read once, and nothing else; the parts are composed by halves. The
-/// history has `name_count` names; each one that is put in is among them.
+/// index alone. Each record that the plan enters is read once, and nothing else; where they have 64 MiB at the most, they
+/// are composed as they are read, and else once all are read. The history has `name_count` names; each one that is put in
+/// is among them.
 ///
 /// `Disk` where a read failed, `Damaged` with the first column that is in no spelling, in the order of the plan's
 /// steps and of structure, node attributes, edge attributes, and `Memory`.
@@ -71,29 +77,53 @@ pub fn retrieve_node<R: Threads + Sync, D: Disk>(
     index.facts();
     let route = plan_of(alloc, planner, node)?;
     let walk = edges_at(alloc, planner.edges(), &route.steps)?;
-    let parts = fetch_walk(alloc, index, disk, &walk, cols)?;
-    let delta = compose(rt, alloc, name_count, parts, route.weight)?;
+    let folded = fold(
+        rt,
+        alloc,
+        index,
+        disk,
+        name_count,
+        &walk,
+        cols,
+        route.weight,
+    )?;
+    let delta = folded?;
     Ok(NodeLead {
         delta,
         weight: route.weight,
     })
 }
 
-// The composition of the parts, in order, of a plan of so many bytes.
-fn compose<R: Threads + Sync>(
+// What the records of the walk compose to, of a plan of so many bytes.
+fn fold<R: Threads + Sync, D: Disk>(
     rt: &R,
     alloc: Global,
+    index: &mut Index,
+    disk: &mut D,
     name_count: u32,
-    mut parts: Vec<Part>,
+    walk: &[Edge],
+    cols: Columns,
     weight: u64,
-) -> Result<Delta, FoldFault>
-    ensures { Folds result (parts_in name_count parts.items) }
+) -> Result<Result<Delta, FoldFault>, FetchFault>
+    requires kept { All (λ (e : Edge). IsKept index.old.opening e.via) walk.now }
+    requires entered { HoldsWhatIsEntered [] walk.now }
+    requires image { IfSome (D.image disk.old) (λ image. IsOpenedAs image index.old.opening) }
+    ensures folded { IfOk result (λ folded. HasParts (D.image disk.old) index.old.opening cols walk.now (λ parts. Folds folded (parts_in name_count parts))) }
+    ensures takes { OnOk result (IfSome (D.image disk.old) (λ image. Takes (entered_length (kept_in image index.old.opening) cols walk.now) (D.taken disk.old) (D.taken disk.new))) }
+    ensures most { IfSome (D.image disk.old) (λ image. TakesAtMost (entered_length (kept_in image index.old.opening) cols walk.now) (D.taken disk.old) (D.taken disk.new)) }
+
+    // errors
+    ensures cause { IsErrOf result FetchFault.Disk → Fails D.Disk disk.old disk.new }
+
+    // frame
+    ensures same { index.new ≡ index.old }
+    ensures frame { ReadsDisk D.Disk disk.old disk.new }
 {
     if weight <= ALONE_BYTES_MAX {
-        compose_freed(rt, alloc, name_count, &mut parts)
-    } else {
-        compose_plan(rt, alloc, &Open, name_count, &parts)
+        return fold_walk(rt, alloc, index, disk, name_count, walk, cols);
     }
+    let parts = fetch_walk(alloc, index, disk, walk, cols)?;
+    Ok(compose_plan(rt, alloc, &Open, name_count, &parts))
 }
 
 // The steps of a least plan, and their weight in bytes.
