@@ -113,12 +113,3 @@ pub(crate) fn count_kinds(items: &[Element]) -> Counts
     }
     counts
 }
-
-/// The room for as many elements as are counted.
-pub(crate) fn room_for(counts: Counts) -> usize {
-    let structure = counts.nodes.saturating_add(counts.edges);
-    let attributes = counts.node_attrs.saturating_add(counts.edge_attrs);
-    structure
-        .saturating_add(attributes)
-        .saturating_add(counts.messages) as usize
-}

@@ -1,11 +1,10 @@
 //! Which graphs have the element of a cell, and walks over the cells of a graph in the order of elements.
-ghost use Rattle.std.specs.Prelude.{◌≡◌, ◌≤◌, false, [], ◌∷◌, IfSome, IfNone, IfOk};
+ghost use Rattle.std.specs.Prelude.{◌≡◌, ◌≤◌, false, [], ◌∷◌, IfSome, IfNone};
 ghost use Rattle.dg_graph.specs.declared.element.Columns.{Columns};
 ghost use Rattle.dg_pool.specs.declared.slots.Base.TheVariants as bases;
 ghost use Rattle.dg_pool.specs.declared.slots.Slot.{Slot};
 ghost use Rattle.dg_pool.specs.declared.slots.SlotState.TheVariants as states;
-ghost use Rattle.dg_pool.specs.Graphs.{in_base, picked};
-ghost use Rattle.dg_cells.specs.Rows.{is_current};
+ghost use Rattle.dg_pool.specs.Graphs.{in_base};
 ghost use Rattle.dg_pool.specs.Sweeps.{in_state};
 ghost use Rattle.dg_pool.specs.Listing.{is_behind, passing_from, up_to};
 
@@ -13,7 +12,6 @@ use crate::slots::{Base, SlotState};
 use dg_cells::{Cells, Cursor, Row, is_current, pair};
 use dg_event::{asks, column_of, compare};
 use dg_graph::Element;
-use std::alloc::{AllocError, Global};
 
 /// Whether the base has the cell's element, by the bits alone.
 pub(crate) fn in_base(row: &Row, base: Base) -> bool
@@ -85,26 +83,4 @@ pub(crate) fn next_member(
         cursor = behind;
     }
     None
-}
-
-/// The elements of the current graph, in their order. There is room for so many of them before the walk.
-/// An `Err` says that memory ran out.
-pub(crate) fn list_now(
-    alloc: Global,
-    cells: &Cells,
-    room: usize,
-) -> Result<Vec<Element>, AllocError>
-    ensures { IfOk result (λ list. list.items ≡ picked is_current cells.now) }
-{
-    cells.facts();
-    cells.order_facts();
-    let mut list = Vec::with_capacity(alloc, room)?;
-    let mut cursor = cells.first();
-    while let Some((row, behind)) = cells.step(cursor) {
-        if is_current(row) {
-            list.push(row.element)?;
-        }
-        cursor = behind;
-    }
-    Ok(list)
 }

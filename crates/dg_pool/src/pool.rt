@@ -14,10 +14,10 @@ ghost use Rattle.dg_graph.specs.Elements.{IsSet, shown, has, before};
 ghost use Rattle.dg_graph.specs.Composition.{applied};
 
 use crate::changes::write_delta;
-use crate::counts::{base_counts, count_kinds, counts_shown, no_counts, room_for};
+use crate::counts::{base_counts, count_kinds, counts_shown, no_counts};
 use crate::current::{pass_all, pass_delta};
 use crate::lengths::{count_all, count_needed};
-use crate::members::{has_member, list_now, next_member};
+use crate::members::{has_member, next_member};
 use crate::room::{add_by_all, make_rising};
 use crate::slots::{
     Base, Slot, SlotState, all_free, begin, count_live, end, least_free, least_on, list_on_now,
@@ -501,15 +501,6 @@ impl Pool {
         ensures { result ≡ counts_of (graph_now self.now) }
     {
         self.counts[0]
-    }
-
-    /// The current graph. An `Err` says that memory ran out.
-    pub fn now_set(&self, alloc: Global) -> Result<Set, AllocError>
-        ensures { IfOk result (λ set. set ≡ graph_now self.now) }
-    {
-        let room = room_for(self.counts[0]);
-        let items = list_now(alloc, &self.cells, room)?;
-        Ok(Set::from_rising(items))
     }
 
     /// How many slots are live.
