@@ -23,7 +23,7 @@ use std::process::ExitCode;
 use words::words_after_name;
 
 /// The block that the C library gives back first. With a larger one, blocks of a large graph lie beside one another unused.
-const KEPT_BYTES: usize = 2560 * 1024;
+const KEPT_BYTES: usize = 512 * 1024;
 
 fn main(rt: HostRuntime) -> ExitCode {
     let words = match words_after_name(&rt) {
