@@ -10,7 +10,7 @@ ghost use Rattle.std.specs.Option.{option_map};
 use crate::cell_fill::fill;
 use crate::cell_merge::merge;
 use crate::cursors::{self, Cursor};
-use crate::listing::{add, add_each, number_at, unlist};
+use crate::listing::{add, add_each, find_each, number_at, unlist};
 use crate::pieces::Pieces;
 use crate::positions::{START, row_in, seek};
 use crate::row::{Row, is_current, pair, set_current, set_pair};
@@ -188,10 +188,8 @@ impl Cells {
         self.rows.reserve(more)
     }
 
-    /// Gives each of the elements, which rise, a cell with no bit, unless it has a cell, and answers the numbers of
-    /// their cells, in the order of the elements. An `Err` says that memory ran out, or that there are 2^32 cells;
-    /// some elements may have got a cell.
-    pub fn add_numbered(&mut self, items: &[Element]) -> Result<Vec<u32>, AllocError>
+    // As `add_numbered`, where not each of the elements has a cell.
+    fn add_missing(&mut self, items: &[Element]) -> Result<Vec<u32>, AllocError>
         requires { IsSet items.now }
         ensures grows { CellsGrow self.old self.new }
         ensures numbers { IfOk result (λ numbers. AreNumbers self.new items.now numbers.items) }
@@ -206,6 +204,23 @@ impl Cells {
             add_each(&mut self.rows, &mut self.order, items, &mut numbers)?;
         }
         Ok(numbers)
+    }
+
+    /// Gives each of the elements, which rise, a cell with no bit, unless it has a cell, and answers the numbers of
+    /// their cells, in the order of the elements. An `Err` says that memory ran out, or that there are 2^32 cells;
+    /// some elements may have got a cell.
+    pub fn add_numbered(&mut self, items: &[Element]) -> Result<Vec<u32>, AllocError>
+        requires { IsSet items.now }
+        ensures grows { CellsGrow self.old self.new }
+        ensures numbers { IfOk result (λ numbers. AreNumbers self.new items.now numbers.items) }
+        ensures there { OnOk result (AllHave self.new items.now) }
+        ensures among { AreAmong self.old self.new items.now }
+        ensures reuses { OnOk result (Reuses self.old self.new) }
+    {
+        if let Some(numbers) = find_each(&self.rows, &self.order, items)? {
+            return Ok(numbers);
+        }
+        self.add_missing(items)
     }
 
     /// The elements of the occupied cells rise in their order, in which each occupied cell stands, and
@@ -238,6 +253,18 @@ impl Cells {
         ensures { IsLower element.now (ordered_elements self.now) (cursor_index self.now result) }
     {
         cursors::seek_from(&self.rows, &self.order, near, element)
+    }
+
+    /// The number of the element's cell, and the cursor from which to look for a later element. It takes the fewer steps
+    /// the less the cell is behind `near`, which may be any cursor, and the fewest where it is the next one.
+    pub fn find_near(&self, near: Cursor, element: &Element) -> (Option<usize>, Cursor)
+        ensures found { IfSome result.0 (Holds self.now element.now) }
+        ensures lacks { IfNone result.0 (Lacks self.now element.now) }
+    {
+        match cursors::find_from(&self.rows, &self.order, near, element) {
+            (Some(n), behind) => (Some(n as usize), behind),
+            (None, behind) => (None, behind),
+        }
     }
 
     /// The number of the cell at which the cursor stands; none past the last occupied cell.

@@ -1,10 +1,11 @@
 //! A walk over the occupied cells in the order of their elements.
 ghost use Rattle.std.specs.Prelude.{◌≡◌, ℕ, ◌+◌, ◌<◌, ◌≤◌, true, Option, Some, None, length, min, is_some, IfSome, IfNone, IsSome, slice_get, slice_index_or};
-ghost use Rattle.dg_cells.specs.Rows.{cell_at};
+ghost use Rattle.dg_cells.specs.Rows.{cell_at, Holds, Lacks};
 ghost use Rattle.dg_cells.specs.Pieces.{strung, nth_piece, numbers_before, IsPosition};
 ghost use Rattle.dg_cells.specs.Order.{IsListed, IsLower};
 ghost use Rattle.dg_cells.specs.Cursors.{ordered, ordered_elements, cursor_index};
 
+use crate::listing::find;
 use crate::pieces::Pieces;
 use crate::positions::{Position, START, element, row_in, seek};
 use crate::row::Row;
@@ -155,6 +156,30 @@ pub(crate) fn seek_from(rows: &Rows<Element>, order: &Pieces, near: Cursor, x: &
     ensures { IsLower x.now (ordered_elements rows.now.items) (cursor_index rows.now.items result) }
 {
     cursor_at(rows, order, seek(rows, order, near.position, x))
+}
+
+// The cursor from which to look for an element behind the one at the position.
+fn near(position: Position) -> Cursor {
+    Cursor {
+        cell: None,
+        position,
+    }
+}
+
+/// The number of the element's cell, and the cursor from which to look for a later element. The cell behind the one that
+/// was found last is looked at first.
+pub(crate) fn find_from(
+    rows: &Rows<Element>,
+    order: &Pieces,
+    from: Cursor,
+    x: &Element,
+) -> (Option<u32>, Cursor)
+    requires { IsListed rows.now.items (strung order.now) }
+    ensures found { IfSome result.0 (Holds rows.now.items x.now) }
+    ensures lacks { IfNone result.0 (Lacks rows.now.items x.now) }
+{
+    let (number, position) = find(rows, order, from.position, x);
+    (number, near(position))
 }
 
 /// The number of the cell at which the cursor stands.

@@ -41,6 +41,50 @@ pub(crate) fn number_at(
     }
 }
 
+/// The number of the element's cell, and where to look for a later element. It takes the fewer steps the less the cell is
+/// behind `near`, and the fewest where it stands there.
+pub(crate) fn find(
+    rows: &Rows<Element>,
+    order: &Pieces,
+    near: Position,
+    x: &Element,
+) -> (Option<u32>, Position)
+    requires { IsListed rows.now.items (strung order.now) }
+    ensures found { IfSome result.0 (Holds rows.now.items x.now) }
+    ensures lacks { IfNone result.0 (Lacks rows.now.items x.now) }
+{
+    if let Some(n) = stands_at(rows, order, near, x) {
+        return (Some(n), behind(near));
+    }
+    let position = seek(rows, order, near, x);
+    match number_at(rows, order, position, x) {
+        Some(n) => (Some(n), behind(position)),
+        None => (None, position),
+    }
+}
+
+/// The numbers of the elements' cells, if each has one; quickest where they rise. An `Err` says that memory ran out.
+pub(crate) fn find_each(
+    rows: &Rows<Element>,
+    order: &Pieces,
+    items: &[Element],
+) -> Result<Option<Vec<u32>>, AllocError>
+    requires { IsListed rows.now.items (strung order.now) }
+    ensures { IfOk result (λ found. IfSome found (λ numbers. AreNumbers rows.now.items items.now numbers.items)) }
+{
+    let mut numbers = Vec::with_capacity(*rows.allocator(), items.len())?;
+    let mut near = START;
+    for x in items {
+        let (number, behind) = find(rows, order, near, x);
+        let Some(n) = number else {
+            return Ok(None);
+        };
+        numbers.push(n)?;
+        near = behind;
+    }
+    Ok(Some(numbers))
+}
+
 /// Gives the element a cell with no bit, unless it has one, and answers where to look for the next, and the
 /// number of the cell. It takes the fewer steps the less it is behind `near`. An `Err` says that memory ran out or that all
 /// numbers of 32 bits are in use, and no cell has changed.

@@ -13,7 +13,6 @@ pub mod CountPreservation
 pub mod Repetition
 pub mod MaskBits
 pub mod ListingSets
-pub mod CursorSearch
 pub mod GraphEventCells
 pub mod GraphWholeSet
 pub mod ChangeMasks

@@ -7,7 +7,6 @@ ghost use Rattle.dg_pool.specs.Changes.{numbers_of, AreChangeable, AreTargets, A
 use crate::counts::with_change;
 use crate::masks::{is_asking, put_bit};
 use crate::members::has_member;
-use crate::search::find_from;
 use crate::slots::{Slot, SlotState};
 use dg_cells::{Cells, Cursor, Row};
 use dg_delta::Delta;
@@ -122,7 +121,7 @@ fn take_out(
     ensures counted { AreGraphCounts targets.now.states.now cells.new counts.new }
 {
     cells.facts();
-    let (found, cursor) = find_from(cells, near, element);
+    let (found, cursor) = cells.find_near(near, element);
     if let Some(n) = found {
         write_cell(cells, counts, targets, n, false);
     }

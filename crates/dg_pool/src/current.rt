@@ -8,7 +8,6 @@ ghost use Rattle.dg_pool.specs.Graphs.{is_on_now, ListsOnNow, Pins, HaveCells, p
 ghost use Rattle.dg_pool.specs.Current.{IsChangeKnown, TakesTo};
 
 use crate::counts::with_change;
-use crate::search::find_from;
 use crate::slots::{SlotState, is_on_now};
 use dg_cells::{Cells, Row, is_current, pair};
 use dg_delta::Delta;
@@ -134,7 +133,7 @@ pub(crate) fn change_all(
     let mut passed = counts;
     let mut near = cells.first();
     for element in items {
-        let (found, cursor) = find_from(cells, near, element);
+        let (found, cursor) = cells.find_near(near, element);
         near = cursor;
         passed = change(cells, slots, on_now, passed, found, element, on);
     }

@@ -9,7 +9,6 @@ mod masks;
 mod members;
 mod pool;
 mod room;
-mod search;
 mod slots;
 mod sweep;
 

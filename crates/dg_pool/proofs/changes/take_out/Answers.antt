@@ -7,4 +7,4 @@ use Rattle.dg_pool.proofs.changes.take_out.Goals as goal
 pub returns-in_default-clause-writes : goal.returns-in_default-clause-writes
 returns-in_default-clause-writes c =
     writes_lacking c.args.targets.now.states.now (numbers_of c.args.targets.now.slots.now) c.args.element.now c.args.cells.now c.facts.ensures
-    (subst (λ (o : Option ℕ). IfNone o (Lacks c.args.cells.now c.args.element.now)) c.in_default.is c.find_from-found.ensures.lacks)
+    (subst (λ (o : Option ℕ). IfNone o (Lacks c.args.cells.now c.args.element.now)) c.in_default.is c.find_near-found.ensures.lacks)

@@ -1,15 +1,14 @@
-use Rattle.std.proofs.Common.{ℕ, ap, Vec, Global}
-use Rattle.dg_cells.proofs.RowNumbers.{all_numbered, numbers_as}
+use Rattle.std.proofs.Common.{ℕ, List, Option, Vec, Global, subst}
+use Rattle.std.specs.Prelude.{IfSome}
+use Rattle.dg_cells.specs.Rows.{Row, AllHave, AreNumbers}
+use Rattle.dg_cells.proofs.RowNumbers.{all_numbered}
 use Rattle.dg_cells.proofs.cells.Cells.add_numbered.Goals as goal
-use Rattle.dg_cells.proofs.cells.Cells.add_numbered.Goals.{then-items-len+in_ok-merge, else-items-len+in_ok-add_each}
 
-pub returns-clause-there : goal.returns-clause-there
-returns-clause-there c =
+pub returns-in-Some-clause-there : goal.returns-in-Some-clause-there
+returns-in-Some-clause-there c =
+    let rows = c.self.inside.rows.items in
     let items = c.args.items.now in
-    let new = c.if-items-len.self in
-    let numbers = c.if-items-len.numbers.items in
-    all_numbered new items numbers
-    (elim c.if-items-len.branch [
-      | then-items-len+in_ok-merge w ↦ numbers_as w.merge.new.rows.items new items w.merge.new.numbers.items numbers (w.self-is) (ap (λ (v : Vec ℕ Global). v.items) w.numbers-is) w.in_ok-merge.ensures.numbers
-      | else-items-len+in_ok-add_each w ↦ numbers_as w.add_each.new.rows.items new items w.add_each.new.numbers.items numbers (w.self-is) (ap (λ (v : Vec ℕ Global). v.items) w.numbers-is) w.in_ok-add_each.ensures.numbers
-    ])
+    let numbered : AreNumbers rows items c.in-Some.numbers.items =
+    subst (λ (o : Option (Vec ℕ Global)). IfSome o (λ numbers. AreNumbers rows items numbers.items)) c.in-Some.is c.in_ok-numbers.ensures
+    in
+    subst (λ (l : List (Option Row)). AllHave l items) c.self.view_is (all_numbered rows items c.in-Some.numbers.items numbered)

@@ -1,0 +1,5 @@
+use Rattle.dg_cells.proofs.RowNumbers.{Numbered}
+use Rattle.dg_cells.proofs.listing.find_each.Given as goal
+
+abbrev pub invariant-loop-x : goal.invariant-loop-x
+invariant-loop-x l = Numbered l.rows.items l.items l.x-index l.numbers.items
