@@ -11,6 +11,7 @@ import signal
 import stat
 import subprocess
 import sys
+import threading
 import time
 from pathlib import Path
 
@@ -170,6 +171,47 @@ def readers_beside_a_writer():
     has("a writer beside readers", index, 23)
 
 
+def readers_opened_within_appends():
+    """Runs that are opened while another appends without a pause: each finds a sound file, however many batches come while
+    it reads. And one that is held up behind its question for the length, while a batch is added."""
+    for batches, openings in [(10, 50), (2000, 50)]:
+        index = make("appended")
+        script = "".join(f"append 1\n{time} +node {time}\n" for time in range(40, 40 + batches))
+        same("many batches", carry_out(index, script)[1], 0)
+        writer = subprocess.Popen([program, str(index)], stdin=subprocess.PIPE, stdout=subprocess.DEVNULL, text=True)
+        ended = threading.Event()
+
+        def write():
+            instant = 40 + batches
+            while not ended.is_set():
+                writer.stdin.write(f"append 1\n{instant} +node {instant}\n")
+                writer.stdin.flush()
+                instant += 1
+
+        writing = threading.Thread(target=write)
+        writing.start()
+        for words in [[], ["--checked"], ["--cache", "64"]]:
+            statuses = [
+                subprocess.run([program, *words, str(index)], input="tree\n", capture_output=True, text=True).returncode
+                for _ in range(openings)
+            ]
+            same(f"opened within appends, over {batches} batches, {words}", statuses, [0] * openings)
+        ended.set()
+        writing.join()
+        writer.stdin.close()
+        same("a writer without a pause", writer.wait(), 0)
+        same("what it has appended", carry_out(index, "verify\n")[0][0].split()[:3], ["ok", "verify", "sound"])
+    if subprocess.run(["strace", "-o", "calls", "true"], capture_output=True).returncode != 0:
+        return
+    index = make("appended")
+    delayed = ["strace", "-f", "-o", "calls", "-e", "trace=statx", "-e", "inject=statx:delay_exit=1000000:when=2"]
+    reader = subprocess.Popen([*delayed, program, str(index)], stdin=subprocess.PIPE, stdout=subprocess.PIPE, text=True)
+    time.sleep(0.5)
+    same("a batch within an opening", carry_out(index, "append 1\n40 +node 40\n"), (["ok append 1 4 40"], 0))
+    replies, _ = reader.communicate("at 40 s\n")
+    same("an opening with a batch within", (replies.splitlines()[:1], reader.returncode), (["ok at 1 0"], 0))
+
+
 def as_nobody():
     """How a run is one of somebody who has no rights of their own; nothing where this user cannot give such a run."""
     if os.geteuid() != 0:
@@ -200,6 +242,21 @@ def a_file_that_may_not_be_written():
     due = (5, ["deltagraph: " + FORBIDDEN.format(folder / "new")])
     same("a folder that may not be written", (run.returncode, run.stderr.splitlines()[1:]), due)
     same("nothing is made there", list(folder.iterdir()), [])
+
+
+def a_file_in_a_folder_that_may_not_be_read():
+    """A folder that may be entered and not read is no hindrance: it is not asked for anything where the file is there."""
+    folder = Path("entered")
+    folder.mkdir()
+    index = make(folder / "index")
+    if as_nobody():
+        os.chown(index, NOBODY, NOBODY)
+        folder.chmod(0o711)
+    run = Run(index, **as_nobody())
+    same("a folder that may not be read", run.ask("at 30 s"), ["ok at 1 0"])
+    same("a folder that may not be read: a batch", run.append(40), ["ok append 1 4 40"])
+    run.ends("a folder that may not be read", 0)
+    folder.chmod(0o755)
 
 
 def a_file_that_is_changed():
@@ -304,8 +361,8 @@ def failing_calls():
         print("no strace here: no call of the system fails")
         return
 
-    def failing(call, error, when=1, only=()):
-        index = make("failing")
+    def failing(call, error, when=1, only=(), index=None):
+        index = index or make("failing")
         inject = f"inject={call}:error={error}:when={when}"
         return Run(index, ["strace", "-f", "-o", "calls", *only, "-e", f"trace={call}", "-e", inject])
 
@@ -323,7 +380,16 @@ def failing_calls():
     run = failing("pread64", "EIO", only=["-P", os.path.abspath("failing")])
     run.ends("an opening with a failed read", 5, FAILED, IO_ERROR)
     run = failing("fsync", "EIO", 2)
-    run.ends("an opening with a folder that is not synced", 5, FAILED, "the folder of {}: Input/output error (os error 5)")
+    run.ends("an opening of a file that is there, which asks nothing of its folder", 0)
+    for error, status, reasons in [
+        ("EIO", 5, [FAILED, "the folder of {}: Input/output error (os error 5)"]),
+        ("EINVAL", 0, []),
+        ("EOPNOTSUPP", 0, []),
+    ]:
+        index = Path("unmade")
+        index.unlink(missing_ok=True)
+        run = failing("fsync", error, 2, index=index)
+        run.ends(f"a new file, and a folder that is not synced, {error}", status, *reasons)
     for call in ["pwrite64", "fdatasync"]:
         for when in [1, 2]:
             run = failing(call, "EIO", when)
@@ -387,6 +453,8 @@ def main():
     two_programs()
     a_run_behind_another()
     readers_beside_a_writer()
+    readers_opened_within_appends()
+    a_file_in_a_folder_that_may_not_be_read()
     a_file_that_may_not_be_written()
     a_file_that_is_changed()
     a_file_that_stays_as_it_is()

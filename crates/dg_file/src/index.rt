@@ -326,7 +326,7 @@ impl Index {
         Ok(index)
     }
 
-    // Reads the segments from the gate with this byte on, in an image of so many bytes.
+    // Reads the segments from the gate with this byte on, in an image of so many bytes or more.
     fn read_segments<D: Disk>(
         &mut self,
         disk: &mut D,
@@ -337,6 +337,7 @@ impl Index {
         requires so_far { IfSome (D.image disk.old) (λ image. IsOpenedSoFar image self.old.opening names.old gate) }
         requires len { IsLengthOf (D.image disk.old) len }
         requires within { self.old.opening.used ≤ len }
+        requires most { self.old.opening.used ≤ FILE_BYTES_MAX }
         requires counted_names { length names.old ≡ name_total self.old.opening.batches }
         ensures opened { OnOk result (IfSome (D.image disk.old) (λ image. opening image ≡ Ok (record { index = self.new.opening; names = names.new }))) }
         ensures counted_names { OnOk result (length names.new ≡ name_total self.new.opening.batches) }
@@ -345,15 +346,16 @@ impl Index {
         // errors
         ensures refused { IfErr result (λ fault. IfSome (D.image disk.old) (λ image. RefusesOpening fault (opening image))) }
         ensures cause { IsErrOf result ReopenFault.Disk → Fails D.Disk disk.old disk.new }
-        ensures bounded { OnErr result ((t : ℕ) → D.taken disk.old ≡ raised_by (opening_bytes self.old.opening) t → D.taken disk.new ≤ t + len) }
+        ensures bounded { OnErr result (IfSome (D.image disk.old) (λ image. (t : ℕ) → D.taken disk.old ≡ raised_by (opening_bytes self.old.opening) t → D.taken disk.new ≤ t + length image)) }
         ensures stays { OnErr result (IfSome (D.image disk.old) (λ image. StaysWithinOpening image self.old.opening (D.taken disk.old) (D.taken disk.new))) }
 
         // frame
         ensures frame { ReadsDisk D.Disk disk.old disk.new }
     {
+        let mut len = len;
         let mut gate = gate;
         while gate == OPEN {
-            gate = self.read_next(disk, len, names)?;
+            gate = self.read_next(disk, &mut len, names)?;
         }
         Ok(())
     }
@@ -398,15 +400,17 @@ impl Index {
     fn read_next<D: Disk>(
         &mut self,
         disk: &mut D,
-        len: u64,
+        len: &mut u64,
         names: &mut Names,
     ) -> Result<u8, ReopenFault>
         requires so_far { IfSome (D.image disk.old) (λ image. IsOpenedSoFar image self.old.opening names.old 1) }
-        requires len { IsLengthOf (D.image disk.old) len }
-        requires within { self.old.opening.used ≤ len }
+        requires len { IsLengthOf (D.image disk.old) len.old }
+        requires within { self.old.opening.used ≤ len.old }
         requires counted_names { length names.old ≡ name_total self.old.opening.batches }
         ensures so_far { IfOk result (λ gate. IfSome (D.image disk.old) (λ image. IsOpenedSoFar image self.new.opening names.new gate)) }
-        ensures within { OnOk result (self.new.opening.used ≤ len) }
+        ensures len { IsLengthOf (D.image disk.old) len.new }
+        ensures within { OnOk result (self.new.opening.used ≤ len.new) }
+        ensures most { OnOk result (self.new.opening.used ≤ FILE_BYTES_MAX) }
         ensures progress { OnOk result (self.old.opening.used < self.new.opening.used) }
         ensures counted_names { OnOk result (length names.new ≡ name_total self.new.opening.batches) }
         ensures taken { OnOk result ((t : ℕ) → D.taken disk.old ≡ raised_by (opening_bytes self.old.opening) t → D.taken disk.new ≡ raised_by (opening_bytes self.new.opening) t) }
@@ -414,7 +418,7 @@ impl Index {
         // errors
         ensures refused { IfErr result (λ fault. IfSome (D.image disk.old) (λ image. RefusesOpening fault (opening image))) }
         ensures cause { IsErrOf result ReopenFault.Disk → Fails D.Disk disk.old disk.new }
-        ensures bounded { OnErr result ((t : ℕ) → D.taken disk.old ≡ raised_by (opening_bytes self.old.opening) t → D.taken disk.new ≤ t + len) }
+        ensures bounded { OnErr result ((t : ℕ) → D.taken disk.old ≡ raised_by (opening_bytes self.old.opening) t → D.taken disk.new ≤ t + len.new) }
         ensures stays { OnErr result (IfSome (D.image disk.old) (λ image. StaysWithinOpening image self.old.opening (D.taken disk.old) (D.taken disk.new))) }
 
         // frame

@@ -72,35 +72,64 @@ pub(crate) fn read_header<D: Disk>(disk: &mut D) -> Result<Found, ReopenFault>
     }
 }
 
-/// Reads the two lengths with which the segment at the offset begins, in an image of `len` bytes.
-/// `ReopenFault::Damaged` where that segment and the gate behind it would not fit.
+// The length of the image, which was `len` when it was asked for last. Where that does not reach far enough it is asked for
+// once more: another run may have added a batch since.
+fn length_again<D: Disk>(disk: &mut D, len: u64, reaches: bool) -> Result<u64, Failed>
+    requires { IsLengthOf (D.image disk.old) len }
+    ensures len { IfOk result (λ now. IsLengthOf (D.image disk.old) now) }
+    ensures grown { IfOk result (λ now. len ≤ now) }
+    ensures none_taken { D.taken disk.new ≡ D.taken disk.old }
+
+    // errors
+    ensures cause { OnErr result (Fails D.Disk disk.old disk.new) }
+
+    // frame
+    ensures frame { ReadsDisk D.Disk disk.old disk.new }
+{
+    if reaches {
+        return Ok(len);
+    }
+    let now = disk.len()?;
+    // Of an image that was cut a read says so.
+    Ok(if len < now { now } else { len })
+}
+
+/// Reads the two lengths with which the segment at the offset begins, in an image of `len` bytes or more.
+/// The length is asked for once more where the segment would end behind it: its gate is open, and a gate is opened
+/// once its segment is there. `ReopenFault::Damaged` where the segment and the gate behind it would not fit.
 pub(crate) fn read_lengths<D: Disk>(
     disk: &mut D,
     offset: u64,
-    len: u64,
+    len: &mut u64,
 ) -> Result<Lengths, ReopenFault>
-    requires len { IsLengthOf (D.image disk.old) len }
-    requires within { offset ≤ len }
+    requires len { IsLengthOf (D.image disk.old) len.old }
+    requires within { offset ≤ len.old }
+    ensures len { IsLengthOf (D.image disk.old) len.new }
+    ensures grown { len.old ≤ len.new }
     ensures lengths { IfOk result (λ lengths. IfSome (D.image disk.old) (λ image. lengths ≡ segment_lengths_at image offset)) }
-    ensures fit { IfOk result (λ lengths. fit_in offset len lengths ≡ true) }
+    ensures fit { IfOk result (λ lengths. fit_in offset len.new lengths ≡ true) }
     ensures taken { OnOk result (D.taken disk.new ≡ raised_by 16 (D.taken disk.old)) }
 
     // errors
     ensures refused { IfErr result (λ fault. IfSome (D.image disk.old) (λ image. Misses offset (is_within image offset ≡ false) fault)) }
-    ensures bounded { OnErr result (D.taken disk.new ≤ D.taken disk.old + (len - offset)) }
+    ensures bounded { OnErr result (D.taken disk.new ≤ D.taken disk.old + (len.new - offset)) }
     ensures short { OnErr result (D.taken disk.new ≤ D.taken disk.old + 16) }
     ensures cause { IsErrOf result ReopenFault.Disk → Fails D.Disk disk.old disk.new }
 
     // frame
     ensures frame { ReadsDisk D.Disk disk.old disk.new }
 {
-    if len - offset <= LENGTHS_BYTES as u64 {
+    let begun = length_again(disk, *len, (LENGTHS_BYTES as u64) < *len - offset)?;
+    *len = begun;
+    if begun - offset <= LENGTHS_BYTES as u64 {
         return Err(ReopenFault::Damaged(offset));
     }
     let mut bytes = [0; LENGTHS_BYTES];
     disk.read_at(offset, &mut bytes)?;
     let lengths = Lengths::read(&bytes);
-    if lengths.fit_in(offset, len) {
+    let ended = length_again(disk, begun, lengths.fit_in(offset, begun))?;
+    *len = ended;
+    if lengths.fit_in(offset, ended) {
         Ok(lengths)
     } else {
         Err(ReopenFault::Damaged(offset))

@@ -37,8 +37,8 @@ returns-in_err-lengths-clause-refused g c =
 pub read_found-requires : goal.read_found-requires
 read_found-requires g c =
     let same : c.self.inside.used ≡ c.args.self.now.opening.used = ap (λ (v : IndexState). v.opening.used) c.self.view_is in
-    let f = fit_facts c.self.inside.used c.args.len c.in_ok-lengths.lengths c.in_ok-lengths.ensures.fit in
-    range_within _ _ c.in_ok-lengths.lengths.directory c.args.len (omega (arith, f, same)) (subst (λ x. IsLengthOf x c.args.len) (sym c.read_lengths.ensures.frame.same_image) c.requires.len)
+    let f = fit_facts c.self.inside.used c.read_lengths.new.len c.in_ok-lengths.lengths c.in_ok-lengths.ensures.fit in
+    range_within _ _ c.in_ok-lengths.lengths.directory c.read_lengths.new.len (omega (arith, f, same)) (subst (λ x. IsLengthOf x c.read_lengths.new.len) (sym c.read_lengths.ensures.frame.same_image) c.read_lengths.ensures.len)
 
 pub returns-in_err-found-clause-refused : goal.returns-in_err-found-clause-refused
 returns-in_err-found-clause-refused g c =
@@ -53,12 +53,12 @@ returns-in_err-found-clause-refused g c =
 
 pub read_byte-requires : goal.read_byte-requires
 read_byte-requires g c =
-    let f = fit_facts c.self.inside.used c.args.len c.in_ok-lengths.lengths c.in_ok-lengths.ensures.fit in
-    range_within _ _ 1 c.args.len (omega (arith, f)) (subst (λ x. IsLengthOf x c.args.len) (sym (c.read_found.ensures.frame.same_image ∙ c.read_lengths.ensures.frame.same_image)) c.requires.len)
+    let f = fit_facts c.self.inside.used c.read_lengths.new.len c.in_ok-lengths.lengths c.in_ok-lengths.ensures.fit in
+    range_within _ _ 1 c.read_lengths.new.len (omega (arith, f)) (subst (λ x. IsLengthOf x c.read_lengths.new.len) (sym (c.read_found.ensures.frame.same_image ∙ c.read_lengths.ensures.frame.same_image)) c.read_lengths.ensures.len)
 
 pub overflow_add-gate_offset-2 : goal.overflow_add-gate_offset-2
 overflow_add-gate_offset-2 g c =
-    let f = fit_facts c.self.inside.used c.args.len c.in_ok-lengths.lengths c.in_ok-lengths.ensures.fit in
+    let f = fit_facts c.self.inside.used c.read_lengths.new.len c.in_ok-lengths.lengths c.in_ok-lengths.ensures.fit in
     omega (arith, f)
 
 pub note-requires-clause-keys : goal.note-requires-clause-keys
@@ -77,12 +77,12 @@ note-requires-clause-listed g c =
 
 pub note-requires-clause-within : goal.note-requires-clause-within
 note-requires-clause-within g c =
-    let f = fit_facts c.self.inside.used c.args.len c.in_ok-lengths.lengths c.in_ok-lengths.ensures.fit in
+    let f = fit_facts c.self.inside.used c.read_lengths.new.len c.in_ok-lengths.lengths c.in_ok-lengths.ensures.fit in
     omega (arith, f)
 
 pub returns-clause-within : goal.returns-clause-within
 returns-clause-within g c =
-    let f = fit_facts c.self.inside.used c.args.len c.in_ok-lengths.lengths c.in_ok-lengths.ensures.fit in
+    let f = fit_facts c.self.inside.used c.read_lengths.new.len c.in_ok-lengths.lengths c.in_ok-lengths.ensures.fit in
     omega (arith, f, ap (λ (o : Opening). o.used) c.note.ensures)
 
 pub returns-clause-so_far : goal.returns-clause-so_far
@@ -99,7 +99,7 @@ returns-clause-so_far g c =
     let gate : IfSome x (λ image. c.in_ok-gate.gate ≡ slice_index image (offset + 16 + h.directory + h.columns)) = subst (λ y. IfSome y (λ image. c.in_ok-gate.gate ≡ slice_index image (offset + 16 + h.directory + h.columns))) (c.read_found.ensures.frame.same_image ∙ c.read_lengths.ensures.frame.same_image) c.in_ok-gate.ensures.byte in
     let new : c.note.new.self.opening ≡ with_rows o c.in_ok-found.found.batch c.in_ok-found.found.rows.items (offset + 16 + h.directory) (offset + 16 + h.directory + h.columns + 1) = c.note.ensures ∙ (λ i. with_rows (c.reserve.ensures.same i) c.in_ok-found.found.batch (c.deref-2.ensures.value i) (offset + 16 + h.directory) (offset + 16 + h.directory + h.columns + 1)) in
     subst (λ (n : Opening). IfSome x (λ image. IsOpenedSoFar image n c.read_found.new.names c.in_ok-gate.gate)) (sym new)
-    (next_on x o c.args.names.now c.read_found.new.names offset c.args.len c.in_ok-gate.gate h finds.bytes c.in_ok-found.found same (sym c.may_be_marked.ensures ∙ c.if-may_be_marked.false) c.in_ok-lengths.ensures.fit c.requires.so_far c.requires.len l t takes gate)
+    (next_on x o c.args.names.now c.read_found.new.names offset c.read_lengths.new.len c.in_ok-gate.gate h finds.bytes c.in_ok-found.found same (sym c.may_be_marked.ensures ∙ c.if-may_be_marked.false) c.in_ok-lengths.ensures.fit c.requires.so_far c.read_lengths.ensures.len l t takes gate)
 
 pub returns-clause-taken : goal.returns-clause-taken
 returns-clause-taken g c = λ n start.
@@ -126,16 +126,16 @@ pub returns-in_err-lengths-clause-bounded : goal.returns-in_err-lengths-clause-b
 returns-in_err-lengths-clause-bounded g c =
     let o : Opening = c.args.self.now.opening in
     let offset : ℕ = c.self.inside.used in
-    let len : ℕ = c.args.len in
+    let len : ℕ = c.read_lengths.new.len in
     let start : ℕ = g.D.Disk.taken c.args.disk.now in
     let same : offset ≡ o.used = ap (λ (v : IndexState). v.opening.used) c.self.view_is in
-    on_err_any c.from_residual.result (λ (t : ℕ) (s : start ≡ raised_by (opening_bytes o) t). lengths_most o offset len t start (g.D.Disk.taken c.read_lengths.new.disk) same c.requires.within c.in_err-lengths.ensures.bounded s)
+    on_err_any c.from_residual.result (λ (t : ℕ) (s : start ≡ raised_by (opening_bytes o) t). lengths_most o offset len t start (g.D.Disk.taken c.read_lengths.new.disk) same (omega (arith, c.requires.within, c.read_lengths.ensures.grown)) c.in_err-lengths.ensures.bounded s)
 
 pub returns-in_err-found-clause-bounded : goal.returns-in_err-found-clause-bounded
 returns-in_err-found-clause-bounded g c =
     let o : Opening = c.args.self.now.opening in
     let offset : ℕ = c.self.inside.used in
-    let len : ℕ = c.args.len in
+    let len : ℕ = c.read_lengths.new.len in
     let start : ℕ = g.D.Disk.taken c.args.disk.now in
     let same : offset ≡ o.used = ap (λ (v : IndexState). v.opening.used) c.self.view_is in
     let h : Lengths = c.in_ok-lengths.lengths in
@@ -146,7 +146,7 @@ pub returns-in_err-gate-clause-bounded : goal.returns-in_err-gate-clause-bounded
 returns-in_err-gate-clause-bounded g c =
     let o : Opening = c.args.self.now.opening in
     let offset : ℕ = c.self.inside.used in
-    let len : ℕ = c.args.len in
+    let len : ℕ = c.read_lengths.new.len in
     let start : ℕ = g.D.Disk.taken c.args.disk.now in
     let same : offset ≡ o.used = ap (λ (v : IndexState). v.opening.used) c.self.view_is in
     let h : Lengths = c.in_ok-lengths.lengths in
@@ -157,7 +157,7 @@ pub returns-in_err-reserve-clause-bounded : goal.returns-in_err-reserve-clause-b
 returns-in_err-reserve-clause-bounded g c =
     let o : Opening = c.args.self.now.opening in
     let offset : ℕ = c.self.inside.used in
-    let len : ℕ = c.args.len in
+    let len : ℕ = c.read_lengths.new.len in
     let start : ℕ = g.D.Disk.taken c.args.disk.now in
     let same : offset ≡ o.used = ap (λ (v : IndexState). v.opening.used) c.self.view_is in
     let h : Lengths = c.in_ok-lengths.lengths in
@@ -166,12 +166,12 @@ returns-in_err-reserve-clause-bounded g c =
 
 pub overflow_add-columns_offset : goal.overflow_add-columns_offset
 overflow_add-columns_offset g c =
-    let f = fit_facts c.self.inside.used c.args.len c.in_ok-lengths.lengths c.in_ok-lengths.ensures.fit in
+    let f = fit_facts c.self.inside.used c.read_lengths.new.len c.in_ok-lengths.lengths c.in_ok-lengths.ensures.fit in
     omega (arith, f)
 
 pub overflow_add-gate_offset : goal.overflow_add-gate_offset
 overflow_add-gate_offset g c =
-    let f = fit_facts c.self.inside.used c.args.len c.in_ok-lengths.lengths c.in_ok-lengths.ensures.fit in
+    let f = fit_facts c.self.inside.used c.read_lengths.new.len c.in_ok-lengths.lengths c.in_ok-lengths.ensures.fit in
     omega (arith, f)
 
 pub note-requires-clause-behind : goal.note-requires-clause-behind
@@ -259,15 +259,15 @@ pub read_marker-requires-clause-there : goal.read_marker-requires-clause-there
 read_marker-requires-clause-there g c =
     let h : Lengths = c.in_ok-lengths.lengths in
     let same : c.self.inside.used ≡ c.args.self.now.opening.used = ap (λ (v : IndexState). v.opening.used) c.self.view_is in
-    let f = fit_facts c.self.inside.used c.args.len h c.in_ok-lengths.ensures.fit in
+    let f = fit_facts c.self.inside.used c.read_lengths.new.len h c.in_ok-lengths.ensures.fit in
     let m = marks_narrow c.args.self.now.opening h (sym c.may_be_marked.ensures ∙ c.if-may_be_marked.true) in
-    range_within _ _ 9 c.args.len (omega (arith, f, same, m)) (subst (λ x. IsLengthOf x c.args.len) (sym c.read_lengths.ensures.frame.same_image) c.requires.len)
+    range_within _ _ 9 c.read_lengths.new.len (omega (arith, f, same, m)) (subst (λ x. IsLengthOf x c.read_lengths.new.len) (sym c.read_lengths.ensures.frame.same_image) c.read_lengths.ensures.len)
 
 pub read_marker-requires-clause-within : goal.read_marker-requires-clause-within
 read_marker-requires-clause-within g c =
     let h : Lengths = c.in_ok-lengths.lengths in
     let same : c.self.inside.used ≡ c.args.self.now.opening.used = ap (λ (v : IndexState). v.opening.used) c.self.view_is in
-    let f = fit_facts c.self.inside.used c.args.len h c.in_ok-lengths.ensures.fit in
+    let f = fit_facts c.self.inside.used c.read_lengths.new.len h c.in_ok-lengths.ensures.fit in
     let m = marks_narrow c.args.self.now.opening h (sym c.may_be_marked.ensures ∙ c.if-may_be_marked.true) in
     omega (arith, f, same, m)
 
@@ -278,7 +278,7 @@ returns-then-may_be_marked-clause-so_far g c =
     let h : Lengths = c.in_ok-lengths.lengths in
     let same : c.self.inside.used ≡ o.used = ap (λ (v : IndexState). v.opening.used) c.self.view_is in
     let told = c.read_lengths.ensures.frame.same_image in
-    marked_so_far c.read_marker.result x o c.read_marker.new.self.opening c.args.names.now c.self.inside.used c.args.len h same (sym c.may_be_marked.ensures ∙ c.if-may_be_marked.true) c.in_ok-lengths.ensures.fit c.requires.so_far c.requires.len c.in_ok-lengths.ensures.lengths
+    marked_so_far c.read_marker.result x o c.read_marker.new.self.opening c.args.names.now c.self.inside.used c.read_lengths.new.len h same (sym c.may_be_marked.ensures ∙ c.if-may_be_marked.true) c.in_ok-lengths.ensures.fit c.requires.so_far c.read_lengths.ensures.len c.in_ok-lengths.ensures.lengths
     c.read_marker.ensures.upgraded (subst (λ y. OnOk c.read_marker.result (IfSome y (λ image. eight_at image (o.used + 16) ≡ 0))) told c.read_marker.ensures.zero)
     (subst (λ y. IfOk c.read_marker.result (λ gate. IfSome y (λ image. gate ≡ slice_index image (o.used + 24)))) told c.read_marker.ensures.gate)
 
@@ -286,7 +286,7 @@ pub returns-then-may_be_marked-clause-within : goal.returns-then-may_be_marked-c
 returns-then-may_be_marked-clause-within g c =
     let h : Lengths = c.in_ok-lengths.lengths in
     let same : c.self.inside.used ≡ c.args.self.now.opening.used = ap (λ (v : IndexState). v.opening.used) c.self.view_is in
-    let f = fit_facts c.self.inside.used c.args.len h c.in_ok-lengths.ensures.fit in
+    let f = fit_facts c.self.inside.used c.read_lengths.new.len h c.in_ok-lengths.ensures.fit in
     let m = marks_narrow c.args.self.now.opening h (sym c.may_be_marked.ensures ∙ c.if-may_be_marked.true) in
     on_ok_weaker c.read_marker.result (λ upgraded. omega (arith, f, same, m, ap (λ (o : Opening). o.used) upgraded)) c.read_marker.ensures.upgraded
 
@@ -320,7 +320,7 @@ pub returns-then-may_be_marked-clause-bounded : goal.returns-then-may_be_marked-
 returns-then-may_be_marked-clause-bounded g c =
     let o : Opening = c.args.self.now.opening in
     let offset : ℕ = c.self.inside.used in
-    let len : ℕ = c.args.len in
+    let len : ℕ = c.read_lengths.new.len in
     let start : ℕ = g.D.Disk.taken c.args.disk.now in
     let same : offset ≡ o.used = ap (λ (v : IndexState). v.opening.used) c.self.view_is in
     let h : Lengths = c.in_ok-lengths.lengths in

@@ -1,6 +1,7 @@
-use Rattle.std.proofs.Common.{◌≡◌, ◌+◌, ◌≤◌, length, sym, ap, subst, ◌∙◌, arith}
+use Rattle.std.proofs.Common.{◌≡◌, ℕ, ◌+◌, ◌≤◌, length, sym, ap, subst, ◌∙◌, arith}
 use Rattle.std.specs.Prelude.{IfSome}
 use Rattle.dg_disk.proofs.CrashTold.{settled_on}
+use Rattle.dg_disk.specs.Counts.{raised_by}
 use Rattle.dg_index.specs.OpenedIndex.{Opening}
 use Rattle.dg_file.specs.Headers.{IsFoundIn}
 use Rattle.dg_file.specs.Index.{opening_bytes}
@@ -34,9 +35,10 @@ read_segments-requires-clause-counted_names g c =
 pub returns-in_err-read_segments-clause-bounded : goal.returns-in_err-read_segments-clause-bounded
 returns-in_err-read_segments-clause-bounded g c =
     let was = g.D.Disk.taken c.args.disk.now in
-    let most = c.in_err-read_segments.ensures.bounded was (omega (arith, c.in_ok-found.ensures.taken, ap opening_bytes c.empty-index.ensures)) in
     on_err_any c.from_residual-in_err-read_segments.result
-    (some_weaker (g.D.Disk.image c.args.disk.now) (λ image. IsFoundIn image c.in_ok-found.found) (λ image. g.D.Disk.taken c.read_segments.new.disk ≤ was + length image) (λ image f. omega (arith, f.len, most)) c.in_ok-found.ensures.found)
+    (some_weaker (g.D.Disk.image c.args.disk.now) (λ image. (t : ℕ) → g.D.Disk.taken c.read_header.new.disk ≡ raised_by (opening_bytes c.empty-index.result.opening) t → g.D.Disk.taken c.read_segments.new.disk ≤ t + length image) (λ image. g.D.Disk.taken c.read_segments.new.disk ≤ was + length image)
+    (λ image most. most was (omega (arith, c.in_ok-found.ensures.taken, ap opening_bytes c.empty-index.ensures)))
+    (subst (λ x. IfSome x (λ image. (t : ℕ) → g.D.Disk.taken c.read_header.new.disk ≡ raised_by (opening_bytes c.empty-index.result.opening) t → g.D.Disk.taken c.read_segments.new.disk ≤ t + length image)) c.read_header.ensures.frame.same_image c.in_err-read_segments.ensures.bounded))
 
 pub returns-in_err-read_segments-clause-blank : goal.returns-in_err-read_segments-clause-blank
 returns-in_err-read_segments-clause-blank g c is =
