@@ -1,6 +1,6 @@
 -- The ids of elements. A graph has one node and one edge of each number, and one value of each key at a
 -- node or an edge, so one element of a graph at the most has an id. All messages, which no graph has, have one id.
-use Rattle.std.specs.Prelude.{ℕ, ◌+◌, ◌*◌, ◌%◌, ◌^◌, Bool, true, false, ◌&&◌, ◌==◌, List, Option, find}
+use Rattle.std.specs.Prelude.{ℕ, ◌+◌, ◌*◌, Bool, true, false, ◌&&◌, ◌==◌, List, Option, find}
 use Rattle.dg_graph.specs.declared.element.Element.{Element}
 use Rattle.dg_graph.specs.declared.element.Element.TheVariants as element
 use Rattle.dg_graph.specs.Completion.{is_edge, is_node_value, is_edge_value, needs_node, needs_edge}
@@ -52,14 +52,18 @@ same_id (EdgeValue c m) (EdgeValue d n) = c == d && m == n
 same_id Message Message = true
 same_id _ _ = false
 
--- the id moved on by so many strides: a stride is 2 ^ 64 by the golden ratio
-abbrev pub moved : ℕ → ℕ → ℕ
-moved id strides = (id + (strides * 11400714819323198485) % 2 ^ 64) % 2 ^ 64
+-- what is hashed for an id: the number of its node or edge
+abbrev pub number_of : ElementId → ℕ
+number_of (Node id) = id
+number_of (Edge id) = id
+number_of (NodeValue key id) = id
+number_of (EdgeValue key id) = id
+number_of Message = 0
 
--- the number that is hashed for an id
-abbrev pub id_number : ElementId → ℕ
-id_number (Node id) = id
-id_number (Edge id) = moved id 1
-id_number (NodeValue key id) = moved id (2 * key + 2)
-id_number (EdgeValue key id) = moved id (2 * key + 3)
-id_number Message = 0
+-- and its kind and key as one number
+abbrev pub kind_and_key : ElementId → ℕ
+kind_and_key (Node id) = 0
+kind_and_key (Edge id) = 1
+kind_and_key (NodeValue key id) = 2 * key + 2
+kind_and_key (EdgeValue key id) = 2 * key + 3
+kind_and_key Message = 0

@@ -1,17 +1,13 @@
 //! What names an element, so that a graph has one at the most; what an event finds before it and leaves.
-ghost use Rattle.std.specs.Prelude.{◌≡◌};
+ghost use Rattle.std.specs.Prelude.{◌≡◌, ◌++◌};
 ghost use Rattle.std.specs.Cmp.Rules.{hashing};
 ghost use Rattle.std.specs.Hash as fed;
 ghost use Rattle.std.proofs.Common.{rules};
-ghost use Rattle.dg_current.specs.ElementIds.{element_id_of, id_number, moved};
+ghost use Rattle.dg_current.specs.ElementIds.{element_id_of, kind_and_key, number_of};
 ghost use Rattle.dg_current.specs.EventEffect.{changed_id, element_before};
 
 use dg_graph::{Body, Element};
 use std::hash::{Hash, Hasher};
-
-// How far the numbers of the same id are apart from kind to kind and from key to key: 2^64 by the golden
-// ratio, whose multiples lie far apart.
-const STRIDE: u64 = 0x9e37_79b9_7f4a_7c15;
 
 /// What names an element of a graph: one at the most has an id. The key stands first, beside the kind:
 /// so an id takes 16 bytes, and not 24.
@@ -43,15 +39,26 @@ impl ElementId {
         }
     }
 
-    // The number that is hashed for the id: ids below 2^40 with keys below 2^20 have numbers of their own.
+    // The number of the node or the edge.
     fn number(&self) -> u64
-        ensures { result ≡ id_number self.now }
+        ensures { result ≡ number_of self.now }
     {
         match *self {
-            ElementId::Node(id) => id,
-            ElementId::Edge(id) => moved(id, 1),
-            ElementId::NodeValue { key, id } => moved(id, 2 * key as u64 + 2),
-            ElementId::EdgeValue { key, id } => moved(id, 2 * key as u64 + 3),
+            ElementId::Node(id) | ElementId::Edge(id) => id,
+            ElementId::NodeValue { id, .. } | ElementId::EdgeValue { id, .. } => id,
+            ElementId::Message => 0,
+        }
+    }
+
+    // The kind and the key as one number.
+    fn kind_and_key(&self) -> u64
+        ensures { result ≡ kind_and_key self.now }
+    {
+        match *self {
+            ElementId::Node(_) => 0,
+            ElementId::Edge(_) => 1,
+            ElementId::NodeValue { key, .. } => 2 * key as u64 + 2,
+            ElementId::EdgeValue { key, .. } => 2 * key as u64 + 3,
             ElementId::Message => 0,
         }
     }
@@ -70,21 +77,16 @@ impl ElementId {
     }
 }
 
-// The id moved on by so many strides.
-fn moved(id: u64, strides: u64) -> u64
-    ensures { result ≡ moved id strides }
-{
-    id.wrapping_add(strides.wrapping_mul(STRIDE))
-}
-
-// One number is hashed, and not one after another for the kind and each field.
+// The number is hashed first, and then the kind with the key: a sum of both would be the same for many ids, and behind
+// the kind and the key the number could be chosen so that it takes back what they bring.
 impl Hash for ElementId {
-    ghost hash_input = { λ p. fed.u64 (id_number p) };
+    ghost hash_input = { λ p. fed.u64 (number_of p) ++ fed.u64 (kind_and_key p) };
 
     ghost respects_eq = { Prim.search (hashing, rules) };
 
     fn hash<H: Hasher>(&self, state: &mut H) {
         state.write_u64(self.number());
+        state.write_u64(self.kind_and_key());
     }
 }
 
