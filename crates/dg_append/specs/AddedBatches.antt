@@ -1,5 +1,6 @@
 -- How the next batch is added to a history.
-use Rattle.std.specs.Prelude.{◌≡◌, ◌⊎◌, ◌+◌, ◌-◌, ◌*◌, ◌<◌, ◌≤◌, ℕ, true, false, List, [], ◌∷◌, ◌++◌, Option, Some, Result, Ok, Err, IfErr, IfSome, is_some, length, take, drop}
+use Rattle.std.specs.Global.{Vec}
+use Rattle.std.specs.Prelude.{◌≡◌, ◌⊎◌, ◌+◌, ◌-◌, ◌*◌, ◌<◌, ◌≤◌, ℕ, true, false, List, [], ◌∷◌, ◌++◌, Option, None, Some, Result, Ok, Err, IfErr, IfSome, is_some, length, take, drop}
 use Rattle.std.specs.List.{All, sum}
 use Rattle.dg_append.specs.declared.batch.AddedBatch.{AddedBatch}
 use Rattle.dg_append.specs.declared.batch.Batch.{Batch}
@@ -95,6 +96,11 @@ IsSegmentOver before o known h events s =
 abbrev pub recent_behind : Params → ℕ → List Event → List Event → List Event
 recent_behind p before recent events =
     drop (leaves p (before + length events) * p.l - leaves p before * p.l) (recent ++ events)
+
+-- the recent events once these stand behind them: those that are left, or all where they close no list
+abbrev pub left_behind : Option (Vec Event) → List Event → List Event → List Event
+left_behind None recent events = recent ++ events
+left_behind (Some left) recent events = left.items
 
 -- The lines come to a batch of these events, which the form of the file takes, and whose segment is this.
 pub record ComesToSegment (o : Opening) (batch : Batch) (old : StoredHistory) (before : Option (List ℕ)) (events : List Event) (segment : Segment) : Type 0 where

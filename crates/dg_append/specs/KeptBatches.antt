@@ -6,7 +6,7 @@ use Rattle.dg_append.specs.declared.fault.BatchFault.TheVariants as fault
 use Rattle.dg_append.specs.declared.live.Live.{Live}
 use Rattle.dg_append.specs.declared.nets.Nets.{Nets}
 use Rattle.dg_append.specs.declared.next_batch.NextBatch.{NextBatch}
-use Rattle.dg_append.specs.AddedBatches.{batch_with, recent_behind}
+use Rattle.dg_append.specs.AddedBatches.{batch_with, left_behind, recent_behind}
 use Rattle.dg_append.specs.BatchNets.{led_by}
 use Rattle.dg_append.specs.BatchSegments.{IsBuiltOver, MakesSegment, StandsForKept, StopsSegment}
 use Rattle.dg_append.specs.LiveHistories.{IsForgotten, IsLiveHistory}
@@ -49,7 +49,7 @@ AreNetsFor (Some pool) (Some nets) = HaveCellsFor pool.rows nets
 -- is a pool its nets with their cells.
 pub record MakesBatch (before : Option (List ℕ)) (o : Opening) (next : NextBatch) (pool : Option PoolState) (made : MadeBatch) : Type 0 where
   pub segment : MakesSegment before o next next.current.now.graph made.segment
-  pub left : made.left.items ≡ recent_behind o.params (event_total o.batches) next.recent.now next.events.now
+  pub left : left_behind made.left next.recent.now next.events.now ≡ recent_behind o.params (event_total o.batches) next.recent.now next.events.now
   pub cells : AreNetsFor pool made.nets
   pub leads : IfSome made.nets (λ nets. LeadPast nets next.events.now)
 

@@ -14,6 +14,7 @@ use crate::fault::BatchFault;
 use crate::front::Front;
 use crate::live::Live;
 use crate::next_batch::NextBatch;
+use crate::recent::take_recent_on;
 use crate::segment::last_instant;
 use dg_disk::Disk;
 use dg_graph::Change;
@@ -101,7 +102,7 @@ pub fn add_batch<R: Threads, D: Disk>(
     index.facts();
     history.now.facts();
     // The changes are dropped with this, and the events held where they are pending: one copy of the batch.
-    let top = match complete(alloc, index, &mut history.now, batch) {
+    let top = match complete(alloc, index, &mut history.now, &mut history.recent, batch) {
         Ok(top) => top,
         Err(fault) => {
             give_back(alloc, known, fault, live);
@@ -124,7 +125,7 @@ pub fn add_batch<R: Threads, D: Disk>(
                 total: index.events_len(),
                 last: last_instant(events),
             };
-            history.recent = left;
+            take_recent_on(&mut history.recent, left, events);
             history.now.commit();
             Ok(added)
         }

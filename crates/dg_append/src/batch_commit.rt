@@ -1,6 +1,7 @@
 //! What a batch needs is made, and its segment is put into the file.
 
 ghost use Rattle.std.specs.Prelude.{◌≡◌, ◌≤◌, Some, take, IfOk, IfErr, IfSome, IsErrOf};
+ghost use Rattle.dg_append.specs.AddedBatches.{left_behind};
 ghost use Rattle.dg_append.specs.BatchSegments.{IsNext, StopsSegment, TakesSinglesOver};
 ghost use Rattle.dg_append.specs.DiskLeft.{LeavesDisk};
 ghost use Rattle.dg_append.specs.KeptBatches.{GainsNextOrNot, KeepsBatch, MakesBatch, PassesBatch, StaysBehind, StopsBatch};
@@ -30,8 +31,8 @@ use std::thread::Threads;
 struct MadeBatch {
     /// The segment of the batch.
     segment: Segment,
-    /// The events behind the last closed list, once the batch is there.
-    left: Vec<Event>,
+    /// The events behind the last closed list, once the batch is there, where it closes one.
+    left: Option<Vec<Event>>,
     /// The nets of the batch, where there is a pool.
     nets: Option<Nets>,
 }
@@ -73,8 +74,8 @@ fn make_batch<R: Threads, D: Disk>(
 }
 
 /// Puts the batch into the file, which may have `limit` bytes in use, behind the index, and takes the current graph of
-/// the pool, where there is one, on by it. It gives the events behind the last closed list, once the batch is there. All
-/// memory is taken before the first write.
+/// the pool, where there is one, on by it. It gives the events behind the last closed list, once the batch is there,
+/// where it closes one. All memory is taken before the first write.
 ///
 /// `FileFull` with the bytes that would be in use, where they are more than `limit`; `Damaged` and `Read` where the
 /// older children cannot be read; `Memory` for want of memory; then the index is as it was. `Store` where the disk
@@ -87,14 +88,14 @@ pub(crate) fn keep_batch<R: Threads, D: Disk>(
     next: &NextBatch,
     pool: &mut Option<Box<Pool>>,
     disk: &mut D,
-) -> Result<Vec<Event>, BatchFault>
+) -> Result<Option<Vec<Event>>, BatchFault>
     requires limit { limit ≤ FILE_BYTES_MAX }
     requires image { IfSome (D.image disk.old) (IsHeldBy (Some index.old.opening) (take next.now.known next.now.names.now)) }
     requires next { IsNext index.old.opening next.now next.now.current.now.graph }
 
     // the batch in the file and in memory
     ensures kept { IfOk result (λ _. KeepsBatch D.Disk limit index.old.opening index.new.opening next.now next.now.current.now.graph disk.old disk.new) }
-    ensures passed { IfOk result (λ left. PassesBatch index.old.opening next.now left.items (pool_in pool.old) (pool_in pool.new)) }
+    ensures passed { IfOk result (λ left. PassesBatch index.old.opening next.now (left_behind left next.now.recent.now next.now.events.now) (pool_in pool.old) (pool_in pool.new)) }
 
     // the bytes read
     ensures most { TakesSinglesOver (D.image disk.old) index.old.opening next.now next.now.current.now.graph (D.taken disk.old) (D.taken disk.new) }

@@ -1,6 +1,7 @@
 //! What the changes of a batch come to.
 
-ghost use Rattle.std.specs.Prelude.{◌≡◌, ◌≤◌, ◌<◌, ◌+◌, ◌^◌, ◌++◌, ◌∷◌, List, [], Option, None, Ok, length, IfOk, IfErr, IfSome, IfNone, OnErr, OnOk};
+ghost use Rattle.std.specs.Prelude.{◌≡◌, ◌≤◌, ◌<◌, ◌+◌, ◌^◌, ◌++◌, ◌∷◌, List, [], Option, None, Ok, length, vec_len, IfOk, IfErr, IfSome, IfNone, OnErr, OnOk};
+ghost use Rattle.std.specs.Vec.{vec_capacity};
 ghost use Rattle.dg_append.specs.AddedBatches.{IsRefused, TakesForm};
 ghost use Rattle.dg_append.specs.Fronts.{IsFront, lines};
 ghost use Rattle.dg_graph.specs.declared.event.Change.{Change};
@@ -119,7 +120,8 @@ fn prepare(
 
 /// Completes the batch behind the index. Its events are pending then, and the form of the file takes them; the changes are
 /// dropped. It gives the graph before the batch as a set, where the batch completes an interior node that is the first of
-/// its height, else any set: it is made before a line is completed, so that nothing has to be taken back from it.
+/// its height, else any set: it is made before a line is completed, so that nothing has to be taken back from it. The recent
+/// events get room for those of the batch.
 ///
 /// `BatchFault::BadChange` for the least line that is refused; where none is, `BatchFault::OldFormat` where one is a message
 /// and the file is in its first form, with the events pending; `BatchFault::Memory` for want of memory.
@@ -127,6 +129,7 @@ pub(crate) fn complete(
     alloc: Global,
     index: &Index,
     now: &mut Now,
+    recent: &mut Vec<Event>,
     batch: Batch,
 ) -> Result<Set, BatchFault>
     requires none_pending { now.old.pending ≡ [] }
@@ -138,12 +141,15 @@ pub(crate) fn complete(
     ensures done { OnOk result (completed 1 (earliest_in 0 index.now.opening.batches) now.old.graph (lines batch.changes.items) ≡ Ok now.new.pending) }
     ensures form { OnOk result (TakesForm index.now.opening now.new.pending) }
     ensures refused { IfErr result (IsRefused index.now.opening now.old.graph batch) }
+    ensures reserved { OnOk result (vec_len recent.new + length now.new.pending ≤ vec_capacity recent.new) }
     ensures same_graph { now.new.graph ≡ now.old.graph }
+    ensures same_recent { recent.new.items ≡ recent.old.items }
 {
     let top = top_set(alloc, index, now, batch.changes.len() as u64)?;
     prepare(now, last_of(index), batch.front, batch.changes)?;
     if !index.is_wide() && !are_silent(now.pending()) {
         return Err(BatchFault::OldFormat);
     }
+    recent.reserve(now.pending().len())?;
     Ok(top)
 }

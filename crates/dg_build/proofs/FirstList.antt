@@ -1,5 +1,5 @@
 -- The events of the first list, and those behind it.
-use Rattle.std.proofs.Common.{◌≡◌, ℕ, ◌+◌, ◌-◌, ◌*◌, ◌/◌, ◌<◌, ◌≤◌, List, ◌++◌, length, take, drop, min, sym, ap, ◌∙◌, arith, append_assoc, add-mul, div-lt_iff_lt-mul, length-append, length-drop, length-take-le, mul-le-mul_right, take-append-drop}
+use Rattle.std.proofs.Common.{◌≡◌, refl, ℕ, zero, suc, ◌+◌, ◌-◌, ◌*◌, ◌/◌, ◌<◌, ◌≤◌, List, ◌++◌, length, take, drop, min, sym, ap, ◌∙◌, arith, append_assoc, add-mul, div-lt_iff_lt-mul, div-mul-le_self, length-append, length-drop, length-take-le, mul-le-mul_right, take-append-drop}
 use Rattle.std.proofs.lemmas.List.{drop_at, drop-drop}
 use Rattle.dg_graph.specs.declared.event.Event.{Event}
 use Rattle.dg_build.proofs.SpelledRecordSegments.{lists_within}
@@ -10,7 +10,7 @@ pub record IsCut (l before : ℕ) (recent events first later : List Event) : Typ
   pub long : length first + length later ≡ length recent + length events
   pub full : 1 ≤ (before + length events) / l - before / l → length first ≡ l
 
-pub is_cut : (l before cut : ℕ) (recent events first later : List Event) → 1 ≤ l → length recent ≡ before - before / l * l → cut ≡ min (l - length recent) (length events)
+is_cut : (l before cut : ℕ) (recent events first later : List Event) → 1 ≤ l → length recent ≡ before - before / l * l → cut ≡ min (l - length recent) (length events)
     → first ≡ recent ++ take cut events → later ≡ drop cut events → IsCut l before recent events first later
 is_cut l before cut recent events first later some many cut_is first_is later_is =
     let few : cut ≤ length events = omega (arith, cut_is) in
@@ -24,6 +24,37 @@ is_cut l before cut recent events first later some many cut_is first_is later_is
           let one : 1 * l ≤ ((before + length events) / l - before / l) * l = mul-le-mul_right l closes in
           omega (arith, front, cut_is, many, below, add-mul (before / l) 1 l, one, lists_within l before (length events) some);
     }
+
+-- fewer events stand behind the last list than one has
+pub below_list : (l before many : ℕ) → 1 ≤ l → many ≡ before - before / l * l → many < l
+below_list l before many some is =
+    let pos : 0 < l = omega (arith, some) in
+    let below : before < (before / l + 1) * l = (div-lt_iff_lt-mul pos).0 (let lt : before / l < before / l + 1 = omega arith in lt) in
+    omega (arith, is, below, add-mul (before / l) 1 l, some)
+
+-- where the batch closes no list, the recent events stand in front of it as they are
+short_cut : (l before : ℕ) (recent events first later : List Event) → 1 ≤ l → length recent ≡ before - before / l * l → length recent + length events < l
+    → first ≡ recent → later ≡ events → IsCut l before recent events first later
+short_cut l before recent events first later some many short first_is later_is =
+    let pos : 0 < l = omega (arith, some) in
+    let up : before / l * l ≤ before = div-mul-le_self before l in
+    let below : before + length events < (before / l + 1) * l = omega (arith, many, short, up, add-mul (before / l) 1 l) in
+    let none : (before + length events) / l < before / l + 1 = (div-lt_iff_lt-mul pos).1 below in
+    record {
+      is = λ i. first_is i ++ later_is i;
+      long = omega (arith, ap (λ (l : List Event). length l) first_is, ap (λ (l : List Event). length l) later_is);
+      full = λ closes. absurd (omega (arith, closes, none));
+    }
+
+-- either of both
+pub is_cut_or_short : (l before cut : ℕ) (recent events first later : List Event) → 1 ≤ l → length recent ≡ before - before / l * l
+    → (1 ≤ cut → cut ≡ min (l - length recent) (length events)) → (cut ≡ 0 → length recent + length events < l)
+    → (1 ≤ cut → first ≡ recent ++ take cut events) → (cut ≡ 0 → first ≡ recent) → later ≡ drop cut events → IsCut l before recent events first later
+is_cut_or_short l before zero recent events first later some many full short first_full first_short later_is =
+    short_cut l before recent events first later some many (short refl) (first_short refl) later_is
+is_cut_or_short l before (suc cut) recent events first later some many full short first_full first_short later_is =
+    let one : 1 ≤ suc cut = omega arith in
+    is_cut l before (suc cut) recent events first later some many (full one) (first_full one) later_is
 
 -- the list with this index is within them
 pub list_within : (l count i first later : ℕ) → i < count → first ≡ l → count * l ≤ first + later → i * l ≤ later

@@ -1,6 +1,6 @@
 //! The segment of a batch.
 
-ghost use Rattle.std.specs.Prelude.{◌≡◌, ◌≤◌, ◌<◌, ◌+◌, ◌-◌, ◌*◌, ◌^◌, ◌++◌, [], ℕ, List, length, map, take, drop, min, true, false, All, IfOk, IfErr, OnOk};
+ghost use Rattle.std.specs.Prelude.{◌≡◌, ◌≤◌, ◌<◌, ◌+◌, ◌-◌, ◌*◌, ◌^◌, ◌++◌, [], ℕ, List, length, map, take, drop, true, false, All, IfOk, IfErr, OnOk};
 ghost use Rattle.dg_graph.specs.declared.event.Event.{Event};
 ghost use Rattle.dg_graph.specs.ExactEvents.{AreChangesOf};
 ghost use Rattle.dg_graph.specs.Replay.{replay};
@@ -17,7 +17,7 @@ ghost use Rattle.dg_build.specs.GivenDeltas.{AddsSuch, AreGiven, IsFaultOfSuch};
 ghost use Rattle.dg_build.specs.declared.fault.BuildFault.TheVariants.{Memory};
 
 use crate::fault::BuildFault;
-use crate::first_list::first_list;
+use crate::first_list::{first_count, first_events, first_list};
 use crate::leaves::add_interior;
 use crate::records::{add_lists, set_piece};
 use dg_delta::Delta;
@@ -33,13 +33,6 @@ fn behind(events: &[Event], count: usize) -> &[Event]
     ensures { result.now ≡ drop count events.now }
 {
     &events[count..]
-}
-
-// How many events of the batch are in the first list, which begins with the recent ones.
-fn first_count(l: usize, recent: &[Event], events: &[Event]) -> usize
-    ensures { result ≡ min (l - length recent.now) (length events.now) }
-{
-    l.saturating_sub(recent.len()).min(events.len())
 }
 
 // Gives the segment, which is without a list or a delta, those of the batch, and its piece.
@@ -86,8 +79,8 @@ fn add_batch(
     // Only the first list reaches over the border between the recent events and the batch.
     let cut = first_count(l, recent, events);
     let later = behind(events, cut);
-    let list = first_list(alloc, recent, &events[..cut])?;
-    let first = list.as_slice();
+    let list = first_list(alloc, recent, events, cut)?;
+    let first = first_events(&list, recent, cut);
     add_lists(alloc, messages, l, after - m, first, later, segment)?;
     add_interior(
         alloc,

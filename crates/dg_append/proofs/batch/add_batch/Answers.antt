@@ -1,10 +1,10 @@
-use Rattle.std.proofs.Common.{inl, ◌≡◌, ◌+◌, ◌∙◌, List, Option, Some, length, take, refl, ap, subst}
+use Rattle.std.proofs.Common.{inl, ◌≡◌, ◌+◌, ◌∙◌, List, Option, Some, length, take, refl, sym, ap, subst}
 use Rattle.std.specs.Prelude.{IfSome}
 use Rattle.dg_append.proofs.AddedBatchOutcomes.{WentOn, added_is, added_leaves, adds, back_live, live_after, next_is, not_added, not_added_leaves, nothing_read, ready_here, takes_kept, takes_stopped, total_kept}
 use Rattle.dg_append.proofs.BatchCrashes.{cause_refused, reads_leave}
 use Rattle.dg_append.proofs.FrontEvents.{IsPrepared, here, prepared}
 use Rattle.dg_append.proofs.batch.add_batch.Goals as goal
-use Rattle.dg_append.specs.AddedBatches.{AddsBatch, AddsBatchOrNot, AddsBehindOrNot, IsReady}
+use Rattle.dg_append.specs.AddedBatches.{AddsBatch, AddsBatchOrNot, AddsBehindOrNot, IsReady, left_behind}
 use Rattle.dg_append.specs.declared.batch.AddedBatch.{AddedBatch}
 use Rattle.dg_append.specs.declared.batch.Batch.{Batch}
 use Rattle.dg_append.specs.declared.live.Live.{Live}
@@ -30,7 +30,7 @@ keep_batch-requires-clause-next g c =
     prepared o b h events c.facts.ensures.parameters ready c.facts-2.ensures.graph c.in-Ok.ensures.whole c.in-Ok.ensures.done c.in-Ok.ensures.form in
     let graph_is : c.complete.new.now.graph ≡ h.now.graph = c.complete.ensures.same_graph in
     next_is o b h c.complete.new.now.graph events _ graph_is
-    (record { known_is = refl; names_are = refl; recent_is = c.deref.ensures.value; events_are = c.pending-events.ensures })
+    (record { known_is = refl; names_are = refl; recent_is = c.deref.ensures.value ∙ c.complete.ensures.same_recent; events_are = c.pending-events.ensures })
     c.facts-2.ensures.graph.rises ready p c.in-Ok.ensures.top
 
 pub returns-in-Ok-keep_batch-clause-adds : goal.returns-in-Ok-keep_batch-clause-adds
@@ -46,20 +46,20 @@ returns-in-Ok-keep_batch-clause-adds g c =
     prepared o b h events c.facts.ensures.parameters ready c.facts-2.ensures.graph c.in-Ok.ensures.whole c.in-Ok.ensures.done c.in-Ok.ensures.form in
     let graph_is : c.complete.new.now.graph ≡ h.now.graph = c.complete.ensures.same_graph in
     let new : Live = record {
-      history = record { index = Some c.keep_batch.new.index; names = h.names; now = c.commit.new.self; recent = c.in-Ok-keep_batch.left };
+      history = record { index = Some c.keep_batch.new.index; names = h.names; now = c.commit.new.self; recent = c.take_recent_on.new.recent };
       pool = c.keep_batch.new.pool;
     } in
-    let went : WentOn l new c.keep_batch.new.index.opening events c.in-Ok-keep_batch.left.items =
-    record { index = refl; names_are = refl; graph_is = c.commit.ensures.graph ∙ ap (λ (set : List Element). replay_from set events) c.complete.ensures.same_graph; pending = c.commit.ensures.none; recent_are = refl } in
+    let went : WentOn l new c.keep_batch.new.index.opening events (left_behind c.in-Ok-keep_batch.left c.deref.result.now c.pending-events.result.now) =
+    record { index = refl; names_are = refl; graph_is = c.commit.ensures.graph ∙ ap (λ (set : List Element). replay_from set events) c.complete.ensures.same_graph; pending = c.commit.ensures.none; recent_are = c.take_recent_on.ensures ∙ (λ i. left_behind c.in-Ok-keep_batch.left (sym c.deref.ensures.value i) c.pending-events.result.now) } in
     let total : c.events_len.result ≡ event_total o.batches + length events =
     c.events_len.ensures.events
-    ∙ total_kept g.D.Disk o c.keep_batch.new.index.opening c.args.limit b l new c.args.disk.now c.keep_batch.new.disk events c.in-Ok-keep_batch.left.items _ c.requires.may.pool graph_is
-    (record { known_is = refl; names_are = refl; recent_is = c.deref.ensures.value; events_are = c.pending-events.ensures }) p c.in-Ok-keep_batch.ensures.kept c.in-Ok-keep_batch.ensures.passed went in
+    ∙ total_kept g.D.Disk o c.keep_batch.new.index.opening c.args.limit b l new c.args.disk.now c.keep_batch.new.disk events (left_behind c.in-Ok-keep_batch.left c.deref.result.now c.pending-events.result.now) _ c.requires.may.pool graph_is
+    (record { known_is = refl; names_are = refl; recent_is = c.deref.ensures.value ∙ c.complete.ensures.same_recent; events_are = c.pending-events.ensures }) p c.in-Ok-keep_batch.ensures.kept c.in-Ok-keep_batch.ensures.passed went in
     let last : c.last_instant.result ≡ last_time_from 0 events = c.last_instant.ensures ∙ ap (last_time_from 0) c.pending-events.ensures in
     let added : AddedBatch = record { events = length c.pending-events.result.now; total = c.events_len.result; last = c.last_instant.result } in
     here (index_opening h.index) o (λ (x : Opening). AddsBatch x c.args.limit b l new (g.D.Disk.image c.args.disk.now) (g.D.Disk.image c.keep_batch.new.disk) added) is
-    (adds g.D.Disk o c.keep_batch.new.index.opening c.args.limit b l new c.args.disk.now c.keep_batch.new.disk events c.in-Ok-keep_batch.left.items _ c.requires.may.pool graph_is
-    (record { known_is = refl; names_are = refl; recent_is = c.deref.ensures.value; events_are = c.pending-events.ensures }) p c.in-Ok-keep_batch.ensures.kept c.in-Ok-keep_batch.ensures.passed went
+    (adds g.D.Disk o c.keep_batch.new.index.opening c.args.limit b l new c.args.disk.now c.keep_batch.new.disk events (left_behind c.in-Ok-keep_batch.left c.deref.result.now c.pending-events.result.now) _ c.requires.may.pool graph_is
+    (record { known_is = refl; names_are = refl; recent_is = c.deref.ensures.value ∙ c.complete.ensures.same_recent; events_are = c.pending-events.ensures }) p c.in-Ok-keep_batch.ensures.kept c.in-Ok-keep_batch.ensures.passed went
     added (subst (λ (i : Option Opening). IfSome (g.D.Disk.image c.args.disk.now) (IsHeldBy i (take b.known h.names))) is c.requires.image) c.in-Ok-keep_batch.ensures.disk.used.told
     (added_is (length c.pending-events.result.now) (length events) c.events_len.result (event_total o.batches + length events) c.last_instant.result (last_time_from 0 events) (ap length c.pending-events.ensures) total last))
 
@@ -76,13 +76,13 @@ returns-in-Ok-keep_batch-clause-live g c =
     prepared o b h events c.facts.ensures.parameters ready c.facts-2.ensures.graph c.in-Ok.ensures.whole c.in-Ok.ensures.done c.in-Ok.ensures.form in
     let graph_is : c.complete.new.now.graph ≡ h.now.graph = c.complete.ensures.same_graph in
     let new : Live = record {
-      history = record { index = Some c.keep_batch.new.index; names = h.names; now = c.commit.new.self; recent = c.in-Ok-keep_batch.left };
+      history = record { index = Some c.keep_batch.new.index; names = h.names; now = c.commit.new.self; recent = c.take_recent_on.new.recent };
       pool = c.keep_batch.new.pool;
     } in
-    let went : WentOn l new c.keep_batch.new.index.opening events c.in-Ok-keep_batch.left.items =
-    record { index = refl; names_are = refl; graph_is = c.commit.ensures.graph ∙ ap (λ (set : List Element). replay_from set events) c.complete.ensures.same_graph; pending = c.commit.ensures.none; recent_are = refl } in
-    live_after g.D.Disk o c.keep_batch.new.index.opening c.args.limit b l new c.args.disk.now c.keep_batch.new.disk events c.in-Ok-keep_batch.left.items _ c.requires.may.pool graph_is
-    (record { known_is = refl; names_are = refl; recent_is = c.deref.ensures.value; events_are = c.pending-events.ensures }) p c.in-Ok-keep_batch.ensures.kept c.in-Ok-keep_batch.ensures.passed went ready
+    let went : WentOn l new c.keep_batch.new.index.opening events (left_behind c.in-Ok-keep_batch.left c.deref.result.now c.pending-events.result.now) =
+    record { index = refl; names_are = refl; graph_is = c.commit.ensures.graph ∙ ap (λ (set : List Element). replay_from set events) c.complete.ensures.same_graph; pending = c.commit.ensures.none; recent_are = c.take_recent_on.ensures ∙ (λ i. left_behind c.in-Ok-keep_batch.left (sym c.deref.ensures.value i) c.pending-events.result.now) } in
+    live_after g.D.Disk o c.keep_batch.new.index.opening c.args.limit b l new c.args.disk.now c.keep_batch.new.disk events (left_behind c.in-Ok-keep_batch.left c.deref.result.now c.pending-events.result.now) _ c.requires.may.pool graph_is
+    (record { known_is = refl; names_are = refl; recent_is = c.deref.ensures.value ∙ c.complete.ensures.same_recent; events_are = c.pending-events.ensures }) p c.in-Ok-keep_batch.ensures.kept c.in-Ok-keep_batch.ensures.passed went ready
 
 pub returns-in-Ok-keep_batch-clause-reads : goal.returns-in-Ok-keep_batch-clause-reads
 returns-in-Ok-keep_batch-clause-reads g c =
@@ -99,7 +99,7 @@ returns-in-Ok-keep_batch-clause-reads g c =
     here (index_opening h.index) o _ is
     (record {
       older = takes_kept o b h c.complete.new.now.graph events _ graph_is
-          (record { known_is = refl; names_are = refl; recent_is = c.deref.ensures.value; events_are = c.pending-events.ensures })
+          (record { known_is = refl; names_are = refl; recent_is = c.deref.ensures.value ∙ c.complete.ensures.same_recent; events_are = c.pending-events.ensures })
           g.D.Disk c.args.limit c.keep_batch.new.index.opening c.args.disk.now c.keep_batch.new.disk (g.D.Disk.taken c.args.disk.now) (g.D.Disk.taken c.keep_batch.new.disk)
           c.in-Ok-keep_batch.ensures.kept p.many c.keep_batch.ensures.most;
       refused = tt;
@@ -120,7 +120,7 @@ returns-clause-fails g c =
     let graph_is : c.complete.new.now.graph ≡ h.now.graph = c.complete.ensures.same_graph in
     here (index_opening h.index) o _ is
     (not_added o b h c.complete.new.now.graph events _ graph_is
-    (record { known_is = refl; names_are = refl; recent_is = c.deref.ensures.value; events_are = c.pending-events.ensures })
+    (record { known_is = refl; names_are = refl; recent_is = c.deref.ensures.value ∙ c.complete.ensures.same_recent; events_are = c.pending-events.ensures })
     c.args.limit (g.D.Disk.image c.args.disk.now) (g.D.Disk.image c.keep_batch.new.disk) c.in-Err-keep_batch.fault p c.in-Err-keep_batch.ensures.fails)
 
 pub returns-clause-live : goal.returns-clause-live
@@ -131,10 +131,10 @@ returns-clause-live g c =
     let is : index_opening l.history.index ≡ Some o = ap index_opening c.in-Some.is in
     let ready : IsReady o b l.history = ready_here b l o c.requires.may is in
     let middle : Live = record {
-      history = record { index = Some c.keep_batch.new.index; names = l.history.names; now = c.complete.new.now; recent = l.history.recent };
+      history = record { index = Some c.keep_batch.new.index; names = l.history.names; now = c.complete.new.now; recent = c.complete.new.recent };
       pool = c.keep_batch.new.pool;
     } in
-    back_live b.known o l middle c.give_back-in-Err-keep_batch.new.live ready.sound c.requires.may.pool refl c.complete.ensures.same_graph refl
+    back_live b.known o l middle c.give_back-in-Err-keep_batch.new.live ready.sound c.requires.may.pool refl c.complete.ensures.same_graph c.complete.ensures.same_recent
     c.in-Err-keep_batch.ensures.back.graphs c.in-Err-keep_batch.fault c.keep_batch.new.index.opening refl c.in-Err-keep_batch.ensures.back.index c.give_back-in-Err-keep_batch.ensures
 
 pub returns-clause-reads : goal.returns-clause-reads
@@ -152,7 +152,7 @@ returns-clause-reads g c =
     here (index_opening h.index) o _ is
     (record {
       older = takes_stopped o b h c.complete.new.now.graph events _ graph_is
-          (record { known_is = refl; names_are = refl; recent_is = c.deref.ensures.value; events_are = c.pending-events.ensures })
+          (record { known_is = refl; names_are = refl; recent_is = c.deref.ensures.value ∙ c.complete.ensures.same_recent; events_are = c.pending-events.ensures })
           c.args.limit (g.D.Disk.image c.args.disk.now) (g.D.Disk.image c.keep_batch.new.disk) c.in-Err-keep_batch.fault (g.D.Disk.taken c.args.disk.now) (g.D.Disk.taken c.keep_batch.new.disk)
           c.in-Err-keep_batch.ensures.fails p.many c.keep_batch.ensures.most;
       refused = nothing_read c.args.limit o _ c.complete.new.now.graph (g.D.Disk.image c.args.disk.now) (g.D.Disk.image c.keep_batch.new.disk) c.in-Err-keep_batch.fault
@@ -184,7 +184,7 @@ returns-in-Ok-keep_batch-clause-disk g c =
     prepared o b h events c.facts.ensures.parameters ready c.facts-2.ensures.graph c.in-Ok.ensures.whole c.in-Ok.ensures.done c.in-Ok.ensures.form in
     let graph_is : c.complete.new.now.graph ≡ h.now.graph = c.complete.ensures.same_graph in
     added_leaves o b h c.complete.new.now.graph events _ graph_is
-    (record { known_is = refl; names_are = refl; recent_is = c.deref.ensures.value; events_are = c.pending-events.ensures })
+    (record { known_is = refl; names_are = refl; recent_is = c.deref.ensures.value ∙ c.complete.ensures.same_recent; events_are = c.pending-events.ensures })
     g.D.Disk c.args.limit c.args.disk.now c.keep_batch.new.disk is p c.requires.image c.keep_batch.new.index.opening c.in-Ok-keep_batch.left _ c.in-Ok-keep_batch.ensures.kept c.in-Ok-keep_batch.ensures.disk
 
 pub returns-clause-disk : goal.returns-clause-disk
@@ -200,5 +200,5 @@ returns-clause-disk g c =
     prepared o b h events c.facts.ensures.parameters ready c.facts-2.ensures.graph c.in-Ok.ensures.whole c.in-Ok.ensures.done c.in-Ok.ensures.form in
     let graph_is : c.complete.new.now.graph ≡ h.now.graph = c.complete.ensures.same_graph in
     not_added_leaves o b h c.complete.new.now.graph events _ graph_is
-    (record { known_is = refl; names_are = refl; recent_is = c.deref.ensures.value; events_are = c.pending-events.ensures })
+    (record { known_is = refl; names_are = refl; recent_is = c.deref.ensures.value ∙ c.complete.ensures.same_recent; events_are = c.pending-events.ensures })
     g.D.Disk c.args.limit c.args.disk.now c.keep_batch.new.disk is p c.requires.image c.in-Err-keep_batch.fault c.in-Err-keep_batch.ensures.fails c.in-Err-keep_batch.ensures.disk

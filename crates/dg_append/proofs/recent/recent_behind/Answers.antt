@@ -1,4 +1,4 @@
-use Rattle.std.proofs.Common.{◌≡◌, ℕ, zero, suc, ◌-◌, ◌∙◌, List, [], ◌∷◌, ◌++◌, length, drop, ap, arith}
+use Rattle.std.proofs.Common.{◌≡◌, ℕ, zero, suc, ◌-◌, ◌∙◌, List, [], ◌∷◌, ◌++◌, length, drop, ap, sym, arith}
 use Rattle.dg_append.proofs.recent.recent_behind.Goals as goal
 use Rattle.dg_graph.specs.declared.event.Event.{Event}
 
@@ -6,6 +6,10 @@ drop_both : (n : ℕ) (xs ys : List Event) → drop n xs ++ drop (n - length xs)
 drop_both zero xs ys = ap (λ m. xs ++ drop m ys) (let e : 0 - length xs ≡ 0 = omega arith in e)
 drop_both (suc n) [] ys = ap (λ m. drop m ys) (let e : suc n - 0 ≡ suc n = omega arith in e)
 drop_both (suc n) (x ∷ xs) ys = ap (λ m. drop n xs ++ drop m ys) (let e : suc n - suc (length xs) ≡ n - length xs = omega arith in e) ∙ drop_both n xs ys
+
+pub returns-then-closed-eq0 : goal.returns-then-closed-eq0
+returns-then-closed-eq0 c =
+    sym (ap (λ n. drop n (c.args.recent.now ++ c.args.events.now)) (sym c.closed_by-closed.ensures ∙ (let e : c.closed_by-closed.result ≡ 0 = omega (arith, c.if-closed-eq0.true) in e)))
 
 pub returns : goal.returns
 returns c =
