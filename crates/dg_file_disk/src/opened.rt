@@ -23,21 +23,26 @@ pub struct Opened {
     is_held: bool,
     // whether something was written since the last sync
     is_written: bool,
-    // whether a sync has made sure that the file is found after a crash
-    is_found: bool,
+    // whether all that is kept about the file was brought to the device
+    is_synced: bool,
+    // whether a crash may lose the file's entry in its folder
+    is_new: bool,
 }
 
 impl Opened {
-    /// A file that was just opened, for reading alone where there is a reason.
+    /// A file that was just opened, for reading alone where there is a reason. One with bytes was found in its folder by
+    /// the run that wrote them, since nothing is written before the sync that makes sure of it.
     pub fn new(file: File, read_only: Option<io::Error>) -> io::Result<Opened> {
-        let stamp = Stamp::of(&file.metadata()?);
+        let metadata = file.metadata()?;
+        let stamp = Stamp::of(&metadata);
         Ok(Opened {
             file,
             read_only,
             stamp,
             is_held: false,
             is_written: false,
-            is_found: false,
+            is_synced: false,
+            is_new: metadata.len() == 0,
         })
     }
 
@@ -57,10 +62,9 @@ impl Opened {
         self.file.write_all_at(piece, offset)
     }
 
-    /// Brings the file's bytes and length to the device. As long as it may be new it brings also all else that is kept
-    /// about it.
+    /// Brings the file's bytes and length to the device. The first time it brings also all else that is kept about it.
     pub fn sync(&mut self) -> io::Result<()> {
-        let synced = if self.is_found {
+        let synced = if self.is_synced {
             self.file.sync_data()
         } else {
             self.file.sync_all()
@@ -70,6 +74,7 @@ impl Opened {
             Err(error) if self.read_only.is_some() && has_no_sync(&error) => return Ok(()),
             synced => synced?,
         }
+        self.is_synced = true;
         if self.is_written {
             self.stamp = Stamp::of(&self.file.metadata()?);
             self.is_written = false;
@@ -110,19 +115,19 @@ impl Opened {
         self.read_only.is_none()
     }
 
-    /// Whether a sync has made sure that the file is found after a crash.
-    pub fn is_found(&self) -> bool {
-        self.is_found
+    /// Whether a crash may lose the file's entry in its folder.
+    pub fn is_new(&self) -> bool {
+        self.is_new
     }
 
     /// Notes that the file is found after a crash.
     pub fn note_found(&mut self) {
-        self.is_found = true;
+        self.is_new = false;
     }
 }
 
-// Whether the error says that the file's system brings nothing to a device, as one that is only read.
-fn has_no_sync(error: &io::Error) -> bool {
+/// Whether the error says that the file system has no such sync, as one that is only read.
+pub fn has_no_sync(error: &io::Error) -> bool {
     match error.kind() {
         ErrorKind::InvalidInput | ErrorKind::ReadOnlyFilesystem | ErrorKind::Unsupported => true,
         _ => false,

@@ -1,6 +1,6 @@
 //! A file by its path: how it is opened, looked at before it is written, and found after a crash.
 
-use crate::opened::Opened;
+use crate::opened::{Opened, has_no_sync};
 use crate::reason::Reason;
 use std::fs::{File, Files, OpenOptions};
 use std::io::ErrorKind;
@@ -49,11 +49,11 @@ impl<R: Files<File = File>> Stored<R> {
         Ok(self.opened()?.write(offset, piece)?)
     }
 
-    /// Brings what was written to the device. The first time it brings also the entry of the file in its folder, since
-    /// without it a crash may lose a new file whole.
+    /// Brings what was written to the device. Of a file that is empty it brings the entry in its folder too, the first
+    /// time: this run may have made it, and a crash may lose such a file whole.
     pub fn sync(&mut self) -> Result<(), Reason> {
         self.opened()?.sync()?;
-        if !self.opened()?.is_found() {
+        if self.opened()?.is_new() {
             self.sync_folder()?;
             self.opened()?.note_found();
         }
@@ -91,6 +91,8 @@ impl<R: Files<File = File>> Stored<R> {
             Err(error) => Err(error),
         };
         match synced {
+            // Some file systems have no sync of a folder.
+            Err(error) if has_no_sync(&error) => Ok(()),
             // A file that this run may not write was not made by it.
             Err(error) if self.opened()?.is_writable() => Err(Reason::Folder(error)),
             _ => Ok(()),
