@@ -11,11 +11,11 @@ use Rattle.dg_changes.specs.ChangeGrammar.{id_of, time_of}
 use Rattle.dg_machine.specs.declared.command.Command.{Command}
 use Rattle.dg_machine.specs.declared.command.Command.TheVariants as command
 use Rattle.dg_machine.specs.CommandGrammar.{BeginsCommand, IsColumn, columns_of, command_verbs, count_from_0, count_of, function_of, handle_of, heard_columns_of, held_node_verbs, n32_of, skewed_of, sweep_of}
-use Rattle.dg_line.specs.Prefixes.{IsLongestPrefix, IsPrefixOfOne}
-use Rattle.dg_line.specs.Symbols.{Terminal, One_of, Number, IsLineOfOne}
-use Rattle.dg_line.proofs.WordNumbers.{number_within}
+use Rattle.dg_grammar.specs.Prefixes.{IsLongestPrefix, IsPrefixOfOne}
+use Rattle.dg_grammar.specs.Symbols.{Terminal, One_of, Number, IsLineOfOne}
+use Rattle.dg_grammar.proofs.WordNumbers.{number_within}
 use Rattle.dg_line.proofs.CommandGrammarInstants.{several_row, zero_text, zero_words}
-use Rattle.dg_line.proofs.Symbols.{lines_short}
+use Rattle.dg_grammar.proofs.Symbols.{lines_short}
 use Rattle.dg_line.proofs.Verbs.{AreWordsOf, ReadsWord, ReadsEither, Rows, number_word, more_texts, no_text, no_words, one_row, two_row, three_row, four_row, text_or, either_rows, or_rows, row, filled_row, zeros, table, ◌▸◌}
 
 pub n32 : ReadsWord n32_of (Number 0 4294967295)

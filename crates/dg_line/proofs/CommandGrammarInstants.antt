@@ -13,9 +13,9 @@ use Rattle.dg_machine.specs.declared.command.Command.{Command}
 use Rattle.dg_machine.specs.declared.command.Command.TheVariants as command
 use Rattle.dg_machine.specs.declared.command.TheConstants.{TIMES_MAX}
 use Rattle.dg_machine.specs.CommandGrammar.{heard_columns_of, times_of, several_with, several_of}
-use Rattle.dg_line.specs.Symbols.{Terminal, Number}
-use Rattle.dg_line.proofs.WordNumbers.{number_within}
-use Rattle.dg_line.proofs.Symbols.{words_both}
+use Rattle.dg_grammar.specs.Symbols.{Terminal, Number}
+use Rattle.dg_grammar.proofs.WordNumbers.{number_within}
+use Rattle.dg_grammar.proofs.Symbols.{words_both}
 use Rattle.dg_line.proofs.Verbs.{AreWordsOf, Is, ReadsFilled, ReadsWord, bound, both, zeros}
 
 -- ---- read one by one

@@ -1,9 +1,3 @@
-pub mod ListElements
-pub mod WordNumbers
-pub mod Space
-pub mod Prefixes
-pub mod SymbolNumbers
-pub mod Symbols
 pub mod Verbs
 pub mod VerbReaders
 pub mod CommandGrammarInstants

@@ -12,8 +12,8 @@ use Rattle.std.proofs.lemmas.List.{append-nil}
 use Rattle.std.proofs.lemmas.Slice.Eq.{bytes_eq-Decides}
 use Rattle.dg_text.specs.Verbs.{Verb, is_word, look_up, read_by, none_more, one, two_words, three, four_words}
 use Rattle.dg_text.specs.Words.{number}
-use Rattle.dg_line.specs.Symbols.{Terminal, One_of, Number, IsWordOf}
-use Rattle.dg_line.proofs.ListElements.{any_first, any_none, any_cases, any_left, any_right, any_either, any_mapped, any_unmapped, any_weaker, contains_first, contains_later, contains_none, contains_cases}
+use Rattle.dg_grammar.specs.Symbols.{Terminal, One_of, Number, IsWordOf}
+use Rattle.dg_grammar.proofs.ListElements.{any_first, any_none, any_cases, any_left, any_right, any_either, any_mapped, any_unmapped, any_weaker, contains_first, contains_later, contains_none, contains_cases}
 
 abbrev pub Is : {T : Type 0} → Option T → Type 0
 Is o = IsTrue (is_some o)

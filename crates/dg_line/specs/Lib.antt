@@ -1,4 +1,1 @@
-pub mod Space
-pub mod Prefixes
-pub mod Symbols
 pub mod TextChange

@@ -4,15 +4,15 @@ ghost use Rattle.std.specs.Result.{result_ok};
 ghost use Rattle.dg_text.specs.Verbs.{look_up};
 ghost use Rattle.dg_machine.specs.CommandGrammar.{command_verbs, IsColumn, CountIsInRange, command_of};
 
-use crate::grammar::{
-    CELLS, COLUMNS, COUNT, COUNT_FROM_0, FUNCTION, HANDLE, HEARD_COLUMNS, ID, N32, Symbol, TIME,
-    longest_prefix,
-};
 use crate::handle_parsers::{
     at, clean, counts, list, materialise, neighbours, node, pool, release, several,
 };
 use crate::index_parsers::{append, certify, create, load, plan, tree, upgrade, verify, workload};
+use crate::symbols::{
+    CELLS, COLUMNS, COUNT, COUNT_FROM_0, FUNCTION, HANDLE, HEARD_COLUMNS, ID, N32, TIME,
+};
 use crate::words::{Words, found, is};
+use dg_grammar::{Symbol, longest_prefix};
 use dg_machine::Command;
 use thiserror::Error;
 

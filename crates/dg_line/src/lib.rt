@@ -5,10 +5,10 @@
 mod change;
 mod command;
 mod command_words;
-mod grammar;
 mod handle_parsers;
 mod index_parsers;
 mod plan_line;
+mod symbols;
 mod text_change;
 mod words;
 

@@ -1,0 +1,5 @@
+pub mod Walks
+pub mod Expressions
+pub mod Rows
+pub mod ExpressionTexts
+pub mod ChosenElements

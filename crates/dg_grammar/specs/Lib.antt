@@ -1,0 +1,3 @@
+pub mod Space
+pub mod Prefixes
+pub mod Symbols

@@ -1,5 +1,0 @@
-use Rattle.std.proofs.Common.{length}
-use Rattle.dg_line.proofs.grammar.+row_prefix.Given as goal
-
-abbrev pub decreases-row_prefix : goal.decreases-row_prefix
-decreases-row_prefix l = length l.row.now
