@@ -16,7 +16,8 @@ pub(crate) struct NextBatch<'a> {
     pub(crate) recent: &'a [Event],
     /// The current graph before the batch, with its events pending.
     pub(crate) current: &'a Now,
-    /// This graph as a set, where the batch completes an interior node that is the first of its height; else any set.
+    /// This graph as a set, where the batch completes an interior node that is the first of its height. Else it is not looked
+    /// at, and no clause says which set it is.
     pub(crate) top: &'a Set,
     /// The events of the batch.
     pub(crate) events: &'a [Event],

@@ -1,5 +1,6 @@
-//! The differential functions: how the set of an interior node of the index is made from the sets of
-//! its children. docs/MODEL.md has the definitions.
+//! The differential functions: which elements an interior node of the index has. `inward` makes the node by exact deltas
+//! between its children, as a batch does, and makes no whole set. `combine` makes it of the sets of its children; the program
+//! does not call it. docs/MODEL.md has the definitions.
 #![tactic(auto)]
 
 mod differential;

@@ -34,8 +34,8 @@ pub const ALL_COLUMNS: Columns = Columns {
 };
 
 /// The set of a node, by its least plan over the records of the index alone. Each record that the plan enters is
-/// read once, with all its columns but messages, and nothing else; the parts are composed by halves. The history
-/// has `name_count` names; each one in the set is among them.
+/// read once, with all its columns but messages, and nothing else. Records of up to 64 MiB are composed as they are read;
+/// more are composed by halves, once all are read. The history has `name_count` names; each one in the set is among them.
 ///
 /// `Disk` where a read failed, `Damaged` with the first column that is in no spelling, in the order of the plan's
 /// steps and of structure, node attributes, edge attributes, and `Memory`.
