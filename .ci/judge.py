@@ -103,8 +103,6 @@ class Opened:
             sizes = [big(text, where + 8 * i, 8) for i in range(lengths)] + [0] * (4 - lengths)
             if key.split(" ")[0] in ("top", "down") and sizes[model.MESSAGES]:
                 raise Unread
-            if ends and sum(sizes) > 12 + 36 * self.size:
-                raise Unread
             self.rows[key] = Row(offset, sizes, ends, start + where, lengths)
             offset += sum(sizes)
 

@@ -24,7 +24,7 @@ FAILED = "the index file failed"
 TOO_LARGE = "{}: File too large (os error 27)"
 NO_SPACE = "{}: No space left on device (os error 28)"
 READ_ONLY = "{} may not be written: Read-only file system (os error 30)"
-BROKEN = "damaged at offset 18: the segment there breaks the format"
+LIST_ENDS = (10).to_bytes(8, "big") + (20).to_bytes(8, "big")  # the instants of the first list of the five changes, in its row
 NOT_PERMITTED = "{}: Operation not permitted (os error 1)"
 PAGE = 4096  # bytes
 STEP = 7  # bytes between two limits of a file's size
@@ -102,29 +102,78 @@ class Limits:
 
     # ---- the file
 
-    def long_list(self):
-        """A list of two events has at most 84 bytes. One that claims more is refused at the start, without memory for it: the
-        file is sparse. One of 84 bytes is met by the plan that enters it."""
-        index = self.program.place("index")
-        _, image = self.program.over(None, lines([CREATE, FIVE]))
-        behind = 345  # the end of the first list's 42 bytes
+    def long_lists(self):
+        """A list whose column is longer than any events are is opened all the same, since a start believes the lengths of
+        columns. It is damaged where it is read, behind the columns in front of it, and without memory for it: the file is
+        sparse. Where the start itself reads it, the start is refused."""
+        _, five = self.program.over(None, lines([CREATE, FIVE]))
+        _, two = self.program.over(None, lines([CREATE, "load 2\n10 +node 1\n20 +node 2"]))
+        asked = ["s", "se", "st", "snet"]
+        script = ["at 50 s", "verify", *(f"at 10 {columns}" for columns in asked)]
         for more in (42, 43, 10**9, 10**12):
-            sizes = bytearray(image[:behind])
-            for place in (26, 91):  # the columns of the segment, and the structure of the list
-                sizes[place : place + 8] = (int.from_bytes(sizes[place : place + 8], "big") + more).to_bytes(8, "big")
-            with open(index, "wb") as file:
-                file.write(sizes)
-                file.seek(behind + more)
-                file.write(image[behind:])
+            for column in "snet":
+                named, replies, handle = f"list 0 {column}", ["ok at 1 0", f"ok verify unsound list 0 {column}"], 1
+                for columns in asked:
+                    handle += column not in columns
+                    replies.append(f"refused 15 damaged {named}" if column in columns else f"ok at {handle} 42")
+                due = 0, "".join(f"{reply}\nend\n" for reply in replies).encode(), b""
+                self.long_list(f"{more} bytes more in {named}", five, {column: more}, script, due)
+                said = f"unsound at record list 0, column {column}: it is not what the events of the file determine"
+                self.long_list(f"{more} bytes more in {named}, checked", five, {column: more}, script, said, ("--checked",))
+            said = "damaged in record list 0, column s"
+            self.long_list(f"{more} bytes more in a list that a start reads", two, {"s": more}, script, said)
+        first = b"refused 15 damaged list 0 n\nend\n"
+        self.long_list("the first of two columns", five, {"n": 5, "e": 10**9}, ["at 10 snet"], (0, first, b""))
 
-            def prepare():
-                resource.setrlimit(resource.RLIMIT_AS, (64 << 20, 64 << 20))
+    def long_list(self, name, image, longer, script, due, words=()):
+        """A run with 64 MiB over a file whose first list has so many bytes more, zeros, behind what these columns have.
+        `due` is a status, replies and errors, or why the start is refused."""
+        index = self.program.place("index")
+        row = image.rindex(LIST_ENDS) + len(LIST_ENDS)
+        front, columns = bytearray(image), 18 + 16 + int.from_bytes(image[18:26], "big")
+        holes, behind = [], columns
+        for number, column in enumerate("snet"):
+            place = row + 8 * number
+            size = int.from_bytes(image[place : place + 8], "big")
+            behind += size
+            front[place : place + 8] = (size + longer.get(column, 0)).to_bytes(8, "big")
+            holes.append((behind, longer.get(column, 0)))
+        whole = int.from_bytes(image[26:34], "big") + sum(longer.values())
+        front[26:34] = whole.to_bytes(8, "big")
+        with open(index, "wb") as file:
+            begin = 0
+            for end, hole in holes:
+                file.write(front[begin:end])
+                file.seek(hole, os.SEEK_CUR)
+                begin = end
+            file.write(front[begin:])
 
-            ran = self.limited(index, lines(["at 10 s", "at 50 s"]), prepare)
-            said = f"deltagraph: the index is refused\ndeltagraph: {index}: {BROKEN}\n".encode()
-            due = (7, b"", said) if more > 42 else (0, b"refused 15 damaged list 0 s\nend\nok at 1 0\nend\n", b"")
-            self.tests.same(f"a list of {42 + more} bytes", (ran.status, ran.replies, ran.errors), due)
+        def prepare():
+            resource.setrlimit(resource.RLIMIT_AS, (64 << 20, 64 << 20))
+
+        if isinstance(due, str):
+            due = 7, b"", f"deltagraph: the index is refused\ndeltagraph: {index}: {due}\n".encode()
+        ran = self.limited(index, lines(script), prepare, words)
+        self.tests.same(name, (ran.status, ran.replies, ran.errors), due)
         put(index, None)
+
+    def longest_lists(self):
+        """Lists of 65,536 edges and of 65,536 messages, whose columns are as long as columns can be, are read."""
+        count = 65536
+        nodes = [f"{i} +node {i}" for i in range(1, count + 1)]
+        edges = [f"{count + i} +edge {i} 1 2 dir" for i in range(1, count + 1)]
+        messages = [f"{2 * count + i} msg 1 2 m" for i in range(1, count + 1)]
+        script = [f"create {count} 2 union"]
+        for word, changes in (("load", nodes), ("append", edges), ("append", messages)):
+            script.append("\n".join([f"{word} {count}", *changes]))
+        instants = count + count // 2, 2 * count + count // 2
+        script += [f"at {instants[0]} s", "counts 1", f"at {instants[1]} st", "counts 2", "verify", f"append 1\n{4 * count} -node 3"]
+        ran, _ = self.program.over(None, lines(script))
+        heads = [reply[0] for reply in ran.commands()[0]]
+        self.tests.same("the longest lists, their status", (ran.status, len(heads)), (0, 10))
+        self.tests.same("the longest list of edges", heads[5], f"ok counts 1 {count} {count // 2} 0 0")
+        self.tests.same("the longest list of messages", heads[7], f"ok counts 2 {count} {count} 0 0 1")
+        self.tests.check("the longest lists: sound", heads[8].startswith("ok verify sound"), heads[8])
 
     def size_of_file(self):
         """No file may pass a number of bytes, with the signal for it ignored or not."""
@@ -327,7 +376,8 @@ ASK = [
 def main():
     tests = Tests("limits")
     limits = Limits(tests, Program(*sys.argv[1:3]))
-    limits.long_list()
+    limits.long_lists()
+    limits.longest_lists()
     limits.size_of_file()
     limits.full_disk()
     limits.disk_that_is_read()
