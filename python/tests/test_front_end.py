@@ -169,6 +169,8 @@ class Terminals(FrontEnd):
     def start(self, *options: str) -> None:
         process, self.terminal = pty.fork()
         if process == 0:
+            # What runs in the background of a shell ignores interrupts, and hands that on.
+            signal.signal(signal.SIGINT, signal.SIG_DFL)
             os.execve(sys.executable, self.words(*options), self.environment)
         self.process: Optional[int] = process
         self.shown = b""
