@@ -1,5 +1,5 @@
 """A disk that is full, a file that may not grow or be written any more, and memory that lacks: what a run says, and that
-nothing is lost.
+nothing is lost. And two costs that a batch must not have.
 
   python3 .ci/limits.py PROGRAM FOLDER
 
@@ -273,6 +273,35 @@ class Limits:
                 held = self.look(name, index, commands, states, ran, NOT_PERMITTED)
                 self.goes_on(name, index, commands, states, held)
 
+    # ---- costs
+
+    def cost(self, script):
+        """The processor time, user's and system's, that a run over a new file takes to its end."""
+        index = self.program.place("costly")
+        put(index, None)
+        before = resource.getrusage(resource.RUSAGE_CHILDREN)
+        ran = self.limited(index, script)
+        after = resource.getrusage(resource.RUSAGE_CHILDREN)
+        whole = ran.status == 0 and b"refused" not in ran.replies
+        self.tests.check("a run whose cost is taken", whole, (ran.status, ran.errors, ran.replies[:200]))
+        return after.ru_utime + after.ru_stime - before.ru_utime - before.ru_stime
+
+    def times_as_much(self, name, most, script, other, runs=5):
+        """The first script costs at most so many times what the other one does, by the least of several runs of each, in
+        turn: what else a machine does makes a run dearer and never cheaper."""
+        costs = [(self.cost(script), self.cost(other)) for _ in range(runs)]
+        cost, other_cost = (min(taken) for taken in zip(*costs))
+        print(f"{name}: {cost:.3f} s, {cost / other_cost:.1f} times {other_cost:.3f} s", flush=True)
+        self.tests.check(f"{name}: at most {most} times as much", cost <= most * other_cost, (cost, other_cost))
+
+    def costs(self):
+        """What would grow with the square, if it were done the simple way."""
+        crafted, plain = (batch_of_values(20000, is_crafted) for is_crafted in (True, False))
+        self.times_as_much("a load of ids that were chosen", 4, crafted, plain)
+        # All of these stand behind the last closed list.
+        many, few = (single_appends(65536, count) for count in (20000, 5000))
+        self.times_as_much("20,000 appends, beside 5,000", 8, many, few)
+
     def ask(self, process, command):
         """Carries out one command, and gives its reply."""
         process.stdin.write(lines([command]))
@@ -334,6 +363,27 @@ class Limits:
         return self.known[key]
 
 
+def batch_of_values(count, is_crafted):
+    """A script that loads so many nodes with a value each, under a key of its own. Crafted are the nodes' ids so that each
+    id with the number of its key comes to one number, where key and id are put together by this multiplier."""
+    multiplier, modulus = 0x9E3779B97F4A7C15, 2**64
+    # The first key is name 0, the value name 1, and each further key the next name.
+    keys = [0, *range(2, count + 1)]
+    if is_crafted:
+        ids = [(12345 - (2 * key + 2) * multiplier) % modulus for key in keys]
+    else:
+        ids = [(number * 6364136223846793005 + 1442695040888963407) % modulus for number in range(count)]
+    nodes = [f"{1 + i // 10} +node {node}" for i, node in enumerate(ids)]
+    values = [f"{200000 + i // 10} nset {node} k{i} v" for i, node in enumerate(ids)]
+    return lines(["create 1024 4 intersection", "\n".join([f"load {2 * count}", *nodes, *values])])
+
+
+def single_appends(size, count):
+    """A script that adds so many nodes, each in a batch of its own, to an index with lists of this size."""
+    batches_of_one = [f"{'append' if i > 1 else 'load'} 1\n{i} +node {i}" for i in range(1, count + 1)]
+    return lines([f"create {size} 4 intersection", *batches_of_one])
+
+
 def mounted(folder, options):
     if shutil.which("mount") is None:
         return False
@@ -378,6 +428,7 @@ def main():
     limits = Limits(tests, Program(*sys.argv[1:3]))
     limits.long_lists()
     limits.longest_lists()
+    limits.costs()
     limits.size_of_file()
     limits.full_disk()
     limits.disk_that_is_read()
