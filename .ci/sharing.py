@@ -11,11 +11,15 @@ import signal
 import stat
 import subprocess
 import sys
+import tempfile
 import threading
 import time
 from pathlib import Path
 
 NOBODY = 65534
+# A file of the first form with five changes, which an earlier program made.
+FIRST_FORM = Path(__file__).resolve().parent.parent / "examples" / "first_form" / "five.dg"
+FIVE = "create 2 2 intersection\nload 5\n10 +node 1\n20 +node 2\n30 +edge 5 1 2 dir\n40 nset 1 name A\n50 -edge 5\n"
 HISTORY = "create 2 2 intersection\nload 3\n10 +node 1\n20 +node 2\n30 +edge 5 1 2 dir\n"
 FAILED = "the index file failed"
 IN_USE = "{} is in use by another program"
@@ -45,9 +49,9 @@ def same(name, found, due):
 class Run:
     """A run of the program over an index, which has read the file once it is made."""
 
-    def __init__(self, index, before=(), **how):
+    def __init__(self, index, before=(), words=(), **how):
         self.index = index
-        command = [*before, program, str(index)]
+        command = [*before, program, *words, str(index)]
         pipe = subprocess.PIPE
         self.process = subprocess.Popen(command, stdin=pipe, stdout=pipe, stderr=pipe, text=True, bufsize=1, **how)
         self.ask("clean 1")
@@ -171,37 +175,88 @@ def readers_beside_a_writer():
     has("a writer beside readers", index, 23)
 
 
+class Writing:
+    """A run that appends a node a batch, without a pause, as long as this is entered; and how much of it is answered."""
+
+    AHEAD = 20  # batches that stand in the pipe, so that the run never waits for one, and ends soon
+
+    def __init__(self, index, instant):
+        self.instant, self.answered, self.ended = instant, 0, threading.Event()
+        self.room = threading.Semaphore(self.AHEAD)
+        self.process = subprocess.Popen([program, str(index)], stdin=subprocess.PIPE, stdout=subprocess.PIPE, text=True)
+        self.threads = [threading.Thread(target=self.write), threading.Thread(target=self.count)]
+
+    def write(self):
+        while self.room.acquire() and not self.ended.is_set():
+            self.process.stdin.write(f"append 1\n{self.instant} +node {self.instant}\n")
+            self.process.stdin.flush()
+            self.instant += 1
+        self.process.stdin.close()
+
+    def count(self):
+        for line in self.process.stdout:
+            if line.startswith("ok append "):
+                self.answered += 1
+                self.room.release()
+        self.room.release()
+
+    def __enter__(self):
+        for thread in self.threads:
+            thread.start()
+        while self.answered == 0 and self.process.poll() is None:
+            time.sleep(0.001)
+        return self
+
+    def __exit__(self, *cause):
+        self.ended.set()
+        for thread in self.threads:
+            thread.join()
+        same("a writer without a pause", self.process.wait(), 0)
+
+
 def readers_opened_within_appends():
-    """Runs that are opened while another appends without a pause: each finds a sound file, however many batches come while
-    it reads. And one that is held up behind its question for the length, while a batch is added."""
-    for batches, openings in [(10, 50), (2000, 50)]:
-        index = make("appended")
-        script = "".join(f"append 1\n{time} +node {time}\n" for time in range(40, 40 + batches))
-        same("many batches", carry_out(index, script)[1], 0)
-        writer = subprocess.Popen([program, str(index)], stdin=subprocess.PIPE, stdout=subprocess.DEVNULL, text=True)
-        ended = threading.Event()
+    """Runs that are opened while another appends without a pause. Each finds a sound file with all that was answered before,
+    however many batches come while it reads, and then answers from what it has opened, whatever comes later."""
+    # In memory where there is room for it, since each batch syncs.
+    memory = tempfile.TemporaryDirectory(dir="/dev/shm" if os.access("/dev/shm", os.W_OK) else ".")
+    folder = Path(memory.name)
+    asked = "tree\nverify\nat 40 s\nlist 1\n"
+    script = asked + asked.replace("list 1", "list 2")
+    for batches, rounds in [(10, 1), (2000, 3)]:
+        appends = "".join(f"append 1\n{time} +node {time}\n" for time in range(40, 40 + batches))
+        begun, index = make("begun"), folder / "appended"
+        same("many batches", carry_out(begun, appends)[1], 0)
+        for words in [[], ["--checked"], ["--cache", "1"], ["--cache", "64", "--checked"]] * rounds:
+            name = f"opened within appends, over {batches} batches, {words}"
+            # A file that has grown long makes each opening long.
+            shutil.copyfile(begun, index)
+            with Writing(index, 40 + batches) as writing:
+                for _ in range(25):
+                    before = 3 + batches + writing.answered
+                    run = subprocess.run([program, *words, str(index)], input=script, capture_output=True, text=True)
+                    same(f"{name}: status", (run.returncode, run.stderr), (0, ""))
+                    opened_stands(name, run.stdout.split("end\n")[:-1], before)
+            has(f"{name}: what was appended", index, 3 + batches + writing.answered)
+    memory.cleanup()
 
-        def write():
-            instant = 40 + batches
-            while not ended.is_set():
-                writer.stdin.write(f"append 1\n{instant} +node {instant}\n")
-                writer.stdin.flush()
-                instant += 1
 
-        writing = threading.Thread(target=write)
-        writing.start()
-        for words in [[], ["--checked"], ["--cache", "64"]]:
-            statuses = [
-                subprocess.run([program, *words, str(index)], input="tree\n", capture_output=True, text=True).returncode
-                for _ in range(openings)
-            ]
-            same(f"opened within appends, over {batches} batches, {words}", statuses, [0] * openings)
-        ended.set()
-        writing.join()
-        writer.stdin.close()
-        same("a writer without a pause", writer.wait(), 0)
-        same("what it has appended", carry_out(index, "verify\n")[0][0].split()[:3], ["ok", "verify", "sound"])
-    if subprocess.run(["strace", "-o", "calls", "true"], capture_output=True).returncode != 0:
+def opened_stands(name, replies, before):
+    """The replies to `tree`, `verify`, `at` and `list`, twice, while another run appends: at least `before` events are there,
+    the file is sound, and the second four are as the first."""
+    same(f"{name}: as many replies", len(replies), 8)
+    if len(replies) != 8:
+        return
+    tree, verified, given, listed = replies[:4]
+    same(f"{name}: what was answered is there", int(tree.split()[5]) >= before, True)
+    same(f"{name}: it is sound", verified.split()[:3], ["ok", "verify", "sound"])
+    nodes = "node 1\nnode 2\nnode 40\nedge 5 1 2 dir\n"
+    same(f"{name}: a graph", (given.split()[:3], listed), (["ok", "at", "1"], f"ok list 1 4\n{nodes}"))
+    same(f"{name}: what it opened stands", replies[4:], [tree, verified, given.replace("at 1", "at 2"), f"ok list 2 4\n{nodes}"])
+
+
+def an_opening_with_a_batch_within():
+    """An opening that is held up behind its question for the length, while a batch is added."""
+    if not has_strace():
         return
     index = make("appended")
     delayed = ["strace", "-f", "-o", "calls", "-e", "trace=statx", "-e", "inject=statx:delay_exit=1000000:when=2"]
@@ -210,6 +265,54 @@ def readers_opened_within_appends():
     same("a batch within an opening", carry_out(index, "append 1\n40 +node 40\n"), (["ok append 1 4 40"], 0))
     replies, _ = reader.communicate("at 40 s\n")
     same("an opening with a batch within", (replies.splitlines()[:1], reader.returncode), (["ok at 1 0"], 0))
+
+
+def what_a_reader_has_opened():
+    """A run that has opened the file answers the same, whatever other runs then append: one batch, many, and many at once,
+    and also where they upgrade the file."""
+    for words in [[], ["--cache", "3", "--checked"]]:
+        for form in [b"DGRAPH1", b"DGRAPH2"]:
+            index = Path("opened")
+            if form == b"DGRAPH1":
+                shutil.copyfile(FIRST_FORM, index)
+            else:
+                index.unlink(missing_ok=True)
+                same("five changes", carry_out(index, FIVE)[1], 0)
+            more = "".join(f"append 1\n{time} +node {time}\n" for time in range(60, 90))
+            same("thirty batches", carry_out(index, more)[1], 0)
+            name = f"what was opened, {form.decode()}, {words}"
+            same(f"{name}: its form", index.read_bytes()[1:8], form)
+            reader = Run(index, words=words)
+            found = all_answers(reader, 1)
+            same(f"{name}: it is sound", found[0][0].split()[:3], ["ok", "verify", "sound"])
+            batches = [range(100, 101), range(101, 300)]
+            scripts = ["".join(f"append 1\n{time} +node {time}\n" for time in times) for times in batches]
+            scripts.append("append 4000\n" + "".join(f"{time} +node {time}\n" for time in range(300, 4300)))
+            if form == b"DGRAPH1":
+                scripts.insert(1, "upgrade\n")
+            for turn, script in enumerate(scripts, 2):
+                same(f"{name}: what another run adds", carry_out(index, script)[1], 0)
+                same(f"{name}: it answers the same", all_answers(reader, turn), found)
+            reader.ends(name, 0)
+            has(name, index, 5 + 30 + 1 + 199 + 4000)
+
+
+def all_answers(run, turn):
+    """What a run answers of the whole file that it opened, without the numbers of handles: it is asked so for this turn."""
+    answers = [run.ask("verify"), run.ask("tree"), run.ask("plan 20 sne"), run.ask("at 95 s")]
+    for number, instant in enumerate([10, 30, 45, 70, 89]):
+        handle = 5 * (turn - 1) + number + 1
+        given = run.ask(f"at {instant} sne")
+        same("a handle", given[0].split()[:3], ["ok", "at", str(handle)])
+        answers += [given[0].split()[3], run.ask(f"list {handle}")[1:], run.ask(f"release {handle}")[0].split()[:2]]
+    return answers
+
+
+def has_strace():
+    """Whether strace is there, and may trace."""
+    if shutil.which("strace") is None:
+        return False
+    return subprocess.run(["strace", "-o", "calls", "true"], capture_output=True).returncode == 0
 
 
 def as_nobody():
@@ -357,8 +460,8 @@ def a_disk_that_is_full():
 
 def failing_calls():
     """Calls of the system that fail, as strace makes them."""
-    if subprocess.run(["strace", "-o", "calls", "true"], capture_output=True).returncode != 0:
-        print("no strace here: no call of the system fails")
+    if not has_strace():
+        print("no strace here: no call of the system fails or is held up, and none is counted")
         return
 
     def failing(call, error, when=1, only=(), index=None):
@@ -400,11 +503,10 @@ def failing_calls():
 def calls_of_commands():
     """What commands ask of the system. A retrieval reads each column that it enters and that has bytes, once. A batch looks
     at the file before each of its two parts and at what it has left behind them, and the first one takes the lock."""
-    if subprocess.run(["strace", "-o", "calls", "true"], capture_output=True).returncode != 0:
+    if not has_strace():
         return
     index = Path("counted")
-    history = "create 2 2 intersection\nload 5\n10 +node 1\n20 +node 2\n30 +edge 5 1 2 dir\n40 nset 1 name A\n50 -edge 5\n"
-    same("five changes", carry_out(index, history), (["ok create", "ok load 5 5 50"], 0))
+    same("five changes", carry_out(index, FIVE), (["ok create", "ok load 5 5 50"], 0))
     counted = ["flock", "statx", "pread64", "pwrite64", "fsync", "fdatasync"]
     run = Run(index, ["strace", "-f", "-o", "calls", "-e", "trace=" + ",".join(counted)])
     reading = [
@@ -454,6 +556,8 @@ def main():
     a_run_behind_another()
     readers_beside_a_writer()
     readers_opened_within_appends()
+    an_opening_with_a_batch_within()
+    what_a_reader_has_opened()
     a_file_in_a_folder_that_may_not_be_read()
     a_file_that_may_not_be_written()
     a_file_that_is_changed()
