@@ -25,7 +25,7 @@ use Rattle.dg_index.specs.FileOfHistory.{Segment, Stored, StoredList, directory}
 use Rattle.dg_index.specs.Hierarchy.{leaves, numbers}
 use Rattle.dg_index.specs.IndexGrowth.{IsDue, index_with, name_total}
 use Rattle.dg_index.specs.IndexRecords.{deltas_due, lists_due}
-use Rattle.dg_index.specs.OpenedIndex.{Opening, delta_count, directory_of, earliest_in, event_total, first_in, keys_next, laid, last_list, last_or, list_count, list_bytes_max, list_row, may_be_listed, record_row, rows_in, total, within}
+use Rattle.dg_index.specs.OpenedIndex.{Opening, delta_count, directory_of, earliest_in, event_total, first_in, keys_next, laid, last_list, last_or, list_count, list_row, may_be_listed, record_row, rows_in, total, within}
 use Rattle.dg_index.proofs.HierarchyCounts.{numbers_length}
 use Rattle.dg_index.proofs.HierarchyStability.{leaves_more}
 use Rattle.dg_index.proofs.OpenedIndexHistories.{earliest_more, first_more, last_list_more}
@@ -48,14 +48,13 @@ no_times t [] piece none = ap (last_or t) none
 no_times t (d ∷ deltas) piece none = no_times t deltas piece none
 
 -- lists that may stand end by the last time
-listed_ends : (most first last : ℕ) (lists : List StoredList) → first ≤ last → may_be_listed most first last (map list_row lists) ≡ true → last_in_rows first (map list_row lists) ≤ last
-listed_ends most first last [] le may = le
-listed_ends most first last (x ∷ lists) le may =
-    let parts = and_parts (within most first last (total (list_row x).lengths) (list_row x).ends) (may_be_listed most x.last last (map list_row lists)) may in
+listed_ends : (first last : ℕ) (lists : List StoredList) → first ≤ last → may_be_listed first last (map list_row lists) ≡ true → last_in_rows first (map list_row lists) ≤ last
+listed_ends first last [] le may = le
+listed_ends first last (x ∷ lists) le may =
+    let parts = and_parts (within first last (list_row x).ends) (may_be_listed x.last last (map list_row lists)) may in
     let more = and_parts (nat_le first x.first) _ parts.0 in
     let rest = and_parts (nat_le x.first x.last) _ more.1 in
-    let ends = and_parts (nat_le x.last last) _ rest.1 in
-    listed_ends most x.last last lists (leb-true x.last last ends.0) parts.1
+    listed_ends x.last last lists (leb-true x.last last rest.1) parts.1
 
 six_true : (a b c d e f : Bool) → a ≡ true → b ≡ true → c ≡ true → d ≡ true → e ≡ true → f ≡ true → (a && (b && (c && (d && (e && f))))) ≡ true
 six_true a b c d e f ta tb tc td te tf =
@@ -63,10 +62,10 @@ six_true a b c d e f ta tb tc td te tf =
     ∙ ap (λ t. t && (e && f)) td ∙ ap (λ t. t && f) te ∙ tf
 
 -- what is left behind some of the events, of which lists are cut that the last time ends
-left_goes_on : (most f last t n : ℕ) (lists : List StoredList) (tail : List Event) → RisesFrom f tail → last_time_from f tail ≡ last → may_be_listed most f last (map list_row lists) ≡ true
+left_goes_on : (f last t n : ℕ) (lists : List StoredList) (tail : List Event) → RisesFrom f tail → last_time_from f tail ≡ last → may_be_listed f last (map list_row lists) ≡ true
     → BeginsBehind (last_in_rows 0 (map list_row lists)) (drop n tail) → last + 1 ≤ t
     → RisesFrom (last_in_rows f (map list_row lists)) (drop n tail) × (last_time_from (last_in_rows f (map list_row lists)) (drop n tail) ≤ t)
-left_goes_on most f last t n lists tail r is may behind late =
+left_goes_on f last t n lists tail r is may behind late =
     (from_first (last_in_rows f (map list_row lists)) (last_time_from f (take n tail)) (drop n tail) (begins lists behind) (rest_rises f n tail r), ends (drop n tail) refl)
   where
     begins : (lists : List StoredList) → BeginsBehind (last_in_rows 0 (map list_row lists)) (drop n tail) → BeginsBehind (last_in_rows f (map list_row lists)) (drop n tail)
@@ -74,7 +73,7 @@ left_goes_on most f last t n lists tail r is may behind late =
     begins (x ∷ lists) b = b
 
     ends : (left : List Event) → left ≡ drop n tail → last_time_from (last_in_rows f (map list_row lists)) left ≤ t
-    ends [] none = omega (arith, listed_ends most f last lists (omega (arith, rises_last f tail r, is)) may, late)
+    ends [] none = omega (arith, listed_ends f last lists (omega (arith, rises_last f tail r, is)) may, late)
     ends (e ∷ left) some =
         let long : 1 ≤ length (drop n tail) = omega (arith, ap length some) in
         omega (arith, ap (last_time_from (last_in_rows f (map list_row lists))) some, rest_ends f n tail r (last_in_rows f (map list_row lists)) long, is, late)
@@ -103,7 +102,7 @@ module _ (o : Opening) (recent events : List Event) (m : MayFollow o recent even
           (le-leb 1 s.events (omega (arith, b.events_are, m.some))) (le-leb s.events BATCH_LINES_MAX (omega (arith, b.events_are, m.few))) (le-leb (event_total o.batches + s.events) EVENTS_MAX (omega (arith, b.events_are, m.room)))
           (le-leb (earliest_in 0 o.batches) s.first (omega (arith, b.first_is, m.early))) (le-leb s.first s.last (omega (arith, b.first_is, b.last_is, m.later))) (le-leb s.last TIME_MAX (omega (arith, b.last_is, m.last)));
       few_names = omega (arith, few, ap length b.names_are);
-      listed = (λ i. may_be_listed (list_bytes_max o.params.l) (floor_of o (b.first_is i)) (b.last_is i) (map list_row s.lists)) ∙ b.listed;
+      listed = (λ i. may_be_listed (floor_of o (b.first_is i)) (b.last_is i) (map list_row s.lists)) ∙ b.listed;
       deltas_unheard = b.deltas_unheard;
       unheard = b.unheard;
     }
@@ -142,7 +141,7 @@ module _ (o : Opening) (recent events : List Event) (m : MayFollow o recent even
     new_goes_on t late =
         let n : ℕ = leaves o.params (event_total o.batches + length events) * o.params.l - leaves o.params (event_total o.batches) * o.params.l in
         let left : List Event = recent_behind o.params (event_total o.batches) recent events in
-        let on = left_goes_on (list_bytes_max o.params.l) (floor_of o (first_time_of events)) (last_time_from 0 events) t n s.lists (recent ++ events) tail_rises tail_last b.listed b.behind
+        let on = left_goes_on (floor_of o (first_time_of events)) (last_time_from 0 events) t n s.lists (recent ++ events) tail_rises tail_last b.listed b.behind
         (omega (arith, earliest_more 0 o.batches (directory_of s).batch, b.last_is, late)) in
         record {
           rises = subst (λ (x : ℕ). RisesFrom x left) (sym (new_floor t)) on.0;

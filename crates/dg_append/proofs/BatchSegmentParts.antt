@@ -86,8 +86,8 @@ module _ (o : Opening) (p : Params) (before : ℕ) (params : p ≡ o.params) (co
         subst (λ (x : Params × ℕ). AreOlderSteps x.0 past (leaves x.0 (x.1 + length events)) steps) (let e : (o.params, event_total o.batches) ≡ (p, before) = λ i. (sym params i, sym counted i) in e) is.steps_are
 
 -- the last time of the recent events and those behind them is that of these
-pub listed_by : (most floor : ℕ) (recent events : List Event) (rows : List Row) → 1 ≤ length events → may_be_listed most floor (last_time_from floor (recent ++ events)) rows ≡ true → may_be_listed most floor (last_time_from 0 events) rows ≡ true
-listed_by most floor recent events rows some may = ap (λ t. may_be_listed most floor t rows) (sym (last_of_both floor recent events some)) ∙ may
+pub listed_by : (floor : ℕ) (recent events : List Event) (rows : List Row) → 1 ≤ length events → may_be_listed floor (last_time_from floor (recent ++ events)) rows ≡ true → may_be_listed floor (last_time_from 0 events) rows ≡ true
+listed_by floor recent events rows some may = ap (λ t. may_be_listed floor t rows) (sym (last_of_both floor recent events some)) ∙ may
 
 -- ---- messages
 

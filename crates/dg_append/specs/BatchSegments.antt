@@ -27,7 +27,7 @@ use Rattle.dg_index.specs.FileOfHistory.{Segment, segment_of, stored_in}
 use Rattle.dg_index.specs.ImageOfHistory.{IsImageOf}
 use Rattle.dg_index.specs.IndexGrowth.{name_total}
 use Rattle.dg_index.specs.IndexRecords.{recent_of}
-use Rattle.dg_index.specs.OpenedIndex.{AreUnheard, Opening, delta_count, earliest_in, event_total, list_count, list_bytes_max, list_row, may_be_listed, may_be_named}
+use Rattle.dg_index.specs.OpenedIndex.{AreUnheard, Opening, delta_count, earliest_in, event_total, list_count, list_row, may_be_listed, may_be_named}
 use Rattle.dg_plan.specs.IndexGraph.{arcs_of}
 use Rattle.dg_plan.specs.Walks.{AreSingles}
 use Rattle.dg_retrieval.specs.KeptGraph.{record_edges}
@@ -79,7 +79,7 @@ pub record IsSegmentBehind (o : Opening) (names : ListOf (ListOf ℕ)) (recent e
   pub names_are : s.names ≡ names
   pub lists : length s.lists ≡ list_count o (length events)
   pub deltas : length s.deltas ≡ delta_count o (length events)
-  pub listed : may_be_listed (list_bytes_max o.params.l) (floor_of o (first_time_of events)) (last_time_from 0 events) (map list_row s.lists) ≡ true
+  pub listed : may_be_listed (floor_of o (first_time_of events)) (last_time_from 0 events) (map list_row s.lists) ≡ true
   pub behind : BeginsBehind (last_in_rows 0 (map list_row s.lists)) (recent_behind o.params (event_total o.batches) recent events)
   pub deltas_unheard : AreUnheard s.deltas
   pub unheard : is_wide o.form ≡ false → AreUnheard (stored_in s)

@@ -1,5 +1,5 @@
--- The times of the lists that are cut off do not fall, and their columns are no longer than those of so many events.
-use Rattle.std.proofs.Common.{◌≡◌, ℕ, zero, suc, ◌+◌, ◌*◌, ◌≤◌, Bool, true, false, ◌&&◌, List, [], ◌∷◌, ◌++◌, Some, length, map, take, drop, nat_le, refl, sym, ap, subst, ◌∙◌, arith, add-mul, take-append-drop, length-drop, length-take}
+-- The times of the lists that are cut off do not fall.
+use Rattle.std.proofs.Common.{◌≡◌, ℕ, zero, suc, ◌+◌, ◌*◌, ◌≤◌, Bool, true, ◌&&◌, List, [], ◌∷◌, ◌++◌, Some, length, map, take, drop, nat_le, refl, sym, ap, subst, ◌∙◌, arith, add-mul, take-append-drop, length-drop}
 use Rattle.std.proofs.lemmas.Bool.{and_from, le-leb}
 use Rattle.std.proofs.lemmas.List.{drop-drop}
 use Rattle.dg_graph.specs.declared.event.Event.{Event}
@@ -7,11 +7,9 @@ use Rattle.dg_history.specs.EventTimes.{RisesFrom}
 use Rattle.dg_history.specs.History.{last_time_from}
 use Rattle.dg_history.proofs.EventTimes.{last_two, rises_last, rises_parts}
 use Rattle.dg_index.specs.Hierarchy.{numbers}
-use Rattle.dg_index.specs.OpenedIndex.{lengths_of, list_bytes_max, list_row, may_be_listed, total, within}
-use Rattle.dg_index.specs.FileOfHistory.{StoredList, stored}
-use Rattle.dg_index.specs.IndexRecords.{Events}
-use Rattle.dg_index.proofs.ListBytes.{list_fits}
-use Rattle.dg_build.specs.SpelledRecords.{last_in_rows, stored_cut, written_columns}
+use Rattle.dg_index.specs.OpenedIndex.{list_row, may_be_listed, within}
+use Rattle.dg_index.specs.FileOfHistory.{StoredList}
+use Rattle.dg_build.specs.SpelledRecords.{last_in_rows, stored_cut}
 use Rattle.dg_build.proofs.SpelledRecordLists.{list_there}
 
 -- so many lists of l events, one behind another
@@ -26,12 +24,7 @@ cuts_are messages l a (suc n) tail =
     ap (λ (r : List StoredList). stored_cut messages (take l (drop (a * l) tail)) ∷ r)
     (cuts_are messages l (a + 1) n tail ∙ ap (λ m. cuts messages l n (drop m tail)) (let e : (a + 1) * l ≡ a * l + l = omega (arith, add-mul a 1 l) in e) ∙ ap (cuts messages l n) (sym (drop-drop l (a * l) tail)))
 
--- the first events have at most so many bytes as a list of so many takes
-front_fits : (messages : Bool) (l : ℕ) (events : List Event) → total (lengths_of (written_columns messages (stored (Events (take l events))))) ≤ list_bytes_max l
-front_fits true l events = omega (arith, list_fits (take l events), length-take l events)
-front_fits false l events = omega (arith, list_fits (take l events), length-take l events)
-
-listed : (messages : Bool) (l n floor : ℕ) (tail : List Event) → 1 ≤ l → n * l ≤ length tail → RisesFrom floor tail → may_be_listed (list_bytes_max l) floor (last_time_from floor tail) (map list_row (cuts messages l n tail)) ≡ true
+listed : (messages : Bool) (l n floor : ℕ) (tail : List Event) → 1 ≤ l → n * l ≤ length tail → RisesFrom floor tail → may_be_listed floor (last_time_from floor tail) (map list_row (cuts messages l n tail)) ≡ true
 unfolding cuts
 listed messages l zero floor tail some fits r = refl
 listed messages zero (suc n) floor tail some fits r = absurd (omega (arith, some))
@@ -43,19 +36,15 @@ listed messages (suc l) (suc n) floor (e ∷ es) some fits r =
     let front : List Event = take l es in
     let back : List Event = drop l es in
     let last : ℕ = last_time_from e.time front in
-    let most : ℕ = list_bytes_max (suc l) in
-    let bytes : ℕ = total (lengths_of (written_columns messages (stored (Events (e ∷ front))))) in
     let parts : front ++ back ≡ es = take-append-drop l es in
     let r2 = rises_parts e.time front back (subst (RisesFrom e.time) (sym parts) r.1) in
     let end : last_time_from e.time es ≡ last_time_from last back = ap (last_time_from e.time) (sym parts) ∙ last_two e.time front back in
     let here : e.time ≤ last = rises_last e.time front r2.0 in
     let there : last ≤ last_time_from e.time es = omega (arith, rises_last last back r2.1, end) in
-    let short : nat_le bytes most ≡ true = le-leb bytes most (front_fits messages (suc l) (e ∷ es)) in
-    and_from (within most floor (last_time_from e.time es) bytes (Some (record { first = e.time; last = last }))) (may_be_listed most last (last_time_from e.time es) (map list_row (cuts messages (suc l) n back)))
-    (and_from (nat_le floor e.time) (nat_le e.time last && (nat_le last (last_time_from e.time es) && nat_le bytes most)) (le-leb floor e.time r.0)
-    (and_from (nat_le e.time last) (nat_le last (last_time_from e.time es) && nat_le bytes most) (le-leb e.time last here)
-    (and_from (nat_le last (last_time_from e.time es)) (nat_le bytes most) (le-leb last (last_time_from e.time es) there) short)))
-    (ap (λ m. may_be_listed most last m (map list_row (cuts messages (suc l) n back))) end
+    and_from (within floor (last_time_from e.time es) (Some (record { first = e.time; last = last }))) (may_be_listed last (last_time_from e.time es) (map list_row (cuts messages (suc l) n back)))
+    (and_from (nat_le floor e.time) (nat_le e.time last && nat_le last (last_time_from e.time es)) (le-leb floor e.time r.0)
+    (and_from (nat_le e.time last) (nat_le last (last_time_from e.time es)) (le-leb e.time last here) (le-leb last (last_time_from e.time es) there)))
+    (ap (λ m. may_be_listed last m (map list_row (cuts messages (suc l) n back))) end
     ∙ listed messages (suc l) n last back some (omega (arith, fits, add-mul n 1 (suc l), length-drop l es)) r2.1)
 
 -- no event behind the lists is earlier than the last of them
@@ -77,9 +66,9 @@ behind messages (suc l) (suc n) floor (e ∷ es) some fits r =
 
 -- the lists of a segment over any events whose times do not fall
 pub lists_may : (messages : Bool) (l n floor : ℕ) (tail : List Event) (out : List StoredList) → 1 ≤ l → n * l ≤ length tail → RisesFrom floor tail → out ≡ map (list_there messages l tail) (numbers 0 n)
-    → may_be_listed (list_bytes_max l) floor (last_time_from floor tail) (map list_row out) ≡ true
+    → may_be_listed floor (last_time_from floor tail) (map list_row out) ≡ true
 lists_may messages l n floor tail out some fits r is =
-    ap (λ (x : List StoredList). may_be_listed (list_bytes_max l) floor (last_time_from floor tail) (map list_row x)) (is ∙ cuts_are messages l 0 n tail ∙ ap (λ m. cuts messages l n (drop m tail)) (let e : 0 * l ≡ 0 = omega arith in e))
+    ap (λ (x : List StoredList). may_be_listed floor (last_time_from floor tail) (map list_row x)) (is ∙ cuts_are messages l 0 n tail ∙ ap (λ m. cuts messages l n (drop m tail)) (let e : 0 * l ≡ 0 = omega arith in e))
     ∙ listed messages l n floor tail some fits r
 
 -- and the events behind them

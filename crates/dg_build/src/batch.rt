@@ -10,7 +10,7 @@ ghost use Rattle.dg_columns.specs.NamesInRange.{NamesFit};
 ghost use Rattle.dg_index.specs.Hierarchy.{leaves, numbers};
 ghost use Rattle.dg_index.specs.IndexRecords.{Events, deltas_due, recent_of, record_among};
 ghost use Rattle.dg_index.specs.FileOfHistory.{segment_of, stored, stored_in};
-ghost use Rattle.dg_index.specs.OpenedIndex.{AreUnheard, list_bytes_max, list_row, may_be_listed};
+ghost use Rattle.dg_index.specs.OpenedIndex.{AreUnheard, list_row, may_be_listed};
 ghost use Rattle.dg_build.specs.OlderSteps.{AreOlderSteps, IsTopDue, older_in_time};
 ghost use Rattle.dg_build.specs.SpelledRecords.{IsFaultBelow, last_in_rows, stored_cut, written_columns, written_segment};
 ghost use Rattle.dg_build.specs.GivenDeltas.{AddsSuch, AreGiven, IsFaultOfSuch};
@@ -135,7 +135,7 @@ pub fn build(
     ensures lists { IfOk result (λ s. length s.lists ≡ leaves params (before + length events.now) - leaves params before) }
     ensures deltas { IfOk result (λ s. length s.deltas ≡ length (deltas_due params.k (leaves params before) (leaves params (before + length events.now)))) }
     ensures times { IfOk result (λ s. (floor : ℕ) → RisesFrom floor (recent.now ++ events.now)
-        → may_be_listed (list_bytes_max params.l) floor (last_time_from floor (recent.now ++ events.now)) (map list_row s.lists) ≡ true) }
+        → may_be_listed floor (last_time_from floor (recent.now ++ events.now)) (map list_row s.lists) ≡ true) }
     ensures behind { IfOk result (λ s. (floor : ℕ) → RisesFrom floor (recent.now ++ events.now)
         → RisesFrom (last_in_rows floor (map list_row s.lists)) (drop ((leaves params (before + length events.now) - leaves params before) * params.l) (recent.now ++ events.now))) }
     ensures is { IfOk result (λ s. (past : List Event) → length past ≡ before → recent.now ≡ recent_of params past

@@ -9,7 +9,7 @@ use Rattle.dg_history.specs.declared.node.Key.{Key}
 use Rattle.dg_text.specs.Names.{are_new}
 use Rattle.dg_history.specs.History.{is_wide}
 use Rattle.dg_index.specs.ImageText.{four_at, eight_at, names_at}
-use Rattle.dg_index.specs.OpenedIndex.{may_be_named, Opening, Opened, Directory, are_unheard, list_count, delta_count, keys_next, lengths_size, list_at, list_size, record_at, rows_at, rows_in, directory_with, may_follow, list_bytes_max, may_be_listed, may_stand, if_it_may, event_total, earliest_in, last_list, first_in}
+use Rattle.dg_index.specs.OpenedIndex.{may_be_named, Opening, Opened, Directory, are_unheard, list_count, delta_count, keys_next, lengths_size, list_at, list_size, record_at, rows_at, rows_in, directory_with, may_follow, may_be_listed, may_stand, if_it_may, event_total, earliest_in, last_list, first_in}
 use Rattle.dg_index.specs.declared.entry.BatchEntry.{BatchEntry}
 use Rattle.dg_index.specs.declared.entry.Row.{Row}
 use Rattle.dg_index.proofs.IndexRecordColumns.{Each}
@@ -110,7 +110,7 @@ module _ (x : Opened) (columns : ℕ) (bytes : List ℕ) where
           let D = delta_count x.index (eight_at bytes 0) in
           let d : Directory = said form_of L D bytes t in
           due_by le t n ∙ not_named d (has_rows form_of L D bytes t.1) (bytes_of_rows (rows_in d) == columns) (may_follow (event_total x.index.batches) (earliest_in 0 x.index.batches) d.batch) (may_be_named x.names d.names)
-          (may_be_listed (list_bytes_max x.index.params.l) (last_list (first_in d.batch.ends.first x.index.batches) x.index.records) d.batch.ends.last d.lists && are_unheard d.deltas) (wrong t n)
+          (may_be_listed (last_list (first_in d.batch.ends.first x.index.batches) x.index.records) d.batch.ends.last d.lists && are_unheard d.deltas) (wrong t n)
 
   pub due_stale : 28 ≤ length bytes → ((t : List (List ℕ) × ℕ) → names_at (four_at bytes 24) bytes 28 ≡ Some t → are_new x.names t.0 ≡ false) → directory_due x columns bytes ≡ None
   due_stale le stale = due_unnamed le (λ t n. ap (λ b. b && nat_le (length x.names + length t.0) NAMES_MAX) (stale t n))
@@ -186,7 +186,7 @@ module _ (x : Opened) (columns : ℕ) (bytes : List ℕ) (wide : Bool) (wide_is 
   is_named = may_be_named x.names taken.names
 
   abbrev is_listed : Bool
-  is_listed = may_be_listed (list_bytes_max x.index.params.l) (last_list (first_in (eight_at bytes 8) x.index.batches) x.index.records) (eight_at bytes 16) (rows_at (list_at wide) (list_size wide) lists bytes (end + 4))
+  is_listed = may_be_listed (last_list (first_in (eight_at bytes 8) x.index.batches) x.index.records) (eight_at bytes 16) (rows_at (list_at wide) (list_size wide) lists bytes (end + 4))
 
   abbrev is_unheard : Bool
   is_unheard = are_unheard (rows_at (record_at wide) (lengths_size wide) deltas bytes (end + 8 + list_size wide * lists))
@@ -220,16 +220,16 @@ module _ (x : Opened) (columns : ℕ) (bytes : List ℕ) (wide : Bool) (wide_is 
   pub due_measured : (rows : List Row) → rows ≡ rows_in (said wide lists deltas bytes (taken.names, end)) → (bytes_of_rows rows == columns) ≡ false → directory_due x columns bytes ≡ None
   due_measured rows r e = due_at ∙ not_measured (said wide lists deltas bytes (taken.names, end)) ok fits follows is_named (is_listed && is_unheard) (ap (λ (l : List Row). bytes_of_rows l == columns) (sym r) ∙ e)
 
-  listed_same : (rows : List Row) (most first : ℕ) → most ≡ list_bytes_max x.index.params.l → rows ≡ rows_in (said wide lists deltas bytes (taken.names, end)) → first ≡ last_list (first_in batch.ends.first x.index.batches) x.index.records
-      → may_be_listed (list_bytes_max x.index.params.l) (last_list (first_in (eight_at bytes 8) x.index.batches) x.index.records) (eight_at bytes 16) (rows_at (list_at wide) (list_size wide) lists bytes (end + 4)) ≡ may_be_listed most first batch.ends.last (take lists rows)
-  listed_same rows most first m r f =
+  listed_same : (rows : List Row) (first : ℕ) → rows ≡ rows_in (said wide lists deltas bytes (taken.names, end)) → first ≡ last_list (first_in batch.ends.first x.index.batches) x.index.records
+      → may_be_listed (last_list (first_in (eight_at bytes 8) x.index.batches) x.index.records) (eight_at bytes 16) (rows_at (list_at wide) (list_size wide) lists bytes (end + 4)) ≡ may_be_listed first batch.ends.last (take lists rows)
+  listed_same rows first r f =
       let from : first ≡ last_list (first_in (eight_at bytes 8) x.index.batches) x.index.records = f ∙ ap (λ (b : BatchEntry). last_list (first_in b.ends.first x.index.batches) x.index.records) batch_is in
       let last : batch.ends.last ≡ eight_at bytes 16 = ap (λ (b : BatchEntry). b.ends.last) batch_is in
       let all = first_rows wide lists bytes (end + 4) _ rows r in
-      λ i. may_be_listed (sym m i) (sym from i) (sym last i) (sym all i)
+      λ i. may_be_listed (sym from i) (sym last i) (sym all i)
 
-  pub due_listed : (rows : List Row) (most first : ℕ) → most ≡ list_bytes_max x.index.params.l → rows ≡ rows_in (said wide lists deltas bytes (taken.names, end)) → first ≡ last_list (first_in batch.ends.first x.index.batches) x.index.records → may_be_listed most first batch.ends.last (take lists rows) ≡ false → directory_due x columns bytes ≡ None
-  due_listed rows most first m r f e = due_at ∙ not_listed (said wide lists deltas bytes (taken.names, end)) ok fits follows is_named (is_listed && is_unheard) (ap (λ b. b && is_unheard) (listed_same rows most first m r f ∙ e))
+  pub due_listed : (rows : List Row) (first : ℕ) → rows ≡ rows_in (said wide lists deltas bytes (taken.names, end)) → first ≡ last_list (first_in batch.ends.first x.index.batches) x.index.records → may_be_listed first batch.ends.last (take lists rows) ≡ false → directory_due x columns bytes ≡ None
+  due_listed rows first r f e = due_at ∙ not_listed (said wide lists deltas bytes (taken.names, end)) ok fits follows is_named (is_listed && is_unheard) (ap (λ b. b && is_unheard) (listed_same rows first r f ∙ e))
 
   unheard_same : (rows : List Row) → rows ≡ rows_in (said wide lists deltas bytes (taken.names, end))
       → are_unheard (rows_at (record_at wide) (lengths_size wide) deltas bytes (end + 8 + list_size wide * lists)) ≡ are_unheard (take deltas (drop lists rows))
@@ -239,17 +239,17 @@ module _ (x : Opened) (columns : ℕ) (bytes : List ℕ) (wide : Bool) (wide_is 
   due_unheard rows r e =
       due_at ∙ not_listed (said wide lists deltas bytes (taken.names, end)) ok fits follows is_named (is_listed && is_unheard) (ap (λ b. is_listed && b) (unheard_same rows r ∙ e) ∙ and_false is_listed)
 
-  pub due_taken : (found : FoundDirectory) (most first : ℕ) → most ≡ list_bytes_max x.index.params.l → 2 ≤ x.index.params.l → event_total x.index.batches + batch.events ≤ EVENTS_MAX → length x.names + count ≤ NAMES_MAX → found.batch ≡ batch → found.rows.items ≡ rows_in (said wide lists deltas bytes (taken.names, end))
+  pub due_taken : (found : FoundDirectory) (first : ℕ) → 2 ≤ x.index.params.l → event_total x.index.batches + batch.events ≤ EVENTS_MAX → length x.names + count ≤ NAMES_MAX → found.batch ≡ batch → found.rows.items ≡ rows_in (said wide lists deltas bytes (taken.names, end))
       → found.keys.items ≡ keys_next x.index batch.events → has_rows wide lists deltas bytes end ≡ true → may_follow (event_total x.index.batches) (earliest_in 0 x.index.batches) batch ≡ true → (bytes_of_rows found.rows.items == columns) ≡ true
-      → first ≡ last_list (first_in batch.ends.first x.index.batches) x.index.records → may_be_listed most first batch.ends.last (take lists found.rows.items) ≡ true → are_unheard (take deltas (drop lists found.rows.items)) ≡ true → TakesDirectory x.index columns bytes x.names new found
-  due_taken found most first m large few room fb r k tables follow measured f listed unheard =
+      → first ≡ last_list (first_in batch.ends.first x.index.batches) x.index.records → may_be_listed first batch.ends.last (take lists found.rows.items) ≡ true → are_unheard (take deltas (drop lists found.rows.items)) ≡ true → TakesDirectory x.index columns bytes x.names new found
+  due_taken found first large few room fb r k tables follow measured f listed unheard =
       let named : may_be_named x.names taken.names ≡ true = and_from (are_new x.names taken.names) _ taken.fresh (le-leb (length x.names + length taken.names) NAMES_MAX (omega (arith, long, room))) in
       let ends = and_parts (length bytes == end + 8 + list_size wide * lists + lengths_size wide * deltas + lengths_size wide) _ tables in
       let all = ap length taken.gained ∙ length-append x.names taken.names in
       let number : found.batch.names ≡ count = ap (λ (b : BatchEntry). b.names) (fb ∙ batch_is) in
       record {
         directory = said wide lists deltas bytes (taken.names, end);
-        due = due_at ∙ it_stands (said wide lists deltas bytes (taken.names, end)) ok fits follows is_named (is_listed && is_unheard) tables (ap (λ (l : List Row). bytes_of_rows l == columns) (sym r) ∙ measured) (follows_same ∙ follow) named (and_from is_listed is_unheard (listed_same found.rows.items most first m r f ∙ listed) (unheard_same found.rows.items r ∙ unheard));
+        due = due_at ∙ it_stands (said wide lists deltas bytes (taken.names, end)) ok fits follows is_named (is_listed && is_unheard) tables (ap (λ (l : List Row). bytes_of_rows l == columns) (sym r) ∙ measured) (follows_same ∙ follow) named (and_from is_listed is_unheard (listed_same found.rows.items first r f ∙ listed) (unheard_same found.rows.items r ∙ unheard));
         batch = fb ∙ sym batch_same;
         rows = r;
         keys = k ∙ ap (λ (b : BatchEntry). keys_next x.index b.events) (sym fb);
@@ -262,10 +262,10 @@ module _ (x : Opened) (columns : ℕ) (bytes : List ℕ) (wide : Bool) (wide_is 
             let rows : List Row = rows_in (said wide lists deltas bytes (taken.names, end)) in
             let from : eight_at bytes 8 ≡ found.batch.ends.first = ap (λ (b : BatchEntry). b.ends.first) (sym (fb ∙ batch_is)) in
             let last : eight_at bytes 16 ≡ found.batch.ends.last = ap (λ (b : BatchEntry). b.ends.last) (sym (fb ∙ batch_is)) in
-            let read : may_be_listed (list_bytes_max o.params.l) (last_list (first_in (eight_at bytes 8) o.batches) o.records) (eight_at bytes 16) rows ≡ true =
-            listed_read wide (list_bytes_max o.params.l) (last_list (first_in (eight_at bytes 8) o.batches) o.records) (eight_at bytes 16) (rows_at (list_at wide) (list_size wide) lists bytes (end + 4)) deltas bytes (end + 8 + list_size wide * lists) (end + 8 + list_size wide * lists + lengths_size wide * deltas)
-            (listed_same found.rows.items most first m r f ∙ listed) in
-            (λ i. may_be_listed (list_bytes_max o.params.l) (last_list (first_in (sym from i) o.batches) o.records) (sym last i) (r i)) ∙ read;
+            let read : may_be_listed (last_list (first_in (eight_at bytes 8) o.batches) o.records) (eight_at bytes 16) rows ≡ true =
+            listed_read wide (last_list (first_in (eight_at bytes 8) o.batches) o.records) (eight_at bytes 16) (rows_at (list_at wide) (list_size wide) lists bytes (end + 4)) deltas bytes (end + 8 + list_size wide * lists) (end + 8 + list_size wide * lists + lengths_size wide * deltas)
+            (listed_same found.rows.items first r f ∙ listed) in
+            (λ i. may_be_listed (last_list (first_in (sym from i) o.batches) o.records) (sym last i) (r i)) ∙ read;
         counted = omega (arith, all, long, number);
         few = omega (arith, all, long, room);
         long = omega (arith, eqb-true (length bytes) (end + 8 + list_size wide * lists + lengths_size wide * deltas + lengths_size wide) ends.0, least_size wide, names_past count bytes 28 (taken.names, end) taken.read);

@@ -4,7 +4,7 @@ use Rattle.dg_text.specs.declared.limits.TheConstants.{NAMES_MAX}
 use Rattle.dg_text.specs.Names.{number_of, is_name, are_new}
 use Rattle.dg_history.specs.declared.limits.TheConstants.{FILE_BYTES_MAX}
 use Rattle.dg_index.specs.ImageText.{eight_at, name_at, names_at}
-use Rattle.dg_index.specs.OpenedIndex.{Opening, Opened, Directory, directory_in, earliest_in, event_total, first_in, if_it_may, keys_next, last_list, list_bytes_max, may_be_listed, may_follow, may_stand, rows_in}
+use Rattle.dg_index.specs.OpenedIndex.{Opening, Opened, Directory, directory_in, earliest_in, event_total, first_in, if_it_may, keys_next, last_list, may_be_listed, may_follow, may_stand, rows_in}
 use Rattle.dg_catalogue.specs.Additions.{bytes_of_rows, Suits}
 use Rattle.dg_directory.specs.declared.found.FoundDirectory.{FoundDirectory}
 use Rattle.dg_directory.specs.declared.lengths.Lengths.{Lengths}
@@ -60,7 +60,7 @@ pub record TakesDirectory (o : Opening) (columns : ℕ) (bytes : List ℕ) (old 
   pub suits : Suits f.keys.items f.rows.items
   pub measured : bytes_of_rows f.rows.items ≡ columns
   pub follows : may_follow (event_total o.batches) (earliest_in 0 o.batches) f.batch ≡ true
-  pub listed : may_be_listed (list_bytes_max o.params.l) (last_list (first_in f.batch.ends.first o.batches) o.records) f.batch.ends.last f.rows.items ≡ true
+  pub listed : may_be_listed (last_list (first_in f.batch.ends.first o.batches) o.records) f.batch.ends.last f.rows.items ≡ true
   pub counted : length new ≡ length old + f.batch.names
   pub few : length new ≤ NAMES_MAX
   pub long : 60 ≤ length bytes

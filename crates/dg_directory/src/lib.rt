@@ -15,5 +15,5 @@ pub use found::FoundDirectory;
 pub use lengths::{LENGTHS_BYTES, Lengths, MARKER_BYTES};
 pub use names_read::{DirectoryFault, NAMES_OFFSET, read_names};
 pub use names_written::{NAME_LENGTH_BYTES, NewNames};
-pub use rows_read::{are_unheard, has_rows, is_measured, list_bytes_max, may_be_listed, rows_in};
+pub use rows_read::{are_unheard, has_rows, is_measured, may_be_listed, rows_in};
 pub use rows_written::{put_count, put_number, put_row, put_table};

@@ -1,8 +1,8 @@
 //! The rows of a directory: one for each list, for each delta and for the piece.
 
-ghost use Rattle.std.specs.Prelude.{◌≡◌, ◌≤◌, ◌+◌, ◌*◌, ◌++◌, ◌∷◌, [], ◌==◌, ◌&&◌, drop, length, nat_le, take, IfOk, OnOk};
+ghost use Rattle.std.specs.Prelude.{◌≡◌, ◌≤◌, ◌+◌, ◌*◌, ◌++◌, ◌∷◌, [], ◌==◌, ◌&&◌, drop, length, take, IfOk, OnOk};
 ghost use Rattle.dg_index.specs.ImageText.{four_at};
-ghost use Rattle.dg_index.specs.OpenedIndex.{lengths_at, list_at, list_bytes_max, record_at, rows_at, may_be_listed, total, are_unheard, lengths_size, list_size};
+ghost use Rattle.dg_index.specs.OpenedIndex.{lengths_at, list_at, record_at, rows_at, may_be_listed, are_unheard, lengths_size, list_size};
 ghost use Rattle.dg_catalogue.specs.Additions.{bytes_of_rows};
 ghost use Rattle.dg_directory.specs.RowKinds.{row_at, row_size};
 
@@ -158,29 +158,6 @@ pub fn is_measured(rows: &[Row], columns: u64) -> bool
     left == 0
 }
 
-/// The most bytes that the columns of a list of so many events take together.
-pub fn list_bytes_max(events: u32) -> u64
-    ensures { result ≡ list_bytes_max events }
-{
-    12 + 36 * events as u64
-}
-
-// Whether the lengths come to at most so many bytes.
-fn is_at_most(lengths: PerColumn<u64>, most: u64) -> bool
-    ensures { result ≡ nat_le (total lengths) most }
-{
-    let PerColumn {
-        structure,
-        node_attrs,
-        edge_attrs,
-        transient,
-    } = lengths;
-    structure <= most
-        && node_attrs <= most - structure
-        && edge_attrs <= most - structure - node_attrs
-        && transient <= most - structure - node_attrs - edge_attrs
-}
-
 /// Whether none of so many deltas behind the lists has messages.
 pub fn are_unheard(rows: &[Row], lists: usize, deltas: usize) -> bool
     requires { lists + deltas ≤ length rows.now }
@@ -191,18 +168,14 @@ pub fn are_unheard(rows: &[Row], lists: usize, deltas: usize) -> bool
 }
 
 /// Whether the lists begin at the first time or later and end at the last or earlier, each not before the
-/// one before it, and the columns of each have at most `most` bytes.
-pub fn may_be_listed(rows: &[Row], most: u64, first: u64, last: u64) -> bool
-    ensures { result ≡ may_be_listed most first last rows.now }
+/// one before it. The lengths of their columns are not looked at.
+pub fn may_be_listed(rows: &[Row], first: u64, last: u64) -> bool
+    ensures { result ≡ may_be_listed first last rows.now }
 {
     let mut floor = first;
     for row in rows {
         if let Some(ends) = row.ends {
-            if ends.first < floor
-                || ends.last < ends.first
-                || last < ends.last
-                || !is_at_most(row.lengths, most)
-            {
+            if ends.first < floor || ends.last < ends.first || last < ends.last {
                 return false;
             }
             floor = ends.last;

@@ -8,7 +8,7 @@ use Rattle.dg_graph.specs.declared.limits.TheConstants.{TIME_MAX}
 use Rattle.dg_text.specs.declared.limits.TheConstants.{NAMES_MAX}
 use Rattle.dg_history.specs.declared.node.Key.{Key}
 use Rattle.dg_catalogue.specs.Entries.{Holdings, spanned}
-use Rattle.dg_index.specs.OpenedIndex.{total, Opening, event_total, earliest_in, first_in, last_or, last_list, keys_next, laid, list_bytes_max, may_be_listed, may_follow, span_in, within}
+use Rattle.dg_index.specs.OpenedIndex.{total, Opening, event_total, earliest_in, first_in, last_or, last_list, keys_next, laid, may_be_listed, may_follow, span_in, within}
 use Rattle.dg_index.specs.IndexGrowth.{AreInTurn, columns_in, last_time_in, name_total}
 use Rattle.dg_index.specs.declared.entry.Ends.{Ends}
 use Rattle.dg_index.specs.declared.entry.Entry.{Entry}
@@ -66,15 +66,15 @@ bytes_with o b rows offset used s =
     sum_by-append (λ (e : Key × Entry). total e.1.lengths) o.records (laid offset (keys_next o b.events) rows) ∙ ap (λ n. columns_in o.records + n) (laid_bytes offset (keys_next o b.events) rows s)
 
 -- a later list ends by this time too
-ends_by : (most first t : ℕ) (last : Option ℕ) (rows : List Row) → last_from 0 last ≤ t → may_be_listed most first t rows ≡ true → last_from 0 (listed_after last rows) ≤ t
-ends_by most first t last [] le may = le
-ends_by most first t last (r ∷ rows) le may =
-    let parts = and_parts (within most first t (total r.lengths) r.ends) _ may in
-    ends_by most (last_or first r.ends) t (later last r.ends) rows (by r.ends parts.0) parts.1
+ends_by : (first t : ℕ) (last : Option ℕ) (rows : List Row) → last_from 0 last ≤ t → may_be_listed first t rows ≡ true → last_from 0 (listed_after last rows) ≤ t
+ends_by first t last [] le may = le
+ends_by first t last (r ∷ rows) le may =
+    let parts = and_parts (within first t r.ends) _ may in
+    ends_by (last_or first r.ends) t (later last r.ends) rows (by r.ends parts.0) parts.1
   where
-    by : (ends : Option Ends) → within most first t (total r.lengths) ends ≡ true → last_from 0 (later last ends) ≤ t
+    by : (ends : Option Ends) → within first t ends ≡ true → last_from 0 (later last ends) ≤ t
     by None i = le
-    by (Some e) i = leb-true _ _ (and_parts (nat_le e.last t) _ (and_parts (nat_le e.first e.last) _ (and_parts (nat_le first e.first) _ i).1).1).0
+    by (Some e) i = leb-true _ _ (and_parts (nat_le e.first e.last) _ (and_parts (nat_le first e.first) _ i).1).1
 
 -- what the test of a batch behind others says
 pub record Follows (count earliest : ℕ) (b : BatchEntry) : Type 0 where
@@ -95,7 +95,7 @@ follows_in count earliest b e =
     record { some = leb-true _ _ a.0; few = leb-true _ _ c.0; all = leb-true _ _ d.0; starts = leb-true _ _ f.0; rises = leb-true _ _ g.0; in_time = leb-true _ _ g.1 }
 
 pub noted_sound : (o : Opening) (events names from : ℕ) (last : Option ℕ) (span : Option Ends) (b : BatchEntry) (rows : List Row) (offset used : ℕ) → IndexIsSound o events names from last span → Suits (keys_next o b.events) rows
-    → may_follow (event_total o.batches) (earliest_in 0 o.batches) b ≡ true → may_be_listed (list_bytes_max o.params.l) (last_list (first_in b.ends.first o.batches) o.records) b.ends.last rows ≡ true → name_total o.batches + b.names ≤ NAMES_MAX → o.used ≤ offset → offset + bytes_of_rows rows + 1 ≡ used → used ≤ FILE_BYTES_MAX
+    → may_follow (event_total o.batches) (earliest_in 0 o.batches) b ≡ true → may_be_listed (last_list (first_in b.ends.first o.batches) o.records) b.ends.last rows ≡ true → name_total o.batches + b.names ≤ NAMES_MAX → o.used ≤ offset → offset + bytes_of_rows rows + 1 ≡ used → used ≤ FILE_BYTES_MAX
     → IndexIsSound (with_rows o b rows offset used) (events + b.events) (names + b.names) (b.ends.last + 1) (listed_after last rows) (Some (spanned span b.ends))
 noted_sound o events names from last span b rows offset used s suits follows may few behind is within =
     let f = follows_in (event_total o.batches) (earliest_in 0 o.batches) b follows in
@@ -110,7 +110,7 @@ noted_sound o events names from last span b rows offset used s suits follows may
       earliest = sym (earliest_push 0 o.batches b);
       in_time = omega (arith, f.in_time);
       listed = λ t. last_append t o.records (laid offset (keys_next o b.events) rows) ∙ ap (λ n. last_list n (laid offset (keys_next o b.events) rows)) (s.listed t) ∙ last_laid t last offset (keys_next o b.events) rows suits;
-      late = omega (arith, ends_by (list_bytes_max o.params.l) (last_list (first_in b.ends.first o.batches) o.records) b.ends.last last rows (omega (arith, s.late, s.earliest, f.starts, f.rises)) may);
+      late = omega (arith, ends_by (last_list (first_in b.ends.first o.batches) o.records) b.ends.last last rows (omega (arith, s.late, s.earliest, f.starts, f.rises)) may);
       rise = times_with o last b rows offset s.rise s.listed may;
       span_is = ap (λ (x : Option Ends). Some (spanned x b.ends)) s.span_is ∙ span_push o.batches b;
       kept = kept_laid o b rows offset used s.kept (suits_length (keys_next o b.events) rows suits);

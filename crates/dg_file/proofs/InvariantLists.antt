@@ -15,7 +15,7 @@ use Rattle.dg_index.specs.declared.entry.Row.{Row}
 use Rattle.dg_index.specs.Hierarchy.{numbers, leaves, children}
 use Rattle.dg_index.specs.IndexKeys.{keys_among}
 use Rattle.dg_index.specs.IndexRecords.{lists_due, deltas_of, inner_due, deltas_due_at, deltas_due}
-use Rattle.dg_index.specs.OpenedIndex.{Opening, first_in, keys_next, laid, last_end, last_list, last_or, list_bytes_max, may_be_listed, span_in, total, within}
+use Rattle.dg_index.specs.OpenedIndex.{Opening, first_in, keys_next, laid, last_end, last_list, last_or, may_be_listed, span_in, total, within}
 use Rattle.dg_index.proofs.IndexRecordColumns.{Each, each_append, each_flat, each_map, each_number}
 use Rattle.dg_index.proofs.OpenedIndexHistories.{large_parameters}
 use Rattle.dg_index.proofs.HierarchyStability.{leaves_more}
@@ -36,18 +36,18 @@ span_push (c ∷ batches) b = λ i. Some (record { first = c.ends.first; last = 
 
 -- ---- the times of the lists
 
-begins : (most t last bytes : ℕ) (ends : Option Ends) → within most t last bytes ends ≡ true → BeginsFrom t ends
-begins most t last bytes None e = tt
-begins most t last bytes (Some x) e =
+begins : (t last : ℕ) (ends : Option Ends) → within t last ends ≡ true → BeginsFrom t ends
+begins t last None e = tt
+begins t last (Some x) e =
     let a = and_parts (nat_le t x.first) _ e in
     (leb-true _ _ a.0, leb-true _ _ (and_parts (nat_le x.first x.last) _ a.1).0)
 
-times_laid : (most t last offset : ℕ) (keys : List Key) (rows : List Row) → may_be_listed most t last rows ≡ true → TimesRise t (laid offset keys rows)
-times_laid most t last offset [] rows e = tt
-times_laid most t last offset (k ∷ keys) [] e = tt
-times_laid most t last offset (k ∷ keys) (r ∷ rows) e =
-    let b = and_parts (within most t last (total r.lengths) r.ends) _ e in
-    (begins most t last (total r.lengths) r.ends b.0, times_laid most (last_or t r.ends) last (offset + total r.lengths) keys rows b.1)
+times_laid : (t last offset : ℕ) (keys : List Key) (rows : List Row) → may_be_listed t last rows ≡ true → TimesRise t (laid offset keys rows)
+times_laid t last offset [] rows e = tt
+times_laid t last offset (k ∷ keys) [] e = tt
+times_laid t last offset (k ∷ keys) (r ∷ rows) e =
+    let b = and_parts (within t last r.ends) _ e in
+    (begins t last r.ends b.0, times_laid (last_or t r.ends) last (offset + total r.lengths) keys rows b.1)
 
 times_append : (t : ℕ) (xs ys : List (Key × Entry)) → TimesRise t xs → TimesRise (last_list t xs) ys → TimesRise t (xs ++ ys)
 times_append t [] ys a b = b
@@ -68,12 +68,12 @@ from_more t (Some n) = omega arith
 
 -- with the lists of one segment more
 pub times_with : (o : Opening) (last : Option ℕ) (b : BatchEntry) (rows : List Row) (offset : ℕ) → TimesRise 0 o.records → ((t : ℕ) → last_list t o.records ≡ last_from t last)
-    → may_be_listed (list_bytes_max o.params.l) (last_list (first_in b.ends.first o.batches) o.records) b.ends.last rows ≡ true → TimesRise 0 (o.records ++ laid offset (keys_next o b.events) rows)
+    → may_be_listed (last_list (first_in b.ends.first o.batches) o.records) b.ends.last rows ≡ true → TimesRise 0 (o.records ++ laid offset (keys_next o b.events) rows)
 times_with o last b rows offset rise listed may =
     let t : ℕ = first_in b.ends.first o.batches in
     let le : last_list 0 o.records ≤ last_list t o.records = omega (arith, listed 0, listed t, from_more t last) in
     times_append 0 o.records (laid offset (keys_next o b.events) rows) rise
-    (times_from (last_list 0 o.records) (last_list t o.records) (laid offset (keys_next o b.events) rows) le (times_laid (list_bytes_max o.params.l) (last_list t o.records) b.ends.last offset (keys_next o b.events) rows may))
+    (times_from (last_list 0 o.records) (last_list t o.records) (laid offset (keys_next o b.events) rows) le (times_laid (last_list t o.records) b.ends.last offset (keys_next o b.events) rows may))
 
 -- ---- the numbers of the lists
 

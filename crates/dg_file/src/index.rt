@@ -14,7 +14,7 @@ ghost use Rattle.dg_index.specs.ImageText.{eight_at};
 ghost use Rattle.dg_index.specs.ImageOfHistory.{is_blank, IsImageOf};
 ghost use Rattle.dg_index.specs.IndexGrowth.{AreInTurn, IsDue, columns_in, last_time_in, name_total, index_upgraded};
 ghost use Rattle.dg_index.specs.IndexKeys.{AreKept};
-ghost use Rattle.dg_index.specs.OpenedIndex.{column_at, bare, directory_of, earliest_in, event_total, first_in, keys_next, last_list, list_count, list_bytes_max, may_be_listed, may_follow, opened_of, opening, rows_in, span_in};
+ghost use Rattle.dg_index.specs.OpenedIndex.{column_at, bare, directory_of, earliest_in, event_total, first_in, keys_next, last_list, list_count, may_be_listed, may_follow, opened_of, opening, rows_in, span_in};
 ghost use Rattle.dg_disk.specs.Image.{HasRange, IsLengthOf};
 ghost use Rattle.dg_catalogue.specs.Additions.{bytes_of_rows, Suits};
 ghost use Rattle.dg_catalogue.specs.Points.{ListsRise};
@@ -35,8 +35,7 @@ use crate::reads::{read_byte, read_header, read_lengths, read_range};
 use dg_catalogue::{Catalogue, column_length, column_offset, keys_due, leaves};
 use dg_directory::{
     DirectoryFault, FoundDirectory, LENGTHS_BYTES, Lengths, MARKER_BYTES, NAMES_OFFSET,
-    are_unheard, batch_at, has_rows, is_measured, list_bytes_max, may_be_listed, may_follow,
-    read_names, rows_in,
+    are_unheard, batch_at, has_rows, is_measured, may_be_listed, may_follow, read_names, rows_in,
 };
 use dg_disk::Disk;
 use dg_graph::Column;
@@ -178,7 +177,7 @@ impl Index {
         requires keys { keys.now ≡ keys_next self.old.opening batch.events }
         requires rows { Suits keys.now rows.now }
         requires follows { may_follow (event_total self.old.opening.batches) (earliest_in 0 self.old.opening.batches) batch ≡ true }
-        requires listed { may_be_listed (list_bytes_max self.old.opening.params.l) (last_list (first_in batch.ends.first self.old.opening.batches) self.old.opening.records) batch.ends.last rows.now ≡ true }
+        requires listed { may_be_listed (last_list (first_in batch.ends.first self.old.opening.batches) self.old.opening.records) batch.ends.last rows.now ≡ true }
         requires names { name_total self.old.opening.batches + batch.names ≤ NAMES_MAX }
         requires behind { self.old.opening.used ≤ offset }
         requires used { offset + bytes_of_rows rows.now + 1 ≡ used }
@@ -241,8 +240,7 @@ impl Index {
             return Err(DirectoryFault::Broken);
         }
         let floor = self.floor(batch.ends.first);
-        let most = list_bytes_max(self.params.l);
-        if !may_be_listed(&rows[..lists as usize], most, floor, batch.ends.last) {
+        if !may_be_listed(&rows[..lists as usize], floor, batch.ends.last) {
             return Err(DirectoryFault::Broken);
         }
         if !are_unheard(&rows, lists as usize, deltas as usize) {

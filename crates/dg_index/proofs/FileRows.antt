@@ -1,5 +1,5 @@
 -- Worked rows.
-use Rattle.std.specs.Prelude.{None, codes, ◌≡◌, ℕ, ◌+◌, List, [], ◌∷◌, ◌++◌, Some, Ok, Err, true, refl, take, drop, length, map}
+use Rattle.std.specs.Prelude.{None, codes, ◌≡◌, ℕ, ◌+◌, List, [], ◌∷◌, ◌++◌, Some, Result, Ok, Err, true, refl, take, drop, length, map}
 use Rattle.dg_graph.specs.declared.element.Column.TheVariants as column
 use Rattle.dg_graph.specs.declared.element.Columns.{Columns}
 use Rattle.dg_graph.specs.declared.element.Element.TheVariants as element
@@ -13,7 +13,7 @@ use Rattle.dg_history.specs.History.{History, Batch, events_of, with_batch, with
 use Rattle.std.specs.Option.{option_map}
 use Rattle.std.specs.Map.{lookup}
 use Rattle.dg_history.specs.Keys.{same_key}
-use Rattle.dg_index.specs.OpenedIndex.{Damaged_at, Not_ours, opening, opened_of, column_at}
+use Rattle.dg_index.specs.OpenedIndex.{Damaged_at, Not_ours, Opened, Unopened, opening, opened_of, column_at, entry_at, total}
 use Rattle.dg_index.specs.Hierarchy.{set_of}
 use Rattle.dg_index.specs.OlderNodes.{older}
 use Rattle.dg_index.specs.IndexRecords.{keys_of, column_in}
@@ -88,6 +88,16 @@ other_lists = refl
 list_out_of_time : opening (changed 122 51) ≡ Err (Damaged_at 18)
 unfolding p changed
 list_out_of_time = refl
+
+-- The directory gives a list of two events 34 bytes of a delta's column, and with them 108: two events take 84 at most. The
+-- file is opened.
+bytes_of_list : Result Opened Unopened → ℕ
+bytes_of_list (Ok x) = total (entry_at x.index (key.List 1)).lengths
+bytes_of_list (Err e) = 0
+
+long_list : bytes_of_list (opening (take 138 (file p ++ 0 ∷ []) ++ (74 ∷ (take 75 (drop 139 (file p ++ 0 ∷ [])) ++ (0 ∷ drop 215 (file p ++ 0 ∷ [])))))) ≡ 108
+unfolding p bytes_of_list
+long_list = refl
 
 down : option_map (λ e. column_at (file p ++ 0 ∷ []) e column.NodeAttr) (lookup (same_key (key.Down 1 2)) (opened_of p).index.records) ≡ Some (column_in p (key.Down 1 2) column.NodeAttr)
 unfolding p

@@ -5,7 +5,6 @@ pub mod HierarchyCounts
 pub mod HierarchyStability
 pub mod ImageTextRanges
 pub mod ImageTextNames
-pub mod ListBytes
 pub mod UnheardRecords
 pub mod OpenedIndexDirectories
 pub mod OpenedIndexHistories

@@ -12,7 +12,7 @@ use Rattle.dg_graph.specs.Columns.{four, eight}
 use Rattle.dg_index.specs.FileOfHistory.{name_bytes, Stored, StoredList, Segment, bytes_of, lengths_bytes, list_bytes, directory, blobs, stored_in, segment_bytes, marker}
 use Rattle.dg_text.specs.Names.{are_new}
 use Rattle.dg_index.specs.ImageText.{four_at, eight_at, names_at, gate_behind, is_within, is_marker}
-use Rattle.dg_index.specs.OpenedIndex.{may_be_named, Opened, Directory, lengths_at, list_at, record_at, rows_at, rows_in, total, lengths_of, list_row, record_row, directory_of, directory_with, directory_in, list_count, delta_count, may_follow, list_bytes_max, may_be_listed, within, may_stand, if_it_may, directory_next, event_total, earliest_in, last_list, first_in, read_on, go_on_with, with_directory, with_segment, MayStand, AreUnheard, is_marked, lengths_size, list_size, with_marker}
+use Rattle.dg_index.specs.OpenedIndex.{may_be_named, Opened, Directory, lengths_at, list_at, record_at, rows_at, rows_in, total, lengths_of, list_row, record_row, directory_of, directory_with, directory_in, list_count, delta_count, may_follow, may_be_listed, within, may_stand, if_it_may, directory_next, event_total, earliest_in, last_list, first_in, read_on, go_on_with, with_directory, with_segment, MayStand, AreUnheard, is_marked, lengths_size, list_size, with_marker}
 use Rattle.dg_history.specs.History.{is_wide}
 use Rattle.dg_index.specs.declared.entry.BatchEntry.{BatchEntry}
 use Rattle.dg_index.specs.declared.entry.Row.{Row}
@@ -160,16 +160,15 @@ pub lists_small : (all : List StoredList) → AreTimed all → AreSmall (map (λ
 lists_small [] timed small = tt
 lists_small (x ∷ all) timed small = ((timed.0, timed.1, small.0), lists_small all timed.2 small.1)
 
-pub timed : (most first last : ℕ) (all : List StoredList) → last ≤ TIME_MAX → may_be_listed most first last (map list_row all) ≡ true → AreTimed all
-timed most first last [] le e = tt
-timed most first last (x ∷ all) le e =
-    let a = and_parts (within most first last (total (lengths_of x.columns)) (Some (record { first = x.first; last = x.last }))) _ e in
+pub timed : (first last : ℕ) (all : List StoredList) → last ≤ TIME_MAX → may_be_listed first last (map list_row all) ≡ true → AreTimed all
+timed first last [] le e = tt
+timed first last (x ∷ all) le e =
+    let a = and_parts (within first last (Some (record { first = x.first; last = x.last }))) _ e in
     let b = and_parts (nat_le first x.first) _ a.0 in
     let c = and_parts (nat_le x.first x.last) _ b.1 in
-    let d = and_parts (nat_le x.last last) _ c.1 in
     let in_turn : x.first ≤ x.last = leb-true _ _ c.0 in
-    let ends : x.last ≤ last = leb-true _ _ d.0 in
-    (omega (arith, in_turn, ends, le), omega (arith, ends, le), timed most x.last last all le a.1)
+    let ends : x.last ≤ last = leb-true _ _ c.1 in
+    (omega (arith, in_turn, ends, le), omega (arith, ends, le), timed x.last last all le a.1)
 
 -- the rows tell the bytes of all columns
 rows_total : (all : List Stored) → sum_by (λ (r : Row). total r.lengths) (map record_row all) ≡ length (flat_map bytes_of all)
@@ -243,7 +242,7 @@ module _ (x : Opened) (s : Segment) (may : MayStand x s) (few : length (blobs s)
       let others = small_parts s.deltas (s.piece ∷ []) parts.1 in
       let unheard_lists : wide ≡ false → AreUnheard (map (λ (x : StoredList). x.columns) s.lists) = λ h. (unheard_parts (map (λ (x : StoredList). x.columns) s.lists) (s.deltas ++ s.piece ∷ []) (may.unheard h)).0 in
       let unheard_piece : wide ≡ false → s.piece.transient ≡ [] = λ h. (unheard_parts s.deltas (s.piece ∷ []) (unheard_parts (map (λ (x : StoredList). x.columns) s.lists) (s.deltas ++ s.piece ∷ []) (may.unheard h)).1).1.0 in
-      let in_times = timed (list_bytes_max x.index.params.l) (last_list (first_in s.first x.index.batches) x.index.records) s.last s.lists f.in_time may.listed in
+      let in_times = timed (last_list (first_in s.first x.index.batches) x.index.records) s.last s.lists f.in_time may.listed in
       let e0 = eight_step b 0 8 s.events (eight s.first ++ (eight s.last ++ (four (length s.names) ++ (names ++ back wide s)))) (omega (arith, f.few)) refl refl in
       let e1 = eight_step b 8 16 s.first (eight s.last ++ (four (length s.names) ++ (names ++ back wide s))) (omega (arith, f.rises, f.in_time)) refl e0.1 in
       let e2 = eight_step b 16 24 s.last (four (length s.names) ++ (names ++ back wide s)) (omega (arith, f.in_time)) refl e1.1 in
@@ -319,7 +318,7 @@ stands_next x s image rest may is some fits =
     let due : directory_in x.index (take (eight_at image at) (drop (at + 16) image)) ≡ Some (directory_of s) = ap (directory_in x.index) text ∙ directory_read x s may (omega (arith, all, fits)) in
     let stands : may_stand x (eight_at image (at + 8)) (directory_of s) ≡ true =
     and_from (sum_by (λ (r : Row). total r.lengths) (rows_in (directory_of s)) == eight_at image (at + 8)) _ (eq-eqb _ _ (omega (arith, measures s, e1.0)))
-    (and_from (may_follow (event_total x.index.batches) (earliest_in 0 x.index.batches) (directory_of s).batch) _ may.follows (and_from (may_be_named x.names s.names) _ may.named (and_from (may_be_listed (list_bytes_max x.index.params.l) (last_list (first_in s.first x.index.batches) x.index.records) s.last (map list_row s.lists)) _ may.listed (unheard_rows s.deltas may.deltas_unheard)))) in
+    (and_from (may_follow (event_total x.index.batches) (earliest_in 0 x.index.batches) (directory_of s).batch) _ may.follows (and_from (may_be_named x.names s.names) _ may.named (and_from (may_be_listed (last_list (first_in s.first x.index.batches) x.index.records) s.last (map list_row s.lists)) _ may.listed (unheard_rows s.deltas may.deltas_unheard)))) in
     record {
       size = e0.0;
       gate = gate;

@@ -28,15 +28,14 @@ use Rattle.dg_history.proofs.LegalHistories.{batch_rises, events_among, names_am
 use Rattle.dg_history.proofs.ParameterRanges.{in_range}
 use Rattle.dg_index.specs.ImageOfHistory.{is_blank, IsImageOf}
 use Rattle.dg_text.specs.Names.{are_new}
-use Rattle.dg_index.specs.OpenedIndex.{No_index, may_be_named, rows_in, Opened, bare, opening, opened_of, opened_onto, with_segment, directory_of, list_row, record_row, laid, total, last_list, last_or, first_in, earliest_in, event_total, may_follow, lengths_of, list_bytes_max, may_be_listed, within, read_on, opened_or, opened_by, keys_next, MayStand, opened_in, with_marker}
+use Rattle.dg_index.specs.OpenedIndex.{No_index, may_be_named, rows_in, Opened, bare, opening, opened_of, opened_onto, with_segment, directory_of, list_row, record_row, laid, total, last_list, last_or, first_in, earliest_in, event_total, may_follow, may_be_listed, within, read_on, opened_or, opened_by, keys_next, MayStand, opened_in, with_marker}
 use Rattle.dg_index.specs.ImageText.{params_with, function_in, four_at, header_in, header_with, shared_function_in, two_at}
 use Rattle.dg_index.specs.Hierarchy.{numbers, leaves}
-use Rattle.dg_index.specs.IndexRecords.{Events, record_among, closed_list, deltas_due, lists_due}
+use Rattle.dg_index.specs.IndexRecords.{record_among, closed_list, deltas_due, lists_due}
 use Rattle.dg_index.specs.declared.entry.Entry.{Entry}
 use Rattle.dg_index.specs.declared.entry.BatchEntry.{BatchEntry}
 use Rattle.dg_index.specs.declared.entry.Row.{Row}
 use Rattle.dg_index.proofs.OpenedIndexDirectories.{map_last, stands_next, read_next, read_end, marker_next, read_marked}
-use Rattle.dg_index.proofs.ListBytes.{list_fits}
 use Rattle.dg_index.proofs.UnheardRecords.{deltas_unheard, segment_unheard, silent_parts}
 use Rattle.dg_index.proofs.HierarchyCounts.{deltas_fit, numbers_length}
 use Rattle.dg_index.proofs.HierarchyStability.{leaves_more}
@@ -136,16 +135,15 @@ image_parts z image h =
 
 -- ---- the times of lists
 
--- a list of events that are in order, behind a time that is not later, and before others, and whose columns are no longer
--- than the most
-list_within : (most t last bytes : ℕ) (list rest : List Event) → 1 ≤ length list → RisesFrom t (list ++ rest) → last ≡ last_time_from t (list ++ rest) → bytes ≤ most
-    → within most t last bytes (Some (record { first = first_time_of list; last = last_time_from 0 list })) ≡ true
-list_within most t last bytes [] rest some r is fits = absurd (omega arith)
-list_within most t last bytes (e ∷ list) rest some r is fits =
+-- a list of events that are in order, behind a time that is not later, and before others
+list_within : (t last : ℕ) (list rest : List Event) → 1 ≤ length list → RisesFrom t (list ++ rest) → last ≡ last_time_from t (list ++ rest)
+    → within t last (Some (record { first = first_time_of list; last = last_time_from 0 list })) ≡ true
+list_within t last [] rest some r is = absurd (omega arith)
+list_within t last (e ∷ list) rest some r is =
     let parts = rises_parts e.time list rest r.1 in
     let ends = rises_last e.time list parts.0 in
     let over : last_time_from e.time list ≤ last = omega (arith, is, last_two e.time list rest, rises_last (last_time_from e.time list) rest parts.1) in
-    and_from (nat_le t e.time) _ (le-leb _ _ r.0) (and_from (nat_le e.time (last_time_from e.time list)) _ (le-leb _ _ ends) (and_from (nat_le (last_time_from e.time list) last) _ (le-leb _ _ over) (le-leb _ _ fits)))
+    and_from (nat_le t e.time) _ (le-leb _ _ r.0) (and_from (nat_le e.time (last_time_from e.time list)) _ (le-leb _ _ ends) (le-leb _ _ over))
 
 module _ (p : Params) (pos : 0 < p.l) where
   list_length : (events : List Event) (i : ℕ) → (i + 1) * p.l ≤ length events → length (closed_list p events i) ≡ p.l
@@ -161,7 +159,7 @@ module _ (p : Params) (pos : 0 < p.l) where
   next_drop events i = drop-drop p.l (i * p.l) events ∙ ap (λ n. drop n events) (let e : i * p.l + p.l ≡ (i + 1) * p.l = omega (arith, add-mul i 1 p.l) in e)
 
   pub are_listed : (events : List Event) (t i n last : ℕ) → (i + n) * p.l ≤ length events → RisesFrom t (drop (i * p.l) events) → last ≡ last_time_from t (drop (i * p.l) events)
-      → may_be_listed (list_bytes_max p.l) t last (map list_row (map (stored_list p events) (numbers i n))) ≡ true
+      → may_be_listed t last (map list_row (map (stored_list p events) (numbers i n))) ≡ true
   are_listed events t i zero last le r is = refl
   are_listed events t i (suc n) last le r is =
       let list : List Event = closed_list p events i in
@@ -172,13 +170,11 @@ module _ (p : Params) (pos : 0 < p.l) where
       let some : 1 ≤ length list = omega (arith, long, pos) in
       let r_all : RisesFrom t (list ++ rest) = subst (RisesFrom t) (sym all) r in
       let parts = rises_parts t list rest r_all in
-      let bytes : ℕ = total (lengths_of (stored (Events list))) in
-      let fits : bytes ≤ list_bytes_max p.l = subst (λ n. bytes ≤ list_bytes_max n) long (list_fits list) in
-      let here = list_within (list_bytes_max p.l) t last bytes list rest some r_all (is ∙ ap (last_time_from t) (sym all)) fits in
+      let here = list_within t last list rest some r_all (is ∙ ap (last_time_from t) (sym all)) in
       let same : last_time_from t list ≡ last_time_from 0 list = last_some t 0 list some in
       let r_next : RisesFrom (last_time_from 0 list) (drop ((i + 1) * p.l) events) = subst (λ (l : List Event). RisesFrom (last_time_from 0 list) l) (next_drop events i) (subst (λ s. RisesFrom s rest) same parts.1) in
       let is_next : last ≡ last_time_from (last_time_from 0 list) (drop ((i + 1) * p.l) events) = is ∙ ap (last_time_from t) (sym all) ∙ last_two t list rest ∙ (λ j. last_time_from (same j) (next_drop events i j)) in
-      and_from (within (list_bytes_max p.l) t last bytes (Some (record { first = first_time_of list; last = last_time_from 0 list }))) _ here
+      and_from (within t last (Some (record { first = first_time_of list; last = last_time_from 0 list }))) _ here
       (are_listed events (last_time_from 0 list) (i + 1) n last (subst (λ c. c * p.l ≤ length events) (let e : i + suc n ≡ i + 1 + n = omega arith in e) le) r_next is_next)
 
 -- ---- the last list among the records
@@ -275,7 +271,7 @@ module _ (p : Params) (pos : 0 < p.l) (two : 2 ≤ p.k) (x : Opened) (before : L
       let e : leaves p (length before) + (leaves p (length before + length b.events) - leaves p (length before)) ≡ leaves p (length before + length b.events) = omega (arith, up) in
       subst (λ c. c * p.l ≤ length (before ++ b.events)) (sym e) (subst (λ c. leaves p (length before + length b.events) * p.l ≤ c) (sym (length-append before b.events)) (div-mul-le_self (length before + length b.events) p.l))
 
-  listed : may_be_listed (list_bytes_max x.index.params.l) (last_list (first_in (first_time_of b.events) x.index.batches) x.index.records) (last_time_from 0 b.events) (map list_row (segment_of p before b).lists) ≡ true
+  listed : may_be_listed (last_list (first_in (first_time_of b.events) x.index.batches) x.index.records) (last_time_from 0 b.events) (map list_row (segment_of p before b).lists) ≡ true
   listed =
       let events : List Event = before ++ b.events in
       let n : ℕ = leaves p (length before) * p.l in
@@ -288,7 +284,7 @@ module _ (p : Params) (pos : 0 < p.l) (two : 2 ≤ p.k) (x : Opened) (before : L
       let parts = rises_parts start (take n events) (drop n events) (subst (RisesFrom start) (sym whole) (rises_first events some more_rises)) in
       let last : last_time_from 0 b.events ≡ last_time_from (last_time_from start (take n events)) (drop n events) =
       last_some 0 (last_time_from start before) b.events legal.some ∙ sym (last_two start before b.events) ∙ ap (last_time_from start) (sym whole) ∙ last_two start (take n events) (drop n events) in
-      (λ i. may_be_listed (list_bytes_max (is.params i).l) (floor i) (last_time_from 0 b.events) (map list_row (segment_of p before b).lists))
+      (λ i. may_be_listed (floor i) (last_time_from 0 b.events) (map list_row (segment_of p before b).lists))
       ∙ are_listed p pos events (last_time_from start (take n events)) (leaves p (length before)) (leaves p (length before + length b.events) - leaves p (length before)) (last_time_from 0 b.events) ends_within parts.1 last
 
   few_leaves : leaves p (length before + length b.events) ≤ EVENTS_MAX

@@ -6,7 +6,7 @@ use Rattle.dg_history.specs.declared.node.Key.{Key}
 use Rattle.dg_index.specs.declared.entry.BatchEntry.{BatchEntry}
 use Rattle.dg_index.specs.declared.entry.Entry.{Entry}
 use Rattle.dg_index.specs.FileOfHistory.{Segment, segment_bytes, marker, stored_in}
-use Rattle.dg_index.specs.OpenedIndex.{Opening, directory_of, earliest_in, event_total, first_in, last_list, list_count, delta_count, list_bytes_max, list_row, may_be_listed, may_follow, total, with_segment, AreUnheard, with_marker}
+use Rattle.dg_index.specs.OpenedIndex.{Opening, directory_of, earliest_in, event_total, first_in, last_list, list_count, delta_count, list_row, may_be_listed, may_follow, total, with_segment, AreUnheard, with_marker}
 
 -- the names that batches bring
 abbrev pub name_total : List BatchEntry → ℕ
@@ -51,6 +51,6 @@ pub record IsDue (o : Opening) (s : Segment) : Type 0 where
   pub deltas : length s.deltas ≡ delta_count o s.events
   pub follows : may_follow (event_total o.batches) (earliest_in 0 o.batches) (directory_of s).batch ≡ true
   pub few_names : name_total o.batches + length s.names ≤ NAMES_MAX
-  pub listed : may_be_listed (list_bytes_max o.params.l) (last_list (first_in s.first o.batches) o.records) s.last (map list_row s.lists) ≡ true
+  pub listed : may_be_listed (last_list (first_in s.first o.batches) o.records) s.last (map list_row s.lists) ≡ true
   pub deltas_unheard : AreUnheard s.deltas
   pub unheard : is_wide o.form ≡ false → AreUnheard (stored_in s)

@@ -171,21 +171,16 @@ may_follow count earliest b =
     && (nat_le (count + b.events) EVENTS_MAX
     && (nat_le earliest b.ends.first && (nat_le b.ends.first b.ends.last && nat_le b.ends.last TIME_MAX))))
 
--- The most bytes that the columns of a list take together, which has so many events: three counts in front of columns, and
--- each event in one of them. A message is six bytes smaller than the largest event, more than the count of its column.
-abbrev pub list_bytes_max : ℕ → ℕ
-list_bytes_max events = 12 + 36 * events
+-- the row of a list is in these times
+abbrev pub within : ℕ → ℕ → Option Ends → Bool
+within first last None = true
+within first last (Some e) = nat_le first e.first && (nat_le e.first e.last && nat_le e.last last)
 
--- the row of a list, whose columns have so many bytes, is in these times and no longer than the most
-abbrev pub within : ℕ → ℕ → ℕ → ℕ → Option Ends → Bool
-within most first last bytes None = true
-within most first last bytes (Some e) = nat_le first e.first && (nat_le e.first e.last && (nat_le e.last last && nat_le bytes most))
-
--- The lists begin at the first time or later and end at the last or earlier, each not before the one before it. The columns
--- of each have at most so many bytes.
-abbrev pub may_be_listed : ℕ → ℕ → ℕ → List Row → Bool
-may_be_listed most first last [] = true
-may_be_listed most first last (r ∷ rows) = within most first last (total r.lengths) r.ends && may_be_listed most (last_or first r.ends) last rows
+-- The lists begin at the first time or later and end at the last or earlier, each not before the one before it. Their columns
+-- may have any lengths: an image whose list is longer than any spelling of its events is opened.
+abbrev pub may_be_listed : ℕ → ℕ → List Row → Bool
+may_be_listed first last [] = true
+may_be_listed first last (r ∷ rows) = within first last r.ends && may_be_listed (last_or first r.ends) last rows
 
 -- these new names may follow the names
 abbrev pub may_be_named : List (List ℕ) → List (List ℕ) → Bool
@@ -201,7 +196,7 @@ may_stand x columns d =
     sum_by (λ (r : Row). total r.lengths) (rows_in d) == columns
     && (may_follow (event_total x.index.batches) (earliest_in 0 x.index.batches) d.batch
     && (may_be_named x.names d.names
-    && (may_be_listed (list_bytes_max x.index.params.l) (last_list (first_in d.batch.ends.first x.index.batches) x.index.records) d.batch.ends.last d.lists
+    && (may_be_listed (last_list (first_in d.batch.ends.first x.index.batches) x.index.records) d.batch.ends.last d.lists
     && are_unheard d.deltas)))
 
 abbrev pub if_it_may : Bool → Directory → Option Directory
@@ -364,6 +359,6 @@ pub record MayStand (x : Opened) (s : Segment) : Type 0 where
   pub few_deltas : length s.deltas < 2 ^ 32
   pub follows : may_follow (event_total x.index.batches) (earliest_in 0 x.index.batches) (directory_of s).batch ≡ true
   pub named : may_be_named x.names s.names ≡ true
-  pub listed : may_be_listed (list_bytes_max x.index.params.l) (last_list (first_in s.first x.index.batches) x.index.records) s.last (map list_row s.lists) ≡ true
+  pub listed : may_be_listed (last_list (first_in s.first x.index.batches) x.index.records) s.last (map list_row s.lists) ≡ true
   pub deltas_unheard : AreUnheard s.deltas
   pub unheard : is_wide x.index.form ≡ false → AreUnheard (stored_in s)

@@ -1,14 +1,14 @@
-use Rattle.std.proofs.Common.{◌∙◌, ℕ, ap, arith, length, map, refl, subst, sym}
+use Rattle.std.proofs.Common.{◌∙◌, ℕ, arith, length, map, refl, subst, sym}
 use Rattle.dg_append.proofs.BatchSegmentIndex.{tail_rises}
 use Rattle.dg_append.proofs.BatchSegmentParts.{as_many_deltas, as_many_lists, begins_after_lists, given_here, listed_by, older_long, past_graph, past_long, past_recent, past_steps, range_of, recent_long, written_whole}
 use Rattle.dg_append.proofs.segment.segment_of.Goals as goal
 use Rattle.dg_build.specs.GivenDeltas.{AreGiven, IsFaultOfSuch}
 use Rattle.dg_history.specs.declared.params.Params.{Params}
-use Rattle.dg_history.specs.History.{Batch, first_time_of, last_time_from}
+use Rattle.dg_history.specs.History.{Batch, first_time_of}
 use Rattle.dg_history.proofs.ParameterRanges.{InRange}
 use Rattle.dg_index.specs.FileOfHistory.{segment_of}
 use Rattle.dg_index.proofs.UnheardRecords.{segment_unheard}
-use Rattle.dg_index.specs.OpenedIndex.{Opening, list_bytes_max, list_row, may_be_listed}
+use Rattle.dg_index.specs.OpenedIndex.{Opening, list_row}
 use Rattle.dg_start.specs.StoredHistory.{floor_of}
 
 pub build-requires-clause-list : goal.build-requires-clause-list
@@ -39,8 +39,7 @@ returns-in-Ok-clause-behind c =
       names_are = made.3 ∙ parts.3;
       lists = c.in-Ok.ensures.lists ∙ as_many_lists o c.params-params.result c.events_len-before.result c.params-params.ensures c.events_len-before.ensures.events _;
       deltas = c.in-Ok.ensures.deltas ∙ as_many_deltas o c.params-params.result c.events_len-before.result c.params-params.ensures c.events_len-before.ensures.events _;
-      listed = ap (λ (p : Params). may_be_listed (list_bytes_max p.l) (floor_of o (first_time_of c.args.next.now.events.now)) (last_time_from 0 c.args.next.now.events.now) (map list_row c.in-Ok.segment.lists)) (sym c.params-params.ensures)
-          ∙ listed_by (list_bytes_max c.params-params.result.l) (floor_of o (first_time_of c.args.next.now.events.now)) c.args.next.now.recent.now c.args.next.now.events.now (map list_row c.in-Ok.segment.lists) c.requires.next.follows.some (c.in-Ok.ensures.times (floor_of o (first_time_of c.args.next.now.events.now)) (tail_rises c.args.index.now.opening c.args.next.now.recent.now c.args.next.now.events.now c.requires.next.follows));
+      listed = listed_by (floor_of o (first_time_of c.args.next.now.events.now)) c.args.next.now.recent.now c.args.next.now.events.now (map list_row c.in-Ok.segment.lists) c.requires.next.follows.some (c.in-Ok.ensures.times (floor_of o (first_time_of c.args.next.now.events.now)) (tail_rises c.args.index.now.opening c.args.next.now.recent.now c.args.next.now.events.now c.requires.next.follows));
       behind = begins_after_lists o c.params-params.result c.events_len-before.result c.params-params.ensures c.events_len-before.ensures.events (floor_of o (first_time_of c.args.next.now.events.now)) c.in-Ok.segment.lists c.args.next.now.recent.now c.args.next.now.events.now
           (c.in-Ok.ensures.behind (floor_of o (first_time_of c.args.next.now.events.now)) (tail_rises c.args.index.now.opening c.args.next.now.recent.now c.args.next.now.events.now c.requires.next.follows));
       deltas_unheard = c.facts-in-Ok.ensures;

@@ -6,7 +6,7 @@ use Rattle.dg_history.specs.History.{are_parameters, is_wide}
 use Rattle.dg_index.specs.declared.entry.Row.{Row}
 use Rattle.dg_index.specs.FileOfHistory.{Segment, blobs, head_of, segment_bytes}
 use Rattle.dg_index.specs.IndexGrowth.{index_with, needed_for}
-use Rattle.dg_index.specs.OpenedIndex.{Opening, directory_of, earliest_in, event_total, first_in, last_list, list_bytes_max, may_be_listed, rows_in}
+use Rattle.dg_index.specs.OpenedIndex.{Opening, directory_of, earliest_in, event_total, first_in, last_list, may_be_listed, rows_in}
 use Rattle.dg_directory.proofs.OpenedIndexLists.{listed_segment}
 use Rattle.dg_index.proofs.OpenedIndexHistories.{large_parameters}
 use Rattle.dg_catalogue.specs.Additions.{Suits}
@@ -76,8 +76,8 @@ note-requires-clause-listed g c =
     let o : Opening = c.args.self.now.opening in
     let s : Segment = c.args.prepared.now.segment in
     let batch : c.batch.result ≡ (directory_of s).batch = c.batch.ensures ∙ ap (λ (s : Segment). (directory_of s).batch) c.segment-segment.ensures in
-    (λ i. may_be_listed (list_bytes_max o.params.l) (last_list (first_in (batch i).ends.first o.batches) o.records) (batch i).ends.last (c.rows.ensures i))
-    ∙ listed_segment (list_bytes_max o.params.l) (last_list (first_in s.first o.batches) o.records) s.last s c.requires.due.listed
+    (λ i. may_be_listed (last_list (first_in (batch i).ends.first o.batches) o.records) (batch i).ends.last (c.rows.ensures i))
+    ∙ listed_segment (last_list (first_in s.first o.batches) o.records) s.last s c.requires.due.listed
 
 pub note-requires-clause-used : goal.note-requires-clause-used
 note-requires-clause-used g c =

@@ -3,7 +3,7 @@ use Rattle.std.specs.Vec.{vec_capacity}
 use Rattle.dg_history.specs.declared.node.Key.{Key}
 use Rattle.dg_index.specs.declared.entry.BatchEntry.{BatchEntry}
 use Rattle.dg_index.specs.declared.entry.Ends.{Ends}
-use Rattle.dg_index.specs.OpenedIndex.{Opening, event_total, earliest_in, first_in, keys_next, laid, last_list, list_bytes_max, may_be_listed, may_follow}
+use Rattle.dg_index.specs.OpenedIndex.{Opening, event_total, earliest_in, first_in, keys_next, laid, last_list, may_be_listed, may_follow}
 use Rattle.dg_catalogue.specs.Additions.{Suits}
 use Rattle.dg_catalogue.specs.Entries.{spanned}
 use Rattle.dg_file.specs.Index.{IndexState}
@@ -32,7 +32,7 @@ invariant_of-self c =
     let keys : c.args.keys.now ≡ keys_next o b.events = c.requires.keys ∙ ap (λ (v : IndexState). keys_next v.opening b.events) same in
     let suits = subst (λ (l : List Key). Suits l c.args.rows.now) keys c.requires.rows in
     let follows = subst (λ (v : IndexState). may_follow (event_total v.opening.batches) (earliest_in 0 v.opening.batches) b ≡ true) same c.requires.follows in
-    let listed = subst (λ (v : IndexState). may_be_listed (list_bytes_max v.opening.params.l) (last_list (first_in b.ends.first v.opening.batches) v.opening.records) b.ends.last c.args.rows.now ≡ true) same c.requires.listed in
+    let listed = subst (λ (v : IndexState). may_be_listed (last_list (first_in b.ends.first v.opening.batches) v.opening.records) b.ends.last c.args.rows.now ≡ true) same c.requires.listed in
     let all = noted_sound o c.self.inside.events c.self.inside.names c.self.inside.earliest c.self.inside.listed c.self.inside.catalogue.span b c.args.rows.now c.args.offset c.args.used c.self.invariant suits follows listed
     (omega (arith, c.requires.names, ap (λ (v : IndexState). name_total v.opening.batches) same)) (omega (arith, c.requires.behind, ap (λ (v : IndexState). v.opening.used) same)) c.requires.used c.requires.within in
     let room : vec_len c.self.inside.batches < vec_capacity c.self.inside.batches = omega (arith, c.requires.room, ap (λ (v : IndexState). v.room) same) in

@@ -6,7 +6,7 @@ use Rattle.dg_index.specs.ImageText.{names_at}
 use Rattle.dg_history.specs.History.{are_parameters, is_wide}
 use Rattle.dg_index.specs.declared.entry.BatchEntry.{BatchEntry}
 use Rattle.dg_index.specs.declared.entry.Row.{Row}
-use Rattle.dg_index.specs.OpenedIndex.{Opening, Opened, may_follow, list_count, delta_count, keys_next, event_total, earliest_in, rows_in, are_unheard, list_bytes_max, may_be_listed}
+use Rattle.dg_index.specs.OpenedIndex.{Opening, Opened, may_follow, list_count, delta_count, keys_next, event_total, earliest_in, rows_in, are_unheard, may_be_listed}
 use Rattle.dg_index.proofs.OpenedIndexHistories.{large_parameters}
 use Rattle.dg_directory.specs.declared.names_read.DirectoryFault.TheVariants.{Broken}
 use Rattle.dg_catalogue.specs.Additions.{bytes_of_rows}
@@ -137,9 +137,8 @@ returns-then-not-may_be_listed-clause-broken c = λ _.
     let rows : List Row = c.in_ok-rows.rows.items in
     let rows_are : rows ≡ rows_in (said c.is_wide-wide.result lists deltas c.args.bytes.now (c.in_ok-end.ensures.taken.names, c.in_ok-end.end)) = c.in_ok-rows.ensures in
     let here : c.deref-2.result.now ≡ rows = c.deref-2.ensures.value in
-    let most : c.list_bytes_max-most.result ≡ list_bytes_max o.params.l = c.list_bytes_max-most.ensures ∙ ap (λ (v : IndexState). list_bytes_max v.opening.params.l) c.self.view_is in
-    due_listed x c.args.columns c.args.bytes.now c.is_wide-wide.result c.is_wide-wide.ensures long c.u32_at-count.result c.in_ok-end.end c.read_names.new.names b c.u32_at-count.ensures c.in_ok-end.ensures.taken c.batch_at-batch.ensures lists deltas c.lists_next-lists.ensures deltas_is rows c.list_bytes_max-most.result c.floor-floor.result most rows_are c.floor-floor.ensures
-    (ap (λ (l : List Row). may_be_listed c.list_bytes_max-most.result c.floor-floor.result b.ends.last (take lists l)) (sym here) ∙ sym c.may_be_listed.ensures ∙ c.if-not-may_be_listed.true)
+    due_listed x c.args.columns c.args.bytes.now c.is_wide-wide.result c.is_wide-wide.ensures long c.u32_at-count.result c.in_ok-end.end c.read_names.new.names b c.u32_at-count.ensures c.in_ok-end.ensures.taken c.batch_at-batch.ensures lists deltas c.lists_next-lists.ensures deltas_is rows c.floor-floor.result rows_are c.floor-floor.ensures
+    (ap (λ (l : List Row). may_be_listed c.floor-floor.result b.ends.last (take lists l)) (sym here) ∙ sym c.may_be_listed.ensures ∙ c.if-not-may_be_listed.true)
 
 pub returns-clause-taken : goal.returns-clause-taken
 returns-clause-taken c =
@@ -161,10 +160,9 @@ returns-clause-taken c =
     let here : c.deref.result.now ≡ rows = c.deref.ensures.value in
     let here2 : c.deref-2.result.now ≡ rows = c.deref-2.ensures.value in
     let here3 : c.deref-3.result.now ≡ rows = c.deref-3.ensures.value in
-    let most : c.list_bytes_max-most.result ≡ list_bytes_max o.params.l = c.list_bytes_max-most.ensures ∙ ap (λ (v : IndexState). list_bytes_max v.opening.params.l) c.self.view_is in
-    due_taken x c.args.columns c.args.bytes.now c.is_wide-wide.result c.is_wide-wide.ensures long c.u32_at-count.result c.in_ok-end.end c.read_names.new.names b c.u32_at-count.ensures c.in_ok-end.ensures.taken c.batch_at-batch.ensures lists deltas c.lists_next-lists.ensures deltas_is (record { batch = b; keys = c.in_ok-keys.keys; rows = c.in_ok-rows.rows }) c.list_bytes_max-most.result c.floor-floor.result most large.0 few (omega (arith, c.len.ensures, c.if-len-count.false)) refl rows_are
+    due_taken x c.args.columns c.args.bytes.now c.is_wide-wide.result c.is_wide-wide.ensures long c.u32_at-count.result c.in_ok-end.end c.read_names.new.names b c.u32_at-count.ensures c.in_ok-end.ensures.taken c.batch_at-batch.ensures lists deltas c.lists_next-lists.ensures deltas_is (record { batch = b; keys = c.in_ok-keys.keys; rows = c.in_ok-rows.rows }) c.floor-floor.result large.0 few (omega (arith, c.len.ensures, c.if-len-count.false)) refl rows_are
     c.in_ok-keys.ensures.keys (sym c.has_rows.ensures ∙ c.if-not-has_rows.false) follow (ap (λ (l : List Row). bytes_of_rows l == c.args.columns) (sym here) ∙ sym c.is_measured.ensures ∙ c.if-not-is_measured.false)
-    c.floor-floor.ensures (ap (λ (l : List Row). may_be_listed c.list_bytes_max-most.result c.floor-floor.result b.ends.last (take lists l)) (sym here2) ∙ sym c.may_be_listed.ensures ∙ c.if-not-may_be_listed.false)
+    c.floor-floor.ensures (ap (λ (l : List Row). may_be_listed c.floor-floor.result b.ends.last (take lists l)) (sym here2) ∙ sym c.may_be_listed.ensures ∙ c.if-not-may_be_listed.false)
     (ap (λ (l : List Row). are_unheard (take deltas (drop lists l))) (sym here3) ∙ sym c.are_unheard.ensures ∙ c.if-not-are_unheard.false)
 
 pub are_unheard-requires : goal.are_unheard-requires

@@ -3,7 +3,7 @@ use Rattle.std.specs.Prelude.{◌≢◌, IfErr, IfOk, IfSome, OnOk, slice_index}
 use Rattle.std.proofs.lemmas.Result.{IfErr-weaker, err_from_is_err_and, on_err_weaker, on_ok_weaker}
 use Rattle.dg_disk.specs.Image.{IsLengthOf}
 use Rattle.dg_index.specs.IndexGrowth.{columns_in, name_total}
-use Rattle.dg_index.specs.OpenedIndex.{Opening, opening, keys_next, event_total, earliest_in, first_in, last_list, list_bytes_max, may_be_listed, may_follow}
+use Rattle.dg_index.specs.OpenedIndex.{Opening, opening, keys_next, event_total, earliest_in, first_in, last_list, may_be_listed, may_follow}
 use Rattle.dg_catalogue.specs.Additions.{Suits, bytes_of_rows}
 use Rattle.dg_history.specs.declared.node.Key.{Key}
 use Rattle.dg_directory.specs.declared.lengths.Lengths.{Lengths}
@@ -72,7 +72,7 @@ note-requires-clause-follows g c =
 pub note-requires-clause-listed : goal.note-requires-clause-listed
 note-requires-clause-listed g c =
     let b : BatchEntry = c.in_ok-found.found.batch in
-    (λ i. may_be_listed (list_bytes_max (c.reserve.ensures.same i).params.l) (last_list (first_in b.ends.first (c.reserve.ensures.same i).batches) (c.reserve.ensures.same i).records) b.ends.last (c.deref-2.ensures.value i))
+    (λ i. may_be_listed (last_list (first_in b.ends.first (c.reserve.ensures.same i).batches) (c.reserve.ensures.same i).records) b.ends.last (c.deref-2.ensures.value i))
     ∙ c.in_ok-found.ensures.found.taken.listed
 
 pub note-requires-clause-within : goal.note-requires-clause-within
