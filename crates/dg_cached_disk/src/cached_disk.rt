@@ -20,14 +20,14 @@ pub struct CachedDisk<D: Disk> {
     keeps: bool,
     // the bytes given from memory, held at the last value of a u64
     given: u64,
-    ghost kept: { stand (D.image disk) ranges ≡ true },
-    ghost unkept: { keeps ≡ false → ranges ≡ [] },
+    ghost kept: { stand (D.image disk) ranges.ranges ≡ true },
+    ghost unkept: { keeps ≡ false → ranges.ranges ≡ [] },
 }
 
 impl<D: Disk + Drop> CachedDisk<D> {
     /// Over the disk, of which nothing is asked, with room for these ranges, of which there is none yet.
     pub fn new(alloc: Global, disk: D, ranges: RangeCache) -> CachedDisk<D>
-        requires { ranges ≡ [] }
+        requires { ranges.ranges ≡ [] }
         ensures disk { result.disk ≡ disk }
         ensures given { result.given ≡ 0 }
         ensures keeps { result.keeps ≡ false }
@@ -44,7 +44,7 @@ impl<D: Disk + Drop> CachedDisk<D> {
     /// The disk of which it keeps what was read.
     pub fn disk(&self) -> &D
         ensures disk { result.now ≡ self.now.disk }
-        ensures no_more { raised_by 0 (D.taken result.now) ≤ raised_by self.now.given (D.taken self.now.disk) }
+        ensures no_more { raised_by 0 (D.taken result.now) ≤ ⟦<CachedDisk<D> as Disk>⟧.taken self.now }
     {
         &self.disk
     }
