@@ -3,6 +3,7 @@
 ghost use Rattle.std.specs.Prelude.{◌≡◌, ◌≤◌, None, ⊤};
 ghost use Rattle.dg_disk.specs.Counts.{raised_by};
 
+use crate::guard::Guard;
 use crate::reason::{Failure, Reason};
 use crate::stored::Stored;
 use dg_disk::{Disk, Failed};
@@ -18,6 +19,8 @@ use std::marker::Model;
 #[derive(Drop)]
 pub struct FileDisk<R> {
     stored: Stored<R>,
+    // whether the file is held and looked at, as a write needs it
+    guard: Guard,
     // why the last call that failed did so
     reason: Option<Reason>,
     faults: u64,
@@ -41,6 +44,7 @@ impl<R: Files<File = File>> FileDisk<R> {
     {
         FileDisk {
             stored: Stored::new(rt, path),
+            guard: Guard::new(),
             reason: None,
             faults: 0,
             write_faults: 0,
@@ -119,14 +123,14 @@ impl<R: Files<File = File>> Disk for FileDisk<R> {
     }
 
     fn write_at(&mut self, offset: u64, piece: &[u8]) -> Result<(), Failed> {
-        match self.stored.write(offset, piece) {
+        match self.guard.write(&mut self.stored, offset, piece) {
             Ok(()) => Ok(()),
             Err(reason) => Err(self.fail_write(reason)),
         }
     }
 
     fn sync(&mut self) -> Result<(), Failed> {
-        match self.stored.sync() {
+        match self.guard.sync(&mut self.stored) {
             Ok(()) => Ok(()),
             Err(reason) => Err(self.fail_write(reason)),
         }

@@ -3,6 +3,7 @@
 #![tactic(auto)]
 
 mod disk;
+mod guard;
 mod opened;
 mod reason;
 mod stamp;

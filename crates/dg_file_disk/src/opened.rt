@@ -19,8 +19,6 @@ pub struct Opened {
     read_only: Option<io::Error>,
     // the file as this run has seen or left it
     stamp: Stamp,
-    // whether it is locked for this run, where its file system knows locks
-    is_held: bool,
     // whether something was written since the last sync
     is_written: bool,
     // whether all that is kept about the file was brought to the device
@@ -39,7 +37,6 @@ impl Opened {
             file,
             read_only,
             stamp,
-            is_held: false,
             is_written: false,
             is_synced: false,
             is_new: metadata.len() == 0,
@@ -84,30 +81,20 @@ impl Opened {
 
     /// Locks the file against other runs that write, to the end of this one. It fails where another run has done so, and
     /// where the file is open for reading alone.
-    pub fn hold(&mut self) -> Result<(), Reason> {
+    pub fn hold(&self) -> Result<(), Reason> {
         if let Some(error) = self.read_only {
             return Err(Reason::ReadOnly(error));
         }
-        if self.is_held {
-            return Ok(());
-        }
         match self.file.try_lock() {
-            Err(TryLockError::WouldBlock) => return Err(Reason::InUse),
-            Err(TryLockError::Error(error)) if !lacks_locks(&error) => return Err(error.into()),
-            _ => {}
+            Err(TryLockError::WouldBlock) => Err(Reason::InUse),
+            Err(TryLockError::Error(error)) if !lacks_locks(&error) => Err(error.into()),
+            _ => Ok(()),
         }
-        self.is_held = true;
-        Ok(())
     }
 
     /// The file as this run has seen or left it.
     pub fn stamp(&self) -> &Stamp {
         &self.stamp
-    }
-
-    /// Whether something was written since the last sync.
-    pub fn is_written(&self) -> bool {
-        self.is_written
     }
 
     /// Whether this run may write the file.

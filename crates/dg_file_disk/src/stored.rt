@@ -1,5 +1,7 @@
 //! A file by its path: how it is opened, looked at before it is written, and found after a crash.
+ghost use Rattle.std.specs.Prelude.{true};
 
+use crate::guard::SharedFile;
 use crate::opened::{Opened, has_no_sync};
 use crate::reason::Reason;
 use std::fs::{File, Files, OpenOptions};
@@ -39,27 +41,6 @@ impl<R: Files<File = File>> Stored<R> {
         Ok(self.opened()?.read(offset, into)?)
     }
 
-    /// Writes the whole piece. Where nothing was written since the last sync, the file has to be held by this run, and
-    /// to be as this run has seen or left it.
-    pub fn write(&mut self, offset: u64, piece: &[u8]) -> Result<(), Reason> {
-        if !self.opened()?.is_written() {
-            self.opened()?.hold()?;
-            self.look()?;
-        }
-        Ok(self.opened()?.write(offset, piece)?)
-    }
-
-    /// Brings what was written to the device. Of a file that is empty it brings the entry in its folder too, the first
-    /// time: this run may have made it, and a crash may lose such a file whole.
-    pub fn sync(&mut self) -> Result<(), Reason> {
-        self.opened()?.sync()?;
-        if self.opened()?.is_new() {
-            self.sync_folder()?;
-            self.opened()?.note_found();
-        }
-        Ok(())
-    }
-
     // The file, opened where it is not open yet.
     fn opened(&mut self) -> io::Result<&mut Opened> {
         if self.opened.is_none() {
@@ -68,19 +49,6 @@ impl<R: Files<File = File>> Stored<R> {
         match &mut self.opened {
             Some(opened) => Ok(opened),
             None => Err(ErrorKind::NotFound.into()),
-        }
-    }
-
-    // Whether the file of this path is still the one that is open, and as this run has seen or left it.
-    fn look(&mut self) -> Result<(), Reason> {
-        let metadata = match fs::metadata(&self.rt, &self.path) {
-            Ok(metadata) => metadata,
-            Err(error) if error.kind() == ErrorKind::NotFound => return Err(Reason::Removed),
-            Err(error) => return Err(error.into()),
-        };
-        match self.opened()?.stamp().change(&metadata) {
-            Some(reason) => Err(reason),
-            None => Ok(()),
         }
     }
 
@@ -97,6 +65,44 @@ impl<R: Files<File = File>> Stored<R> {
             Err(error) if self.opened()?.is_writable() => Err(Reason::Folder(error)),
             _ => Ok(()),
         }
+    }
+}
+
+impl<R: Files<File = File>> SharedFile for Stored<R> {
+    // No clause of the standard library says what a lock keeps, so both say nothing here.
+    ghost is_held = { λ _. true };
+
+    ghost is_seen = { λ _. true };
+
+    fn hold(&mut self) -> Result<(), Reason> {
+        self.opened()?.hold()
+    }
+
+    fn look(&mut self) -> Result<(), Reason> {
+        let metadata = match fs::metadata(&self.rt, &self.path) {
+            Ok(metadata) => metadata,
+            Err(error) if error.kind() == ErrorKind::NotFound => return Err(Reason::Removed),
+            Err(error) => return Err(error.into()),
+        };
+        match self.opened()?.stamp().change(&metadata) {
+            Some(reason) => Err(reason),
+            None => Ok(()),
+        }
+    }
+
+    fn write(&mut self, offset: u64, piece: &[u8]) -> Result<(), Reason> {
+        Ok(self.opened()?.write(offset, piece)?)
+    }
+
+    // Of a file that is empty it brings the entry in its folder too, the first time: this run may have made it, and a crash
+    // may lose such a file whole.
+    fn sync(&mut self) -> Result<(), Reason> {
+        self.opened()?.sync()?;
+        if self.opened()?.is_new() {
+            self.sync_folder()?;
+            self.opened()?.note_found();
+        }
+        Ok(())
     }
 }
 
