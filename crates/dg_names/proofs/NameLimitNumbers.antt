@@ -1,10 +1,10 @@
 -- The numbers of texts in a list of names, and the names of a list of keys that own their texts.
-use Rattle.std.proofs.Common.{◌≡◌, ◌≢◌, ℕ, zero, suc, ◌+◌, ◌<◌, ◌≤◌, Bool, true, false, not, cond, List, [], ◌∷◌, ◌++◌, length, get_or, map, take, slice_get, position, Some, None, is_some, if◌then◌else◌, refl, sym, ap, subst, ◌∙◌, ltb, arith}
+use Rattle.std.proofs.Common.{◌≡◌, ◌≢◌, ℕ, zero, suc, ◌+◌, ◌<◌, ◌≤◌, Bool, true, false, not, cond, List, [], ◌∷◌, ◌++◌, length, get_or, map, take, slice_get, position, Option, Some, None, is_some, if◌then◌else◌, refl, sym, ap, subst, ◌∙◌, ltb, arith}
 use borrow.Author.Tests.{ltb-false, lt-ltb}
 use Rattle.std.proofs.lemmas.Bool.{false≢true}
 use Rattle.std.proofs.lemmas.List.{length-map, map-append, take-map, length-take, length-append}
 use Rattle.std.proofs.lemmas.List.Elements.{All-take, All-push}
-use Rattle.std.proofs.lemmas.List.Folds.{list_any_none}
+use Rattle.std.proofs.lemmas.List.Folds.{list_any_at, list_any_none}
 use Rattle.std.proofs.lemmas.List.Quantifiers.{position-Some}
 use Rattle.std.proofs.lemmas.List.Sums.{fails_before_first, position_or_len_is, prefix_len-le-length}
 use Rattle.std.proofs.lemmas.Map.Made.{AllPairs-from_IsDistinct}
@@ -114,6 +114,26 @@ module _ {K : Type 0} (v : K → List ℕ) where
       let new = list_any_none (λ q. bytes_eq (v k) (v q)) keys (position_none_fails _ keys none_key) in
       ap (map v) (e ∙ ap (λ b. if b then keys else keys ++ k ∷ []) new) ∙ map-append v keys (k ∷ []) ∙ (λ j. view j ++ is j ∷ [])
 
+  -- a key that stands for the text is there where the text is among the names
+  pub has_key : (keys : List K) (k : K) (text : List ℕ) (names : List (List ℕ)) → map v keys ≡ names → v k ≡ text → list_any (λ q. bytes_eq (v k) (v q)) keys ≡ is_some (number_of names text)
+  has_key keys k text names view is = by (number_of names text) (number-map keys (v k) names view ∙ ap (number_of names) is)
+    where
+      by : (o : Option ℕ) → position (λ q. bytes_eq (v k) (v q)) keys ≡ o → list_any (λ q. bytes_eq (v k) (v q)) keys ≡ is_some o
+      by None e = list_any_none (λ q. bytes_eq (v k) (v q)) keys (position_none_fails _ keys e)
+      by (Some n) e =
+          let found = position-Some (λ q. bytes_eq (v k) (v q)) keys n k e in
+          list_any_at (λ q. bytes_eq (v k) (v q)) keys n k found.0 found.1
+
+  -- with it the names are those with the text
+  pub with_key : (keys new_keys : List K) (k : K) (text : List ℕ) (names : List (List ℕ)) → map v keys ≡ names → v k ≡ text
+      → new_keys ≡ (if list_any (λ q. bytes_eq (v k) (v q)) keys then keys else keys ++ k ∷ []) → map v new_keys ≡ added names text
+  with_key keys new_keys k text names view is e =
+      ap (map v) (e ∙ ap (λ b. if b then keys else keys ++ k ∷ []) (has_key keys k text names view is)) ∙ by (is_some (number_of names text))
+    where
+      by : (b : Bool) → map v (if b then keys else keys ++ k ∷ []) ≡ (if b then names else names ++ text ∷ [])
+      by true = view
+      by false = map-append v keys (k ∷ []) ∙ (λ j. view j ++ is j ∷ [])
+
   -- and its index is the length
   pub grown_index : (keys : List K) (k : K) (text : List ℕ) (names : List (List ℕ)) → map v keys ≡ names → v k ≡ text → number_of names text ≡ None
       → position_or_len (λ q. bytes_eq (v k) (v q)) keys ≡ length names
@@ -158,3 +178,10 @@ pub fits_grown : (names new : List (List ℕ)) (text : List ℕ) → new ≡ nam
 fits_grown names new text e fits room short =
     let longer = length-append names (text ∷ []) in
     subst (λ l. AreFew l × AreShort l) (sym e) (omega (arith, longer, room), All-push (λ t. length t ≤ NAME_BYTES_MAX) names text fits.1 short)
+
+pub fits_added : (names new : List (List ℕ)) (text : List ℕ) → new ≡ added names text → AreFew names × AreShort names → length names < NAMES_MAX → length text ≤ NAME_BYTES_MAX → AreFew new × AreShort new
+fits_added names new text e fits room short = by (is_some (number_of names text)) e
+  where
+    by : (b : Bool) → new ≡ (if b then names else names ++ text ∷ []) → AreFew new × AreShort new
+    by true e = subst (λ l. AreFew l × AreShort l) (sym e) fits
+    by false e = fits_grown names new text e fits room short

@@ -1,10 +1,11 @@
 //! The list of names of a history: distinct texts, each found by its number and its number by it.
-ghost use Rattle.std.specs.Prelude.{◌≡◌, ◌≤◌, ◌<◌, ℕ, List, [], length, take, None, Some, slice_get, option_copied, IsTrue, ◌↔◌, IfOk, IfSome, IfNone, OnOk, OnErr};
+ghost use Rattle.std.specs.Prelude.{◌≡◌, ◌≤◌, ◌<◌, ℕ, List, [], length, take, None, Some, not, is_some, slice_get, option_copied, IsTrue, ◌↔◌, IfOk, IfSome, IfNone, OnOk, OnErr};
 ghost use Rattle.std.specs.List.{IsDistinct, Contains};
 ghost use Rattle.std.specs.Str.{bytes_eq};
 ghost use Rattle.dg_text.specs.Names.{number_of, added};
 ghost use Rattle.dg_names.specs.NameLimits.{AreFew, AreShort};
 
+use dg_seed::Seed;
 use dg_text::{NAME_BYTES_MAX, NAMES_MAX};
 use indexmap::IndexSet;
 use std::alloc::{AllocError, Global};
@@ -14,7 +15,7 @@ use std::marker::Model;
 /// `NAME_BYTES_MAX` bytes, and there are at most `NAMES_MAX`. The number of a name is its index in the list.
 #[derive(Drop)]
 pub struct Names {
-    texts: IndexSet<Vec<u8>>,
+    texts: IndexSet<Vec<u8>, Seed>,
 }
 
 impl Model for Names {
@@ -29,13 +30,18 @@ impl Model for Names {
 }
 
 impl Names {
-    /// A list with no names, whose memory comes from `alloc`. Takes no memory yet.
-    pub fn new(alloc: Global) -> Names
+    /// A list with no names, whose memory comes from `alloc` and whose look-ups hash with the seed. Takes no memory yet.
+    pub fn new(alloc: Global, seed: Seed) -> Names
         ensures { result ≡ [] }
     {
         Names {
-            texts: IndexSet::new(alloc),
+            texts: IndexSet::with_hasher(alloc, seed),
         }
+    }
+
+    /// The seed with which its look-ups hash.
+    pub fn seed(&self) -> Seed {
+        *self.texts.hasher()
     }
 
     /// How many names the list has.
@@ -111,6 +117,21 @@ impl Names {
         let copy = Vec::from_slice(*self.texts.allocator(), text)?;
         let (number, _) = self.texts.insert_full(copy)?;
         Ok(number as u32)
+    }
+
+    /// Appends the text where it is not in the list yet. Answers whether it was not. The text is hashed once, as it is not by
+    /// `add` where it is new; but one that is there takes memory too, which is given back. An `Err` says that memory ran
+    /// out, and the list is as it was.
+    pub fn insert(&mut self, text: &[u8]) -> Result<bool, AllocError>
+        requires short { length text.now ≤ NAME_BYTES_MAX }
+        requires room { length self.old < NAMES_MAX }
+        ensures new { IfOk result (λ is_new. is_new ≡ not (is_some (number_of self.old text.now))) }
+        ensures added { OnOk result (self.new ≡ added self.old text.now) }
+        ensures err { OnErr result (self.new ≡ self.old) }
+    {
+        let copy = Vec::from_slice(*self.texts.allocator(), text)?;
+        let (_, is_new) = self.texts.insert_full(copy)?;
+        Ok(is_new)
     }
 
     /// Keeps the first `len` names, or all where there are fewer. Takes no memory.
