@@ -12,6 +12,7 @@ use crate::element_id::ElementId;
 use crate::held::Held;
 use crate::sorted_graph::SortedGraph;
 use dg_graph::Element;
+use dg_seed::Seed;
 use indexmap::IndexMap;
 use std::alloc::AllocError;
 
@@ -42,7 +43,7 @@ fn held_at_start(base: &SortedGraph, id: ElementId) -> Held
 // Makes an entry for the id, unless it has one, with the element of the graph at the start. An `Err`
 // says that memory ran out.
 fn touch(
-    elements: &mut IndexMap<ElementId, ElementEntry>,
+    elements: &mut IndexMap<ElementId, ElementEntry, Seed>,
     base: &SortedGraph,
     id: ElementId,
 ) -> Result<(), AllocError>
@@ -65,7 +66,7 @@ fn touch(
 
 /// Makes entries for the ids that the element needs. An `Err` says that memory ran out.
 pub(crate) fn touch_needs(
-    elements: &mut IndexMap<ElementId, ElementEntry>,
+    elements: &mut IndexMap<ElementId, ElementEntry, Seed>,
     base: &SortedGraph,
     element: &Element,
 ) -> Result<(), AllocError>
@@ -86,7 +87,11 @@ pub(crate) fn touch_needs(
 }
 
 /// Writes what is held under an id that has an entry, or for whose entry there is room.
-pub(crate) fn set_held(elements: &mut IndexMap<ElementId, ElementEntry>, id: ElementId, held: Held)
+pub(crate) fn set_held(
+    elements: &mut IndexMap<ElementId, ElementEntry, Seed>,
+    id: ElementId,
+    held: Held,
+)
     requires room { (has_entry elements.old.entries id || nat_lt 0 (spare elements.old)) ≡ true }
     ensures held { (base : List Element) (p : ElementId) → held_at base elements.new.entries p ≡ cond (same_id id p) (element_in id held) (held_at base elements.old.entries p) }
     ensures uses { KeepsUses elements.old.entries elements.new.entries }
@@ -106,7 +111,7 @@ pub(crate) fn set_held(elements: &mut IndexMap<ElementId, ElementEntry>, id: Ele
 }
 
 /// Counts one more element that needs the one with the id.
-pub(crate) fn count_up(elements: &mut IndexMap<ElementId, ElementEntry>, id: ElementId)
+pub(crate) fn count_up(elements: &mut IndexMap<ElementId, ElementEntry, Seed>, id: ElementId)
     requires there { has_entry elements.old.entries id ≡ true }
     requires fits { more_at elements.old.entries id + 1 < fewer_at elements.old.entries id + 2 ^ 64 }
     ensures held { (base : List Element) → KeepsHeld base elements.old.entries elements.new.entries }
@@ -123,7 +128,7 @@ pub(crate) fn count_up(elements: &mut IndexMap<ElementId, ElementEntry>, id: Ele
 }
 
 /// Counts one element less that needs the one with the id.
-pub(crate) fn count_down(elements: &mut IndexMap<ElementId, ElementEntry>, id: ElementId)
+pub(crate) fn count_down(elements: &mut IndexMap<ElementId, ElementEntry, Seed>, id: ElementId)
     requires there { has_entry elements.old.entries id ≡ true }
     requires fits { fewer_at elements.old.entries id + 1 < more_at elements.old.entries id + 2 ^ 64 }
     ensures held { (base : List Element) → KeepsHeld base elements.old.entries elements.new.entries }
@@ -140,7 +145,7 @@ pub(crate) fn count_down(elements: &mut IndexMap<ElementId, ElementEntry>, id: E
 }
 
 /// Counts the element with the ids that it needs.
-pub(crate) fn count_in(elements: &mut IndexMap<ElementId, ElementEntry>, element: &Element)
+pub(crate) fn count_in(elements: &mut IndexMap<ElementId, ElementEntry, Seed>, element: &Element)
     requires there { (p : ElementId) → needs_id p element.now ≡ true → has_entry elements.old.entries p ≡ true }
     requires fits { (p : ElementId) → more_at elements.old.entries p + 1 < fewer_at elements.old.entries p + 2 ^ 64 }
     ensures held { (base : List Element) → KeepsHeld base elements.old.entries elements.new.entries }
@@ -161,7 +166,7 @@ pub(crate) fn count_in(elements: &mut IndexMap<ElementId, ElementEntry>, element
 }
 
 /// Counts the element no longer with the ids that it needs.
-pub(crate) fn count_out(elements: &mut IndexMap<ElementId, ElementEntry>, element: &Element)
+pub(crate) fn count_out(elements: &mut IndexMap<ElementId, ElementEntry, Seed>, element: &Element)
     requires there { (p : ElementId) → needs_id p element.now ≡ true → has_entry elements.old.entries p ≡ true }
     requires fits { (p : ElementId) → fewer_at elements.old.entries p + 1 < more_at elements.old.entries p + 2 ^ 64 }
     ensures held { (base : List Element) → KeepsHeld base elements.old.entries elements.new.entries }

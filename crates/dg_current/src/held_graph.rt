@@ -13,6 +13,7 @@ use crate::held::Held;
 use crate::held_set::changes;
 use crate::sorted_graph::SortedGraph;
 use dg_graph::Element;
+use dg_seed::Seed;
 use dg_set::Set;
 use indexmap::IndexMap;
 use std::alloc::{AllocError, Global};
@@ -23,7 +24,7 @@ use std::marker::Model;
 #[derive(Drop)]
 pub(crate) struct HeldGraph {
     base: SortedGraph,
-    elements: IndexMap<ElementId, ElementEntry>,
+    elements: IndexMap<ElementId, ElementEntry, Seed>,
     // How many elements the graph has now.
     len: usize,
 }
@@ -43,19 +44,19 @@ impl Model for HeldGraph {
 
 impl HeldGraph {
     /// The empty graph. Takes no memory yet.
-    pub(crate) fn new(alloc: Global) -> HeldGraph
+    pub(crate) fn new(alloc: Global, seed: Seed) -> HeldGraph
         ensures set { result.set ≡ [] }
         ensures ids { result.ids ≡ [] }
     {
         HeldGraph {
             base: SortedGraph::new(alloc),
-            elements: IndexMap::new(alloc),
+            elements: IndexMap::with_hasher(alloc, seed),
             len: 0,
         }
     }
 
     /// The graph of these elements; an `Err` where they are no graph, or for want of memory.
-    pub(crate) fn from_set(alloc: Global, set: Set) -> Result<HeldGraph, FromFault>
+    pub(crate) fn from_set(alloc: Global, seed: Seed, set: Set) -> Result<HeldGraph, FromFault>
         ensures ok { IfOk result (λ held. held.set ≡ set) }
         ensures not_graph { IsErrOf result FromFault.NotGraph → IsGraph set → ⊥ }
     {
@@ -65,7 +66,7 @@ impl HeldGraph {
         let len = base.len();
         Ok(HeldGraph {
             base,
-            elements: IndexMap::new(alloc),
+            elements: IndexMap::with_hasher(alloc, seed),
             len,
         })
     }

@@ -8,6 +8,7 @@ use crate::element_entry::ElementEntry;
 use crate::element_id::ElementId;
 use crate::sorted_graph::SortedGraph;
 use dg_graph::Element;
+use dg_seed::Seed;
 use indexmap::IndexMap;
 use std::alloc::{AllocError, Global};
 
@@ -42,7 +43,7 @@ fn push(elements: &mut Vec<Element>, element: Option<Element>) -> Result<(), All
 // with its id is as at the start.
 fn change_at(
     base: &SortedGraph,
-    elements: &IndexMap<ElementId, ElementEntry>,
+    elements: &IndexMap<ElementId, ElementEntry, Seed>,
     index: usize,
 ) -> (Option<Element>, Option<Element>)
     requires { index < length elements.now.entries }
@@ -60,7 +61,7 @@ fn change_at(
 pub(crate) fn changes(
     alloc: Global,
     base: &SortedGraph,
-    elements: &IndexMap<ElementId, ElementEntry>,
+    elements: &IndexMap<ElementId, ElementEntry, Seed>,
 ) -> Result<(Vec<Element>, Vec<Element>), AllocError>
     ensures lost { IfOk result (λ both. both.0.items ≡ listed (lost_at base.now elements.now.entries) (keys_of elements.now.entries)) }
     ensures gained { IfOk result (λ both. both.1.items ≡ listed (gained_at base.now elements.now.entries) (keys_of elements.now.entries)) }

@@ -14,6 +14,7 @@ use crate::event_effect::{apply, complete_all, ready_for_changes, ready_for_even
 use crate::fault::{FromFault, PrepareFault};
 use crate::held_graph::HeldGraph;
 use dg_graph::{Change, Element, Event};
+use dg_seed::Seed;
 use dg_set::Set;
 use std::alloc::{AllocError, Global};
 use std::marker::Model;
@@ -42,12 +43,12 @@ impl Model for Now {
 
 impl Now {
     /// The empty graph, and nothing pending. Takes no memory yet.
-    pub fn new(alloc: Global) -> Now
+    pub fn new(alloc: Global, seed: Seed) -> Now
         ensures graph { result.graph ≡ [] }
         ensures pending { result.pending ≡ [] }
     {
         Now {
-            held: HeldGraph::new(alloc),
+            held: HeldGraph::new(alloc, seed),
             pending: Vec::new(alloc),
         }
     }
@@ -55,11 +56,11 @@ impl Now {
     /// The graph of these elements, and nothing pending. `FromFault::NotGraph` where they are no graph:
     /// an element lacks what it needs, or two elements have one id; `FromFault::Memory` for want of
     /// memory.
-    pub fn from_set(alloc: Global, set: Set) -> Result<Now, FromFault>
+    pub fn from_set(alloc: Global, seed: Seed, set: Set) -> Result<Now, FromFault>
         ensures ok { IfOk result (λ now. (now.graph ≡ set) × (now.pending ≡ []) × IsGraph set) }
         ensures not_graph { IsErrOf result FromFault.NotGraph → IsGraph set → ⊥ }
     {
-        let held = HeldGraph::from_set(alloc, set)?;
+        let held = HeldGraph::from_set(alloc, seed, set)?;
         // What is held is a graph.
         held.facts();
         Ok(Now {
