@@ -99,9 +99,15 @@ names_length (suc k) bytes at t e =
 
 -- ---- a name more
 
-pub fresh_short : (names : List (List ℕ)) (text : List ℕ) → is_fresh names text ≡ true → length text ≤ NAME_BYTES_MAX
-fresh_short names text e =
-    leb-true (length text) NAME_BYTES_MAX (and_parts (nat_le (length text) NAME_BYTES_MAX) _ (and_parts (is_name text) _ e).0).0
+pub name_short : (text : List ℕ) → is_name text ≡ true → length text ≤ NAME_BYTES_MAX
+name_short text e = leb-true (length text) NAME_BYTES_MAX (and_parts (nat_le (length text) NAME_BYTES_MAX) _ e).0
+
+pub no_name : (names : List (List ℕ)) (text : List ℕ) → is_name text ≡ false → is_fresh names text ≡ false
+no_name names text e = ap (λ b. b && not (is_some (number_of names text))) e
+
+-- whether a name is fresh is whether it is new
+pub fresh_name : (names : List (List ℕ)) (text : List ℕ) (is_new : Bool) → is_name text ≡ true → is_new ≡ not (is_some (number_of names text)) → is_fresh names text ≡ is_new
+fresh_name names text is_new e new = ap (λ b. b && not (is_some (number_of names text))) e ∙ sym new
 
 pub fresh_added : (names : List (List ℕ)) (text : List ℕ) → is_fresh names text ≡ true → added names text ≡ names ++ text ∷ []
 fresh_added names text e = by (number_of names text) (and_parts (is_name text) _ e).1

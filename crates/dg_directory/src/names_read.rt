@@ -32,13 +32,6 @@ impl From<AllocError> for DirectoryFault {
     }
 }
 
-// Whether the text may be a name and is not in the list.
-fn is_fresh(text: &[u8], names: &Names) -> bool
-    ensures { result ≡ is_fresh names.now text.now }
-{
-    is_name(text) && names.number(text).is_none()
-}
-
 // The offset behind the name at the offset, where it is within the bytes.
 fn name_end(bytes: &[u8], at: usize) -> Option<usize>
     requires { at ≤ length bytes.now }
@@ -68,10 +61,13 @@ fn read_name(bytes: &[u8], at: usize, names: &mut Names) -> Result<usize, Direct
         return Err(DirectoryFault::Broken);
     };
     let text = &bytes[at + 2..end];
-    if !is_fresh(text, names) {
+    if !is_name(text) {
         return Err(DirectoryFault::Broken);
     }
-    names.add(text)?;
+    let is_new = names.insert(text)?;
+    if !is_new {
+        return Err(DirectoryFault::Broken);
+    }
     Ok(end)
 }
 
