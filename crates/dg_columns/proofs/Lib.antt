@@ -16,3 +16,4 @@ pub mod ReadFitsParts
 pub mod ReadFitsEvents
 pub mod ColumnLawMerges
 pub mod EventRanges
+pub mod Fronts

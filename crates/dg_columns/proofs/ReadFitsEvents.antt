@@ -20,7 +20,7 @@ use Rattle.dg_columns.proofs.ReadFitsDeltas.{id_bound, name_bound}
 use Rattle.dg_columns.proofs.FieldGroups.{events_after, events_step}
 
 -- a number that is read passed its test
-right_is : (width : Width) (k : ℕ) (right : ℕ → Bool) (bytes : List ℕ) (at n : ℕ) → field width k right bytes at ≡ Ok n → right n ≡ true
+pub right_is : (width : Width) (k : ℕ) (right : ℕ → Bool) (bytes : List ℕ) (at n : ℕ) → field width k right bytes at ≡ Ok n → right n ≡ true
 right_is width k right bytes at n e =
     let v = from_be_bytes width (take k (drop at bytes)) in
     let g = field_ok (ltb (length bytes) (at + k)) (right v) at v n e in

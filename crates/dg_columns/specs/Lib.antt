@@ -7,3 +7,4 @@ pub mod Rows
 pub mod MergeWalk
 pub mod ReadFits
 pub mod Added
+pub mod Fronts

@@ -1,9 +1,10 @@
 //! Reading an event column.
 
-ghost use Rattle.std.specs.Prelude.{◌≡◌, ◌+◌, ◌≤◌, length, Ok, IfOk, IfErr};
+ghost use Rattle.std.specs.Prelude.{◌≡◌, ◌+◌, ◌≤◌, ℕ, List, length, Ok, IfOk, IfErr};
 ghost use Rattle.dg_graph.specs.ColumnGrammar.{body_size, events_at, events_in};
 ghost use Rattle.dg_columns.specs.ReadOutcome.{IsReadAs, IsFaultOf};
 ghost use Rattle.dg_columns.specs.Fields.{placed_at};
+ghost use Rattle.dg_columns.specs.Fronts.{IsToldByFront, front_of};
 ghost use Rattle.dg_columns.specs.ReadFits.{PlacedFit};
 
 use crate::event_fields::{body_at, body_size};
@@ -85,7 +86,8 @@ fn any_events(
 /// The events of a column with their positions, in a history with so many names. `Damaged` gives the
 /// offset of the first byte of the first field that does not fit in the bytes or breaks a rule of the
 /// format (docs/FORMATS.md), `Memory` says that memory ran out. Events that are read rise in their
-/// positions, do not fall in time, stand in the column, and name what there is.
+/// positions, do not fall in time, stand in the column, and name what there is. `EVENTS_FRONT` bytes of a column that
+/// has more tell that it is damaged.
 pub fn read_events(
     alloc: Global,
     bytes: &[u8],
@@ -95,6 +97,7 @@ pub fn read_events(
     ensures ok { IfOk result (λ placed. events_in col name_count bytes.now ≡ Ok placed.items) }
     ensures fits { IfOk result (λ placed. PlacedFit col name_count 0 0 placed.items) }
     ensures err { IfErr result (λ fault. IsFaultOf fault (events_in col name_count bytes.now)) }
+    ensures front { (whole : List ℕ) → bytes.now ≡ front_of whole → IsToldByFront col name_count bytes.now whole }
 {
     any_events(alloc, bytes, col, name_count)
 }

@@ -24,6 +24,19 @@ pub(crate) const VALUE_SIZE: usize = 16;
 /// The fewest bytes that an event takes.
 pub(crate) const SMALLEST_EVENT: usize = STAMP_SIZE + NODE_SIZE;
 
+/// The most bytes that an event takes.
+const LARGEST_EVENT: u64 = (STAMP_SIZE + EDGE_SIZE) as u64;
+
+/// The most events of a column: each has a position of its own, in two bytes.
+const EVENTS_MAX: u64 = 65_536;
+
+/// The bytes of an event's position.
+const POSITION_SIZE: u64 = 2;
+
+/// How many bytes of an event column need to be read, from its first on. They hold a count, as many events as there
+/// are positions, and the position of one more: a column that has as many bytes is in no spelling.
+pub const EVENTS_FRONT: u64 = COUNT_SIZE as u64 + EVENTS_MAX * LARGEST_EVENT + POSITION_SIZE;
+
 /// The fewest bytes that an element takes.
 pub(crate) const SMALLEST_ELEMENT: usize = NODE_SIZE;
 

@@ -31,3 +31,4 @@ pub use laws::{
     law_events_are_merged_back, law_events_are_read_back, law_events_have_one_spelling,
     law_events_that_are_read_fit, law_parts_are_joined_back,
 };
+pub use layout::EVENTS_FRONT;

@@ -1,8 +1,9 @@
 -- Where the columns of a record stand in the image.
-use Rattle.std.proofs.Common.{◌≡◌, ℕ, zero, suc, ◌+◌, ◌-◌, ◌≤◌, Bool, true, false, cond, not, List, [], ◌∷◌, length, get_or, take, drop, Option, Some, None, Result, Ok, Err, refl, sym, ap, subst, ◌∙◌, arith}
-use Rattle.std.specs.Prelude.{IfSome, IfOk, is_some, ◌==◌, ◌||◌, nat_le, nat_lt}
+use Rattle.std.proofs.Common.{◌≡◌, ℕ, zero, suc, ◌+◌, ◌-◌, ◌≤◌, Bool, true, false, cond, not, List, [], ◌∷◌, length, get_or, take, drop, Option, Some, None, Result, Ok, Err, refl, sym, ap, subst, ◌∙◌, arith, inl, inr}
+use Rattle.std.specs.Prelude.{IfSome, IfOk, is_some, min, ◌==◌, ◌||◌, nat_le, nat_lt}
 use Rattle.std.specs.Map.{lookup}
-use Rattle.std.proofs.lemmas.Bool.{eqb-true, leb-true, ltb-false, and_parts}
+use Rattle.std.proofs.lemmas.Bool.{cases_lt, eqb-true, leb-true, ltb-false, and_parts}
+use Rattle.std.proofs.lemmas.List.{length-take, take-take, take_all}
 use Rattle.dg_disk.specs.Image.{HasRange}
 use Rattle.dg_graph.specs.declared.element.Column.{Column}
 use Rattle.dg_history.specs.declared.node.Key.{Key}
@@ -105,6 +106,25 @@ pub column_read : (x : Option (List ℕ)) (o : Opening) (k : Key) (col : Column)
 column_read None o k col e offset len bytes is p l h = tt
 column_read (Some image) o k col e offset len bytes is p l h =
     subst (λ (q : Option Entry). IfSome q (λ e. bytes ≡ column_at image e col)) (sym is) (h ∙ (λ i. take (l i) (drop (p i) image)) ∙ column_is image e col)
+
+-- the front of a column is there, and read
+pub front_there : (x : Option (List ℕ)) (offset len short : ℕ) → short ≤ len → HasRange x offset len → HasRange x offset short
+front_there None offset len short le h = tt
+front_there (Some image) offset len short le h = omega (arith, le, h)
+
+take_least : {A : Type 0} (most len : ℕ) (xs : List A) → take (min most len) xs ≡ take most (take len xs)
+take_least most len xs =
+    elim (cases_lt most len) [
+      | inl lt ↦ ap (λ n. take n xs) (let e : min most len ≡ most = omega (arith, lt) in e) ∙ sym (take-take most len xs (omega (arith, lt)))
+      | inr le ↦ ap (λ n. take n xs) (let e : min most len ≡ len = omega (arith, le) in e) ∙ sym (take_all most (take len xs) (omega (arith, le, length-take len xs)))
+    ]
+
+pub front_read : (x : Option (List ℕ)) (o : Opening) (k : Key) (col : Column) (e : Entry) (offset most len : ℕ) (bytes : List ℕ) → lookup (same_key k) o.records ≡ Some e → offset ≡ offset_in e col → len ≡ min most (column_length_in e col)
+    → IfSome x (λ image. bytes ≡ take len (drop offset image)) → IfSome x (λ image. IfSome (lookup (same_key k) o.records) (λ e. bytes ≡ take most (column_at image e col)))
+front_read None o k col e offset most len bytes is p l h = tt
+front_read (Some image) o k col e offset most len bytes is p l h =
+    subst (λ (q : Option Entry). IfSome q (λ e. bytes ≡ take most (column_at image e col))) (sym is)
+    (h ∙ (λ i. take (l i) (drop (p i) image)) ∙ take_least most (column_length_in e col) (drop (offset_in e col) image) ∙ ap (take most) (column_is image e col))
 
 -- ---- the bytes in use are there
 

@@ -1,6 +1,6 @@
 //! An index over a disk: it is made, reopened, read, and given a batch.
 
-ghost use Rattle.std.specs.Prelude.{◌≡◌, ◌≢◌, ◌≤◌, ◌<◌, ◌+◌, ◌-◌, ℕ, [], ◌&&◌, not, true, false, drop, length, take, Some, None, Ok, Err, is_some, slice_get, slice_index, IfSome, IfOk, IfErr, OnOk, OnErr, IsErrOf};
+ghost use Rattle.std.specs.Prelude.{◌≡◌, ◌≢◌, ◌≤◌, ◌<◌, ◌+◌, ◌-◌, ℕ, [], ◌&&◌, min, not, true, false, drop, length, take, Some, None, Ok, Err, is_some, slice_get, slice_index, IfSome, IfOk, IfErr, OnOk, OnErr, IsErrOf};
 ghost use Rattle.std.specs.Map.{lookup};
 ghost use Rattle.dg_disk.specs.Calls.{Fails, FailsToWrite, IsOnDevice, LeftByCrash, ReadsDisk, SyncsDisk, WritesDisk};
 ghost use Rattle.dg_disk.specs.Counts.{raised_by};
@@ -17,6 +17,7 @@ ghost use Rattle.dg_index.specs.IndexKeys.{AreKept};
 ghost use Rattle.dg_index.specs.OpenedIndex.{column_at, bare, directory_of, earliest_in, event_total, first_in, keys_next, last_list, list_count, may_be_listed, may_follow, opened_of, opening, rows_in, span_in};
 ghost use Rattle.dg_disk.specs.Image.{HasRange, IsLengthOf};
 ghost use Rattle.dg_catalogue.specs.Additions.{bytes_of_rows, Suits};
+ghost use Rattle.dg_catalogue.specs.Entries.{column_length_in};
 ghost use Rattle.dg_catalogue.specs.Points.{ListsRise};
 ghost use Rattle.dg_file.specs.Calls.{CommitsPart, CommitsSegment, IsOverLimit, LacksMarkerRoom, Upgrades, UpgradesPart};
 ghost use Rattle.dg_directory.specs.Directories.{directory_due, FindsDirectory, TakesDirectory, are_marking};
@@ -98,6 +99,17 @@ fn listed_after(listed: Option<u64>, rows: &[Row]) -> Option<u64>
         }
     }
     last
+}
+
+// The bytes of the front of a column that has so many, or fewer.
+fn front_length(entry: &Entry, col: Column, most: u64) -> u64
+    ensures { result ≡ min most (column_length_in entry.now col) }
+{
+    let all = column_length(entry, col);
+    if most < all {
+        return most;
+    }
+    all
 }
 
 impl Index {
@@ -502,6 +514,33 @@ impl Index {
     {
         let entry = self.catalogue.entry(key).unwrap();
         let len = column_length(&entry, col);
+        read_range(self.alloc, disk, column_offset(&entry, col), len)
+    }
+
+    /// Reads the first bytes of a column of a record that the index keeps: `most`, or all where it has no more.
+    /// `FetchFault::Disk` where the disk failed, `FetchFault::Memory` for want of memory.
+    pub fn fetch_front<D: Disk>(
+        &mut self,
+        disk: &mut D,
+        key: Key,
+        col: Column,
+        most: u64,
+    ) -> Result<Vec<u8>, FetchFault>
+        requires held { is_some (lookup (same_key key) self.old.opening.records) ≡ true }
+        requires image { IfSome (D.image disk.old) (λ image. IsOpenedAs image self.old.opening) }
+        ensures bytes { IfOk result (λ bytes. IfSome (D.image disk.old) (λ image. IfSome (lookup (same_key key) self.old.opening.records) (λ e. bytes.items ≡ take most (column_at image e col)))) }
+        ensures taken { IfOk result (λ bytes. D.taken disk.new ≡ taken_after (length bytes.items) (D.taken disk.old)) }
+
+        // errors
+        ensures cause { IsErrOf result FetchFault.Disk → Fails D.Disk disk.old disk.new }
+        ensures none_taken { OnErr result (D.taken disk.new ≡ D.taken disk.old) }
+
+        // frame
+        ensures same { self.new ≡ self.old }
+        ensures frame { ReadsDisk D.Disk disk.old disk.new }
+    {
+        let entry = self.catalogue.entry(key).unwrap();
+        let len = front_length(&entry, col, most);
         read_range(self.alloc, disk, column_offset(&entry, col), len)
     }
 
