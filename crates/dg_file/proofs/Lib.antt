@@ -10,4 +10,5 @@ pub mod ImageSegments
 pub mod ImageUpgrades
 pub mod GrowthCreations
 pub mod GrowthCrashes
+pub mod TidyWrites
 pub mod InvariantLists

@@ -5,15 +5,18 @@ use Rattle.dg_disk.specs.Calls.{FailsToWrite, IsOnDevice}
 use Rattle.dg_disk.specs.declared.disk.Disk.{Ghosts}
 use Rattle.dg_file.specs.Images.{BothTold, GainsBatch, GainsBatchOrNot, GainsMarker, GainsSegment, GainsUpgrade, GainsUpgradeOrNot}
 use Rattle.dg_file.specs.Index.{IndexState}
+use Rattle.dg_file.specs.TidyImages.{StaysTidy}
 use Rattle.dg_index.specs.FileOfHistory.{Segment}
 use Rattle.dg_index.specs.IndexGrowth.{index_upgraded, index_with, needed_for, needed_for_marker}
 use Rattle.dg_index.specs.OpenedIndex.{Opening}
 
--- The segment is in the index and in the file, which has the batch, and all of it is on the device.
+-- The segment is in the index and in the file, which has the batch, and all of it is on the device. An image that was
+-- just the bytes in use is just those in use now.
 pub record CommitsSegment {D : Type 0} (g : Ghosts D) (limit : ℕ) (old : Opening) (segment : Segment) (new : Opening) (before after : D) : Type 0 where
   pub index : new ≡ index_with old segment
   pub opened : BothTold (g.image before) (g.image after) (GainsSegment old segment new)
   pub gained : BothTold (g.image before) (g.image after) (GainsBatch segment)
+  pub exact : StaysTidy (g.image before) (g.image after)
   pub fits : needed_for old segment ≤ limit
   pub settled : IsOnDevice g after
 
@@ -30,11 +33,13 @@ pub record CommitsPart {D : Type 0} (g : Ghosts D) (limit : ℕ) (old : Opening)
   pub fits : needed_for old segment ≤ limit
   pub cause : FailsToWrite g before after
 
--- The marker is in the file, which is of the upgraded history, and all of it is on the device.
+-- The marker is in the file, which is of the upgraded history, and all of it is on the device. An image that was just the
+-- bytes in use is just those in use now.
 pub record Upgrades {D : Type 0} (g : Ghosts D) (limit : ℕ) (old new : Opening) (before after : D) : Type 0 where
   pub index : new ≡ index_upgraded old
   pub opened : BothTold (g.image before) (g.image after) (GainsMarker old new)
   pub gained : BothTold (g.image before) (g.image after) GainsUpgrade
+  pub exact : StaysTidy (g.image before) (g.image after)
   pub fits : needed_for_marker old ≤ limit
   pub settled : IsOnDevice g after
 

@@ -1,5 +1,6 @@
 pub mod Index
 pub mod Images
+pub mod TidyImages
 pub mod OpeningBytes
 pub mod Headers
 pub mod Invariant

@@ -5,7 +5,7 @@ ghost use Rattle.dg_disk.specs.Calls.{FailsToWrite, IsOnDevice, LeftByCrash, Wri
 ghost use Rattle.dg_disk.specs.Crash.{LeavesOnly, TornBehind};
 ghost use Rattle.dg_disk.specs.Image.{HasOffset};
 ghost use Rattle.dg_index.specs.FileOfHistory.{blobs, marker};
-ghost use Rattle.dg_file.specs.Growth.{Moved, KeepsFront, Grown, Gated, GatedOrNot};
+ghost use Rattle.dg_file.specs.Growth.{EndsBy, Moved, KeepsFront, Grown, Gated, GatedOrNot, JustGated};
 
 use crate::disk_calls::put_down;
 use crate::header::{CLOSED, OPEN};
@@ -18,6 +18,7 @@ fn put<D: Disk>(disk: &mut D, offset: u64, piece: &[u8]) -> Result<u64, Failed>
     requires fits { offset + length piece.now < 2 ^ 64 }
     ensures behind { IfOk result (λ n. n ≡ offset + length piece.now) }
     ensures written { OnOk result (Moved (D.image disk.old) (D.image disk.new) (Grown offset piece.now)) }
+    ensures ends { OnOk result (Moved (D.image disk.old) (D.image disk.new) (EndsBy offset (length piece.now))) }
     ensures part { Moved (D.image disk.old) (D.image disk.new) (KeepsFront offset) }
     ensures cause { OnErr result (FailsToWrite D.Disk disk.old disk.new) }
     ensures frame { WritesDisk D.Disk disk.old disk.new }
@@ -39,6 +40,7 @@ fn put_columns<D: Disk>(disk: &mut D, offset: u64, segment: &Segment) -> Result<
     requires fits { offset + length (blobs segment.now) < 2 ^ 64 }
     ensures behind { IfOk result (λ n. n ≡ offset + length (blobs segment.now)) }
     ensures written { OnOk result (Moved (D.image disk.old) (D.image disk.new) (Grown offset (blobs segment.now))) }
+    ensures ends { OnOk result (Moved (D.image disk.old) (D.image disk.new) (EndsBy offset (length (blobs segment.now)))) }
     ensures part { Moved (D.image disk.old) (D.image disk.new) (KeepsFront offset) }
     ensures cause { OnErr result (FailsToWrite D.Disk disk.old disk.new) }
     ensures frame { WritesDisk D.Disk disk.old disk.new }
@@ -62,6 +64,7 @@ fn write_segment<D: Disk>(
     requires offset { HasOffset (D.image disk.old) offset }
     requires fits { offset + length head.now + length (blobs segment.now) + 1 < 2 ^ 64 }
     ensures written { OnOk result (Moved (D.image disk.old) (D.image disk.new) (Grown offset (head.now ++ blobs segment.now ++ 0 ∷ []))) }
+    ensures ends { OnOk result (Moved (D.image disk.old) (D.image disk.new) (EndsBy offset (length (head.now ++ blobs segment.now) + 1))) }
     ensures part { Moved (D.image disk.old) (D.image disk.new) (KeepsFront offset) }
     ensures cause { OnErr result (FailsToWrite D.Disk disk.old disk.new) }
     ensures frame { WritesDisk D.Disk disk.old disk.new }
@@ -89,6 +92,7 @@ pub(crate) fn append<D: Disk>(
     requires some { 1 ≤ used }
     requires fits { used + length head.now + length (blobs segment.now) + 1 < 2 ^ 64 }
     ensures written { OnOk result (Moved (D.image disk.old) (D.image disk.new) (Gated (used - 1) 1 (head.now ++ blobs segment.now))) }
+    ensures exact { OnOk result (Moved (D.image disk.old) (D.image disk.new) (JustGated (used - 1) 1 (head.now ++ blobs segment.now))) }
     ensures part { OnErr result (Moved (D.image disk.old) (D.image disk.new) (GatedOrNot used (head.now ++ blobs segment.now))) }
     ensures cause { OnErr result (FailsToWrite D.Disk disk.old disk.new) }
     ensures frame { WritesDisk D.Disk disk.old disk.new }
@@ -113,6 +117,7 @@ pub(crate) fn append_marker<D: Disk>(disk: &mut D, used: u64) -> Result<(), Fail
     requires offset { HasOffset (D.image disk.old) used }
     requires some { 1 ≤ used }
     ensures written { OnOk result (Moved (D.image disk.old) (D.image disk.new) (Gated (used - 1) 1 marker)) }
+    ensures exact { OnOk result (Moved (D.image disk.old) (D.image disk.new) (JustGated (used - 1) 1 marker)) }
     ensures part { OnErr result (Moved (D.image disk.old) (D.image disk.new) (GatedOrNot used marker)) }
     ensures cause { OnErr result (FailsToWrite D.Disk disk.old disk.new) }
     ensures frame { WritesDisk D.Disk disk.old disk.new }

@@ -1,8 +1,9 @@
 //! Writing the header of a new index.
 
-ghost use Rattle.std.specs.Prelude.{◌≡◌, true, false, OnOk, OnErr, IfSome};
+ghost use Rattle.std.specs.Prelude.{◌≡◌, ◌++◌, ◌∷◌, [], true, false, OnOk, OnErr, IfSome};
 ghost use Rattle.dg_disk.specs.Calls.{FailsToWrite, IsOnDevice, LeftByCrash, WritesDisk};
 ghost use Rattle.dg_history.specs.History.{are_parameters, empty_history, is_form, is_function};
+ghost use Rattle.dg_index.specs.FileOfHistory.{file};
 ghost use Rattle.dg_index.specs.ImageOfHistory.{IsImageOf, is_blank};
 ghost use Rattle.dg_file.specs.Growth.{Moved};
 ghost use Rattle.dg_file.specs.Headers.{is_upgraded};
@@ -22,6 +23,7 @@ pub(crate) fn write_header<D: Disk>(disk: &mut D, form: Form, params: Params) ->
     requires first { is_upgraded form ≡ false }
     requires blank { IfSome (D.image disk.old) (λ image. is_blank image ≡ true) }
     ensures image { OnOk result (Moved (D.image disk.old) (D.image disk.new) (λ before after. IsImageOf (empty_history form params) after)) }
+    ensures exact { OnOk result (Moved (D.image disk.old) (D.image disk.new) (λ before after. after ≡ file (empty_history form params) ++ 0 ∷ [])) }
     ensures part { OnErr result (Moved (D.image disk.old) (D.image disk.new) (IsMadeInPart form params)) }
     ensures cause { OnErr result (FailsToWrite D.Disk disk.old disk.new) }
     ensures frame { WritesDisk D.Disk disk.old disk.new }

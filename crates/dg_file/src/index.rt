@@ -1,6 +1,6 @@
 //! An index over a disk: it is made, reopened, read, and given a batch.
 
-ghost use Rattle.std.specs.Prelude.{◌≡◌, ◌≢◌, ◌≤◌, ◌<◌, ◌+◌, ◌-◌, ℕ, [], ◌&&◌, min, not, true, false, drop, length, take, Some, None, Ok, Err, is_some, slice_get, slice_index, IfSome, IfOk, IfErr, OnOk, OnErr, IsErrOf};
+ghost use Rattle.std.specs.Prelude.{◌≡◌, ◌≢◌, ◌≤◌, ◌<◌, ◌+◌, ◌-◌, ◌++◌, ◌∷◌, ℕ, [], ◌&&◌, min, not, true, false, drop, length, take, Some, None, Ok, Err, is_some, slice_get, slice_index, IfSome, IfOk, IfErr, OnOk, OnErr, IsErrOf};
 ghost use Rattle.std.specs.Map.{lookup};
 ghost use Rattle.dg_disk.specs.Calls.{Fails, FailsToWrite, IsOnDevice, LeftByCrash, ReadsDisk, SyncsDisk, WritesDisk};
 ghost use Rattle.dg_disk.specs.Counts.{raised_by};
@@ -9,7 +9,7 @@ ghost use Rattle.dg_graph.specs.declared.limits.TheConstants.{TIME_MAX};
 ghost use Rattle.dg_text.specs.declared.limits.TheConstants.{NAMES_MAX};
 ghost use Rattle.dg_history.specs.History.{are_parameters, empty_history, is_form, is_function, is_wide};
 ghost use Rattle.dg_history.specs.Keys.{same_key};
-ghost use Rattle.dg_index.specs.FileOfHistory.{head_of};
+ghost use Rattle.dg_index.specs.FileOfHistory.{file, head_of};
 ghost use Rattle.dg_index.specs.ImageText.{eight_at};
 ghost use Rattle.dg_index.specs.ImageOfHistory.{is_blank, IsImageOf};
 ghost use Rattle.dg_index.specs.IndexGrowth.{AreInTurn, IsDue, columns_in, last_time_in, name_total, index_upgraded};
@@ -279,6 +279,7 @@ impl Index {
         ensures made { IfOk result (λ index. index.opening ≡ (opened_of (empty_history form params)).index) }
         ensures opened { OnOk result (IfSome (D.image disk.new) (λ image. opening image ≡ Ok (opened_of (empty_history form params)))) }
         ensures image { OnOk result (IfSome (D.image disk.new) (λ image. IsImageOf (empty_history form params) image)) }
+        ensures exact { OnOk result (IfSome (D.image disk.new) (λ image. image ≡ file (empty_history form params) ++ 0 ∷ [])) }
 
         // errors
         ensures part { IsErrOf result CreateFault.Disk → BothTold (D.image disk.old) (D.image disk.new) (λ old new. IsMadeInPart form params old new) }

@@ -13,5 +13,5 @@ mod reads;
 
 pub use fault::{CommitFault, CreateFault, FetchFault, ReopenFault};
 pub use index::Index;
-pub use laws::{law_batches_are_measured, law_upgrades_are_measured};
+pub use laws::{law_batches_are_measured, law_tidy_images_are_files, law_upgrades_are_measured};
 pub use prepared_segment::PreparedSegment;

@@ -1,10 +1,11 @@
-use Rattle.std.proofs.Common.{◌≡◌, ℕ, ◌+◌, ◌++◌, List, length, ap, subst, ◌∙◌, arith, length-append}
+use Rattle.std.proofs.Common.{◌≡◌, ℕ, ◌+◌, ◌++◌, List, length, refl, ap, subst, ◌∙◌, arith, length-append}
 use Rattle.std.proofs.lemmas.Result.{IfOk-weaker, on_ok_weaker}
 use Rattle.dg_disk.proofs.CrashLeavesOnly.{behind_then}
 use Rattle.dg_index.specs.FileOfHistory.{Segment, blobs, bytes_of, delta_blobs, list_blobs}
 use Rattle.dg_file.specs.Growth.{Moved, Grown}
 use Rattle.dg_file.proofs.GrowthMoves.{offset_behind, keep_then, grow_then}
 use Rattle.dg_file.proofs.SegmentText.{columns_are}
+use Rattle.dg_file.proofs.TidyWrites.{ends_then}
 use Rattle.dg_file.proofs.append.put_columns.Goals as goal
 
 -- the bytes of the three parts are those of all columns
@@ -58,3 +59,14 @@ pub returns-clause-crash : goal.returns-clause-crash
 returns-clause-crash g c =
     behind_then g.D.Disk.moment g.D.Disk.left_since g.D.Disk.may_leave g.met.D.Disk.counts_now c.args.disk.now c.put.new.disk c.put-3.new.disk c.args.offset c.in_ok-deltas_offset.deltas_offset (omega (arith, c.in_ok-deltas_offset.ensures.behind)) c.put.ensures.crash
     (behind_then g.D.Disk.moment g.D.Disk.left_since g.D.Disk.may_leave g.met.D.Disk.counts_now c.put.new.disk c.put-2.new.disk c.put-3.new.disk c.in_ok-deltas_offset.deltas_offset c.in_ok-piece_offset.piece_offset (omega (arith, c.in_ok-piece_offset.ensures.behind)) c.put-2.ensures.crash c.put-3.ensures.crash)
+
+pub returns-clause-ends : goal.returns-clause-ends
+returns-clause-ends g c =
+    let first : ℕ = length c.list_columns.result.now in
+    let second : ℕ = length c.delta_columns.result.now in
+    let third : ℕ = length c.piece_columns.result.now in
+    let all : length (blobs c.args.segment.now) ≡ first + (second + third) =
+    omega (arith, sum_is c.args.segment.now, ap length c.list_columns.ensures, ap length c.delta_columns.ensures, ap length c.piece_columns.ensures) in
+    on_ok_weaker c.put-3.result (λ last.
+    ends_then _ _ _ c.args.offset c.in_ok-deltas_offset.deltas_offset first (second + third) _ c.in_ok-deltas_offset.ensures.behind all c.in_ok-deltas_offset.ensures.ends
+    (ends_then _ _ _ c.in_ok-deltas_offset.deltas_offset c.in_ok-piece_offset.piece_offset second third _ c.in_ok-piece_offset.ensures.behind refl c.in_ok-piece_offset.ensures.ends last)) c.put-3.ensures.ends

@@ -7,6 +7,7 @@ use Rattle.dg_file.proofs.GrowthCrashes.{told_then}
 use Rattle.std.proofs.lemmas.Result.{on_ok_weaker, on_err_weaker}
 use Rattle.dg_file.proofs.GrowthMoves.{on_err_any}
 use Rattle.dg_file.proofs.GrowthCreations.{offset_zero, offset_one, made_first, made_first_part, made_second, made_second_part, made_third, made_third_part, torn_first, torn_second, torn_third, rest_long, Closed, Written}
+use Rattle.dg_file.proofs.TidyWrites.{made_exact}
 use Rattle.dg_file.proofs.creation.write_header.Goals as goal
 
 pub put_down-requires : goal.put_down-requires
@@ -53,3 +54,9 @@ returns-clause-crash g c =
     Closed (PartWritten 1 (length c.header_behind_gate.result)) (IsMadeInPart c.args.form c.args.params) (λ a b e closed part. torn_second c.args.form c.args.params a b e closed (part.0, omega (arith, part.1, ap length c.header_behind_gate.ensures, rest_long c.args.form c.args.params), part.2)) (made_first c.args.form c.args.params _ _ c.requires.blank c.in_ok-put_down.ensures.written)
     (told_widens g.D.Disk.moment g.D.Disk.left_since g.D.Disk.may_leave (g.D.Disk.image c.args.disk.now) c.args.disk.now c.put_down.new.disk (λ a. is_blank a ≡ true) (PartWritten 0 1) (IsMadeInPart c.args.form c.args.params) (λ a e blank part. torn_first c.args.form c.args.params a e blank part) c.requires.blank c.put_down.ensures.crash) c.in_ok-put_down.ensures.settled c.put_down-2.ensures.crash)
     c.in_ok-put_down-2.ensures.settled c.put_down-3.ensures.crash
+
+pub returns-clause-exact : goal.returns-clause-exact
+returns-clause-exact g c =
+    on_ok_weaker c.put_down-3.result
+    (made_exact c.args.form c.args.params _ _ _ c.requires.first (made_second c.args.form c.args.params _ _ _ _ c.header_behind_gate.ensures (made_first c.args.form c.args.params _ _ c.requires.blank c.in_ok-put_down.ensures.written) c.in_ok-put_down-2.ensures.written))
+    c.put_down-3.ensures.written

@@ -12,12 +12,13 @@ use Rattle.dg_index.proofs.OpenedIndexHistories.{large_parameters}
 use Rattle.dg_catalogue.specs.Additions.{Suits}
 use Rattle.dg_file.specs.declared.fault.CommitFault.{CommitFault}
 use Rattle.dg_file.specs.declared.fault.CommitFault.TheVariants.{FileFull, Disk}
-use Rattle.dg_file.specs.Growth.{Moved, Gated, GatedOrNot}
+use Rattle.dg_file.specs.Growth.{Moved, Gated, GatedOrNot, JustGated}
 use Rattle.dg_file.specs.Images.{BothTold, Fits, GainsBatchOrNot, GainsSegment}
 use Rattle.dg_file.specs.Index.{IndexState}
 use Rattle.dg_file.proofs.ImageSegments.{added_batch, added_or_not, added_segment, columns_end, index_is, needed_is, text_written, used_there}
 use Rattle.dg_file.proofs.InvariantBatches.{follows_in}
 use Rattle.dg_directory.proofs.OpenedIndexKeys.{suits_segment}
+use Rattle.dg_file.proofs.TidyWrites.{segment_tidy}
 use Rattle.dg_file.proofs.index.Index.add.Goals as goal
 
 full_bytes : ℕ → Result (Unit {0}) CommitFault → ℕ
@@ -102,10 +103,12 @@ returns-clause-done g c =
     let new : c.note.new.self.opening ≡ index_with o s = c.note.ensures ∙ index_is o s c.batch.result c.rows.result.now c.head-head.result.now c.self.inside.used (c.self.inside.used + c.size.result) (c.batch.ensures ∙ ap (λ (s : Segment). (directory_of s).batch) c.segment-segment.ensures) c.rows.ensures head used needed in
     let parameters = subst (λ (v : IndexState). are_parameters v.opening.params.l v.opening.params.k ≡ true) c.self.view_is c.self.invariant.parameters in
     let gated = subst (λ (l : List ℕ). Moved x y (Gated (c.self.inside.used - 1) 1 l)) text c.in_ok-append.ensures.written in
+    let opened : BothTold x y (GainsSegment o s (index_with o s)) = added_segment x y o s c.self.inside.used used within c.requires.image parameters c.requires.due (omega (arith, used, c.self.invariant.bytes)) gated in
+    let just = subst (λ (l : List ℕ). Moved x y (JustGated (c.self.inside.used - 1) 1 l)) text c.in_ok-append.ensures.exact in
     record {
       index = new;
-      opened = subst (λ (n : Opening). BothTold x y (GainsSegment o s n)) (sym new)
-          (added_segment x y o s c.self.inside.used used within c.requires.image parameters c.requires.due (omega (arith, used, c.self.invariant.bytes)) gated);
+      opened = subst (λ (n : Opening). BothTold x y (GainsSegment o s n)) (sym new) opened;
+      exact = segment_tidy x y o (index_with o s) c.self.inside.used (segment_bytes (is_wide o.form) s) used (omega (arith, c.self.invariant.bytes)) (omega (arith, used)) s c.requires.image opened just;
       gained = added_batch x y o s c.self.inside.used used within c.requires.image gated;
       fits = subst (λ n. n ≤ c.args.limit) needed (omega (arith, c.if-limit-needed.false));
       settled = c.in_ok-append.ensures.settled;

@@ -1,6 +1,7 @@
-use Rattle.std.proofs.Common.{◌≡◌, Ok, inl, true}
+use Rattle.std.proofs.Common.{◌≡◌, ◌++◌, ◌∷◌, [], Ok, inl, true}
 use Rattle.dg_disk.proofs.CrashTold.{told_starts}
 use Rattle.dg_history.specs.History.{empty_history}
+use Rattle.dg_index.specs.FileOfHistory.{file}
 use Rattle.dg_index.specs.ImageOfHistory.{IsImageOf, is_blank}
 use Rattle.dg_index.specs.OpenedIndex.{opening, opened_of}
 use Rattle.dg_file.specs.Images.{IsMadeInPart}
@@ -22,3 +23,7 @@ returns-in_err-write_header-clause-part g c = λ _. moved_both _ _ (IsMadeInPart
 pub returns-in_err-reserve-clause-crash : goal.returns-in_err-reserve-clause-crash
 returns-in_err-reserve-clause-crash g c =
     told_starts g.D.Disk.moment g.D.Disk.left_since g.D.Disk.may_leave g.met.D.Disk.only_now (g.D.Disk.image c.args.disk.now) c.args.disk.now (λ a. is_blank a ≡ true) (IsMadeInPart c.args.form c.args.params) (λ a blank. inl blank) c.requires.blank
+
+pub returns-clause-exact : goal.returns-clause-exact
+returns-clause-exact g c =
+    moved_after _ _ (λ before after. after ≡ file (empty_history c.args.form c.args.params) ++ 0 ∷ []) (λ image. image ≡ file (empty_history c.args.form c.args.params) ++ 0 ∷ []) (λ a b is. is) c.in_ok-write_header.ensures.exact

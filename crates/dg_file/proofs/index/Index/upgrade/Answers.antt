@@ -10,6 +10,7 @@ use Rattle.dg_file.specs.Growth.{GatedOrNot}
 use Rattle.dg_file.specs.Images.{BothTold, GainsMarker, GainsUpgradeOrNot, IsOpenedAs}
 use Rattle.dg_file.specs.Index.{IndexState}
 use Rattle.dg_file.proofs.ImageUpgrades.{added_marker, added_or_not, added_upgrade, offset_there}
+use Rattle.dg_file.proofs.TidyWrites.{marker_tidy}
 use Rattle.dg_file.proofs.index.Index.upgrade.Goals as goal
 
 full_bytes : ℕ → Result (Unit {0}) CommitFault → ℕ
@@ -48,10 +49,11 @@ returns-clause-done g c =
     let fits : needed_for_marker o ≤ c.args.limit = omega (arith, used, c.if-limit-needed.false) in
     let within : needed_for_marker o ≤ FILE_BYTES_MAX = omega (arith, fits, c.requires.limit) in
     let new : c.note_marker.new.self.opening ≡ index_upgraded o = c.note_marker.ensures.marked in
+    let opened : BothTold x y (GainsMarker o (index_upgraded o)) = added_marker x y o c.self.inside.used used within c.requires.image c.requires.narrow (omega (arith, used, c.self.invariant.bytes)) c.in_ok-append_marker.ensures.written in
     record {
       index = new;
-      opened = subst (λ (n : Opening). BothTold x y (GainsMarker o n)) (sym new)
-          (added_marker x y o c.self.inside.used used within c.requires.image c.requires.narrow (omega (arith, used, c.self.invariant.bytes)) c.in_ok-append_marker.ensures.written);
+      opened = subst (λ (n : Opening). BothTold x y (GainsMarker o n)) (sym new) opened;
+      exact = marker_tidy x y o (index_upgraded o) c.self.inside.used marker used (omega (arith, c.self.invariant.bytes)) (omega (arith, used)) c.requires.image opened c.in_ok-append_marker.ensures.exact;
       gained = added_upgrade x y o c.self.inside.used used within c.requires.image c.in_ok-append_marker.ensures.written;
       fits = fits;
       settled = c.in_ok-append_marker.ensures.settled;
