@@ -3,9 +3,9 @@
   python3 .ci/damage.py PROGRAM FOLDER [SEED COUNT]
 
 The file of five changes is cut at each length, and each of its bytes is changed; and files in use are damaged in 2,000
-random ways, or in COUNT ways of another SEED. What is due of each is judged by .ci/judge.py, which knows nothing of the
-program: whether the file is no index, is refused by its header or a directory, whether a start goes on with it, and
-whether its records are what its own events determine. A run over it ends with that refusal of the start, or answers each
+random ways, or in COUNT ways of another SEED, and their lists are made longer than their events. What is due of each is
+judged by .ci/judge.py, which knows nothing of the program: whether the file is no index, is refused by its header or a
+directory, whether a start goes on with it, and whether its records are what its own events determine. A run over it ends with that refusal of the start, or answers each
 command, in the grammar of replies; `verify` says exactly what is due; a column that is named as damaged is in no spelling;
 and no byte in use is written but the last gate. With `--checked` a run is refused exactly where the file is not sound.
 Over a sound file, which may stand for another history than before, all replies are those of the model over the events in
@@ -443,6 +443,31 @@ def move_bytes(image, giver, taker, count):
         image[place : place + 8] = (max(size, 0) % 2**64).to_bytes(8, "big")
 
 
+def longer_lists(file):
+    """The file with bytes more, zeros, in a column of its first or its last list, with the sizes that go with them: by one,
+    and by more than a list of its events can have. Each with what was done."""
+    opened = judge.Opened(file.image)
+    lists = {key: row for key, row in opened.rows.items() if key.startswith("list ")}
+    for key in sorted({*list(lists)[:1], *list(lists)[-1:]}):
+        row = lists[key]
+        segment = HEADER
+        while segment_end(file.image, segment) < row.place:
+            segment = segment_end(file.image, segment)
+        for column in range(row.lengths):
+            for count in (1, 13 + 36 * opened.size):
+                image = bytearray(file.image)
+                for place in (row.place + 8 * column, segment + 8):
+                    image[place : place + 8] = (int.from_bytes(image[place : place + 8], "big") + count).to_bytes(8, "big")
+                behind = row.offset + sum(row.sizes[: column + 1])
+                image[behind:behind] = bytes(count)
+                yield f"{count} bytes more in {key}, column {column}", bytes(image)
+
+
+def segment_end(image, segment):
+    """Where the segment behind this one begins."""
+    return segment + 17 + sum(int.from_bytes(image[segment + at : segment + at + 8], "big") for at in (0, 8))
+
+
 def five_changes(tests, damage):
     """The file of five changes, cut at each length, and with each byte changed. Of its header and of the first fields of
     its segment it is said here what is due; of all else by the judgement."""
@@ -490,6 +515,8 @@ def main():
     files = [File(*file) for file in FILES]
     for file in files:
         damage.look("a file in use", file.image, file.script, in_use(file.image))
+        for name, image in longer_lists(file):
+            damage.look(name, image, file.script, in_use(file.image))
     seed, count = map(int, sys.argv[3:5]) if len(sys.argv) > 3 else (SEED, DAMAGES)
     draw = random.Random(seed)
     for number in range(count):
