@@ -90,7 +90,8 @@ fn read(rt: &HostRuntime, words: &[String]) -> Result<Words, Status> {
 
 // Room for so many ranges of the file. None where it is for no range, or for want of memory, which then refuses nothing.
 fn ranges_of(rt: &HostRuntime, most: u32) -> Option<RangeCache>
-    ensures { IfSome result (λ ranges. ranges ≡ []) }
+    ensures none { IfSome result (λ ranges. ranges.ranges ≡ []) }
+    ensures most { IfSome result (λ ranges. ranges.most ≡ most) }
 {
     let most = NonZeroUsize::new(most as usize)?;
     RangeCache::new(rt.alloc(), most).ok()

@@ -1,4 +1,4 @@
-//! Cells in raw memory: those that are given back, and those that stay as more come.
+//! Cells in raw memory: those that are given back, those that stay as more come, and that their memory is given back.
 
 use dg_arena::{Row, Rows};
 use std::test::Fail;
@@ -49,5 +49,21 @@ fn cells_stay_as_more_come(rt: HostRuntime) -> Result<(), Fail> {
     assert_eq!(rt; rows.value(4_999), 4_999);
     assert!(rt; rows.get(5_000).is_none());
     assert_eq!(rt; rows.next(Some(4_999)), None);
+    Ok(())
+}
+
+// A value of a mebibyte, so that a chunk of cells has more than a gibibyte. None is made.
+#[derive(Clone, Copy)]
+struct Large {
+    words: [u64; 131_072],
+}
+
+// Together these blocks are larger than an address space of 48 bits, so they are not all there at once.
+#[test]
+fn memory_that_was_reserved_is_given_back(rt: HostRuntime) -> Result<(), Fail> {
+    for _ in 0..300_000 {
+        let mut rows: Rows<Large> = Rows::new(rt.alloc());
+        rows.reserve(1)?;
+    }
     Ok(())
 }

@@ -12,7 +12,7 @@ use std::test::Fail;
 
 // Room for two ranges.
 fn two(alloc: Global) -> Result<RangeCache, AllocError>
-    ensures { IfOk result (λ ranges. ranges ≡ []) }
+    ensures { IfOk result (λ ranges. ranges.ranges ≡ []) }
 {
     RangeCache::new(alloc, NonZeroUsize::new(2).unwrap())
 }
