@@ -16,9 +16,10 @@ use Rattle.dg_index.specs.OpenedIndex.{column_at, entry_or_none, opened_of}
 use Rattle.dg_index.proofs.IndexRecordColumns.{columns_are_kept}
 use Rattle.dg_plan.specs.declared.edge.Way.{Way}
 use Rattle.dg_fold.specs.declared.part.Part.{Part}
-use Rattle.dg_fold.specs.BytesRead.{ColumnBytes, AreParts, kept_in}
+use Rattle.dg_fold.specs.BytesRead.{ColumnBytes, AreParts, kept_in, read_of}
 use Rattle.dg_fold.specs.Parts.{graph_columns}
 use Rattle.dg_fold.specs.HistoryTrees.{KeepsKey, KeptPartsAreTheRecords}
+use Rattle.dg_fold.proofs.ColumnFronts.{history_read}
 
 -- parts of some bytes are parts of others that are the same at these keys
 pub parts_alike : (a b : ColumnBytes) (cols : Columns) (named : List (Key × Way)) → All (λ (n : Key × Way). (col : Column) → a n.0 col ≡ b n.0 col) named
@@ -45,7 +46,7 @@ module _ (z : History) (image : List ℕ) (is : IsImageOf z image) where
   kept_at key (Some e) there some col = columns_are_kept z image is key e there col
 
   pub kept_is : (key : Key) → KeepsKey (opened_of z).index key → (col : Column) → kept_in image (opened_of z).index key col ≡ column_in z key col
-  kept_is key some col = kept_at key (lookup (same_key key) (opened_of z).index.records) refl some col
+  kept_is key some col = ap (read_of key) (kept_at key (lookup (same_key key) (opened_of z).index.records) refl some col) ∙ history_read z is.legal key col
 
   all_kept : (named : List (Key × Way)) → All (λ (n : Key × Way). KeepsKey (opened_of z).index n.0) named
       → All (λ (n : Key × Way). (col : Column) → kept_in image (opened_of z).index n.0 col ≡ column_in z n.0 col) named

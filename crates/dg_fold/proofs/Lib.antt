@@ -26,3 +26,4 @@ pub mod WritingSteps
 pub mod WritingCompositions
 pub mod WritingLasts
 pub mod Foldings
+pub mod ColumnFronts

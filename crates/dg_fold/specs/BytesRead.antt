@@ -2,6 +2,7 @@
 use Rattle.std.specs.Prelude.{◌≡◌, ◌≤◌, ℕ, true, List, [], ◌∷◌, ◌++◌, map, length, None, is_some, if◌then◌else◌, sum_by}
 use Rattle.std.specs.List.{Contains, flat_map}
 use Rattle.std.specs.Map.{lookup}
+use Rattle.dg_columns.specs.Fronts.{front_of}
 use Rattle.dg_disk.specs.Counts.{raised_by}
 use Rattle.dg_graph.specs.declared.element.Column.{Column}
 use Rattle.dg_graph.specs.declared.element.Column.TheVariants.{Structure, NodeAttr, EdgeAttr, Transient}
@@ -15,7 +16,7 @@ use Rattle.dg_plan.specs.declared.edge.Via.{Via}
 use Rattle.dg_plan.specs.declared.edge.Via.TheVariants as via
 use Rattle.dg_plan.specs.declared.edge.Way.{Way}
 use Rattle.dg_fold.specs.declared.part.Part.{Part}
-use Rattle.dg_fold.specs.Parts.{bytes_in, graph_columns}
+use Rattle.dg_fold.specs.Parts.{bytes_in, graph_columns, is_events}
 
 -- ---- what is read
 
@@ -23,9 +24,13 @@ use Rattle.dg_fold.specs.Parts.{bytes_in, graph_columns}
 abbrev pub ColumnBytes : Type 0
 ColumnBytes = Key → Column → List ℕ
 
--- those that an index keeps in an image
+-- what is read of a column: of one of events the front, which is all of it where it can be read as events
+abbrev pub read_of : Key → List ℕ → List ℕ
+read_of key bytes = if is_events key then front_of bytes else bytes
+
+-- those that are read of what an index keeps in an image
 abbrev pub kept_in : List ℕ → Opening → ColumnBytes
-kept_in image o key col = column_at image (entry_at o key) col
+kept_in image o key col = read_of key (column_at image (entry_at o key) col)
 
 -- of these the columns that are asked for; another one has no bytes
 abbrev pub asked_column : ColumnBytes → Columns → Key → Column → List ℕ

@@ -22,8 +22,8 @@ use dg_plan::Way;
 use std::alloc::{AllocError, Global};
 use std::thread::Threads;
 
-// Whether the record with the key holds events.
-fn is_events(key: Key) -> bool
+/// Whether the record with the key holds events.
+pub(crate) fn is_events(key: Key) -> bool
     ensures { result ≡ is_events key }
 {
     match key {

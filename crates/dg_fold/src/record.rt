@@ -11,7 +11,9 @@ ghost use Rattle.dg_history.specs.Keys.{same_key};
 ghost use Rattle.dg_fold.specs.BytesRead.{Takes, TakesAtMost, asked_column, asked_length, kept_in};
 ghost use Rattle.dg_fold.specs.Parts.{bytes_in, graph_columns};
 
+use crate::column::is_events;
 use crate::part::Bytes;
+use dg_columns::EVENTS_FRONT;
 use dg_disk::Disk;
 use dg_event::asks;
 use dg_file::{FetchFault, Index};
@@ -19,7 +21,8 @@ use dg_graph::{Column, Columns};
 use dg_history::Key;
 use std::alloc::Global;
 
-// A column of a record, and no bytes where it is not asked for.
+// A column of a record, and no bytes where it is not asked for. Of a column of events that is longer than events can be the
+// front is read, which tells that it is damaged.
 fn read_column<D: Disk>(
     alloc: Global,
     index: &mut Index,
@@ -41,11 +44,13 @@ fn read_column<D: Disk>(
     ensures same { index.new ≡ index.old }
     ensures frame { ReadsDisk D.Disk disk.old disk.new }
 {
-    if asks(cols, col) {
-        index.fetch(disk, key, col)
-    } else {
-        Ok(Vec::new(alloc))
+    if !asks(cols, col) {
+        return Ok(Vec::new(alloc));
     }
+    if is_events(key) {
+        return index.fetch_front(disk, key, col, EVENTS_FRONT);
+    }
+    index.fetch(disk, key, col)
 }
 
 /// Reads the asked columns of a record that the index keeps, but no messages. `FetchFault::Disk` where the disk

@@ -32,7 +32,8 @@ use Rattle.dg_plan.specs.IndexGraph.{arc_of, arcs_of}
 use Rattle.dg_plan.specs.Walks.{Arc, Graft, IsTree, entered, steps_of, tree_weight, weight_in, weight_of}
 use Rattle.dg_plan.proofs.WalkPlans.{one_plan}
 use Rattle.dg_planner.proofs.HistoryLawGraphs.{lengths_are}
-use Rattle.dg_fold.specs.BytesRead.{ColumnBytes, asked_length, entered_along, entered_by, entered_length, kept_in}
+use Rattle.dg_fold.specs.BytesRead.{ColumnBytes, asked_length, entered_along, entered_by, entered_length, kept_in, read_of}
+use Rattle.dg_fold.proofs.ColumnFronts.{history_read}
 use Rattle.dg_fold.specs.Parts.{graph_columns}
 use Rattle.dg_plan.specs.TreePaths.{edges_at}
 use Rattle.dg_retrieval.specs.KeptGraph.{holding, index_edges, index_ground}
@@ -105,8 +106,9 @@ has_columns z image stands o opened k held col = by (lookup (same_key k) o.recor
     by : (e : Option Entry) → lookup (same_key k) o.records ≡ e → is_some e ≡ true → kept_in image o k col ≡ column_in z k col
     by None is some = absurd (false≢true some)
     by (Some e) is some =
-        ap (λ (x : Option Entry). column_at image (entry_or_none x) col) is
-        ∙ columns_are_kept z image stands k e (ap (λ (x : Opening). lookup (same_key k) x.records) (sym opened) ∙ is) col
+        ap (λ (x : Option Entry). read_of k (column_at image (entry_or_none x) col)) is
+        ∙ ap (read_of k) (columns_are_kept z image stands k e (ap (λ (x : Opening). lookup (same_key k) x.records) (sym opened) ∙ is) col)
+        ∙ history_read z stands.legal k col
 
 -- the asked bytes of a record
 asked_is : (z : History) (bytes : ColumnBytes) (cols : Columns) (k : Key) → ((col : Column) → bytes k col ≡ column_in z k col) → asked_length bytes (graph_columns cols) k ≡ length_in z k cols
