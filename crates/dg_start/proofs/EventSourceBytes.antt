@@ -8,7 +8,8 @@ use Rattle.std.proofs.lemmas.List.Elements.{All-head, All-tail}
 use Rattle.std.proofs.lemmas.List.Sums.{sum_by-cons}
 use Rattle.dg_disk.specs.Counts.{raised_by}
 use Rattle.dg_file.specs.Images.{taken_after}
-use Rattle.dg_fold.specs.BytesRead.{Takes, TakesAtMost, asked_length, kept_in}
+use Rattle.dg_fold.specs.BytesRead.{Takes, TakesAtMost, asked_length, kept_in, read_of}
+use Rattle.dg_fold.proofs.ColumnFronts.{history_read}
 use Rattle.dg_graph.specs.declared.element.Column.{Column}
 use Rattle.dg_graph.specs.declared.element.Column.TheVariants.{Structure, NodeAttr, EdgeAttr, Transient}
 use Rattle.dg_history.specs.declared.node.Key.{Key}
@@ -26,7 +27,6 @@ use Rattle.dg_start.specs.Calls.{TakesOrFails}
 use Rattle.dg_start.specs.EventSources.{CanBeRead, WhereTold, bytes_in_sources, source_of, sources_in}
 use Rattle.dg_start.specs.RecentEvents.{Source, recent_sources}
 use Rattle.dg_start.specs.SessionStart.{recent_bytes}
-use Rattle.dg_start.proofs.ColumnMergeRecords.{column_there}
 
 -- ---- counts
 
@@ -75,7 +75,9 @@ module _ (z : History) (image : List ℕ) (stands : IsImageOf z image) (o : Open
           let there : lookup (same_key k) (opened_of z).index.records ≡ Some e = ap (λ (x : Opening). lookup (same_key k) x.records) (sym opened) ∙ is in
           let told : IsTold z (k, e) = told_at z stands.legal k e there in
           let column : (col : Column) → length (kept_in image o k col) ≡ length (column_in z k col) =
-          λ col. ap (λ (x : Option Entry). length (column_at image (entry_or_none x) col)) is ∙ ap length (columns_are_kept z image stands k e there col) in
+          λ col.
+          ap (λ (x : Option Entry). length (read_of k (column_at image (entry_or_none x) col))) is ∙ ap (λ l. length (read_of k l)) (columns_are_kept z image stands k e there col)
+          ∙ ap length (history_read z stands.legal k col) in
           let same : (entry_at o k).lengths ≡ lengths_in z k = ap (λ (x : Option Entry). (entry_or_none x).lengths) is ∙ told.0 in
           omega (arith, column Structure, column NodeAttr, column EdgeAttr, column Transient, ap total same)
 
@@ -100,13 +102,6 @@ takes_after n a b is = by (n == 0) refl is
     by : (none : Bool) → (n == 0) ≡ none → b ≡ (if none then a else raised_by n a) → Takes n a b
     by true e h = let zero : n ≡ 0 = eqb-true n 0 e in omega (arith, zero, h)
     by false e h = omega (arith, h)
-
-pub takes_column : (told : Option (List ℕ)) (o : Opening) (k : Key) (col : Column) (bytes : List ℕ) (before after : ℕ) → is_some (lookup (same_key k) o.records) ≡ true
-    → IfSome told (λ image. IfSome (lookup (same_key k) o.records) (λ e. bytes ≡ column_at image e col)) → after ≡ taken_after (length bytes) before
-    → WhereTold told (λ image. Takes (length (kept_in image o k col)) before after)
-takes_column told o k col bytes before after held is taken image h =
-    let here : IfSome (lookup (same_key k) o.records) (λ e. bytes ≡ column_at image e col) = subst (λ (t : Option (List ℕ)). IfSome t (λ image. IfSome (lookup (same_key k) o.records) (λ e. bytes ≡ column_at image e col))) h is in
-    subst (λ n. Takes n before after) (ap length (column_there image bytes o k col held here)) (takes_after (length bytes) before after taken)
 
 -- the four columns of a record
 pub takes_record : (image : List ℕ) (o : Opening) (k : Key) (a b c d e : ℕ) → Takes (length (kept_in image o k Structure)) a b → Takes (length (kept_in image o k NodeAttr)) b c

@@ -14,3 +14,4 @@ pub mod RecentEventTimes
 pub mod SessionStartHistory
 pub mod EventSourceTests
 pub mod EventSourceOutcomes
+mod ColumnFronts

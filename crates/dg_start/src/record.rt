@@ -19,14 +19,15 @@ ghost use Rattle.dg_start.specs.Refusals.{IsReason};
 
 use crate::event_source::EventSource;
 use crate::fault::RecordFault;
-use dg_columns::{MergeFault, Placed, ReadFault, merge, read_events};
+use dg_columns::{EVENTS_FRONT, MergeFault, Placed, ReadFault, merge, read_events};
 use dg_disk::Disk;
 use dg_file::Index;
 use dg_graph::{Column, Event};
 use dg_history::Key;
 use std::alloc::Global;
 
-// What a column of a record is read as, with so many names.
+// What a column of a record is read as, with so many names. Of a column that is longer than events can be the front is read,
+// which tells that it is damaged.
 fn read_column<D: Disk>(
     alloc: Global,
     index: &mut Index,
@@ -51,7 +52,7 @@ fn read_column<D: Disk>(
     // what it leaves
     ensures disk { ReadsDisk D.Disk disk.old disk.new }
 {
-    let bytes = index.fetch(disk, key, col)?;
+    let bytes = index.fetch_front(disk, key, col, EVENTS_FRONT)?;
     match read_events(alloc, &bytes, col, names) {
         Ok(placed) => Ok(placed),
         Err(ReadFault::Damaged(_)) => Err(RecordFault::BadRecord(key, col)),
