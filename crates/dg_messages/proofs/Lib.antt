@@ -6,3 +6,4 @@ mod MessagesBehind
 mod MessageWeights
 mod ShownMessages
 mod HeardGraphs
+mod OnceHeard

@@ -1,11 +1,13 @@
 -- The column of messages of one list of an index: that it is there, what is read of it, and how many bytes it has.
-use Rattle.std.proofs.Common.{◌≡◌, ℕ, ◌+◌, ◌<◌, ◌==◌, Bool, true, false, if◌then◌else◌, List, [], ◌∷◌, length, drop, map, Option, Some, None, Result, Ok, Err, refl, sym, ap, ◌∙◌, subst, arith}
+use Rattle.std.proofs.Common.{◌≡◌, ℕ, ◌+◌, ◌≤◌, ◌<◌, ◌==◌, Bool, true, false, if◌then◌else◌, List, [], ◌∷◌, length, drop, map, Option, Some, None, Result, Ok, Err, refl, sym, ap, ◌∙◌, subst, arith}
 use Rattle.std.specs.Prelude.{IfSome, IfOk, is_some}
 use Rattle.std.specs.Map.{lookup}
 use Rattle.std.proofs.lemmas.Bool.{eqb-true, false≢true, lt-ltb}
-use Rattle.std.proofs.lemmas.List.{length-drop, length-take-le}
+use Rattle.std.proofs.lemmas.List.{length-drop, length-take, length-take-le}
 use Rattle.std.proofs.lemmas.List.Elements.{All-cons, All-nil}
 use Rattle.dg_catalogue.specs.Entries.{column_length_in}
+use Rattle.dg_columns.specs.declared.layout.TheConstants.{EVENTS_FRONT}
+use Rattle.dg_columns.specs.Fronts.{IsToldByFront, front_of}
 use Rattle.dg_columns.specs.Ranges.{BodyFits, EventsFit}
 use Rattle.dg_disk.specs.Counts.{raised_by}
 use Rattle.dg_file.specs.Images.{IsOpenedAs, taken_after}
@@ -40,16 +42,20 @@ list_held o i parameters kept lt =
 
 -- what was read of a record that is held
 abbrev IsFetched : List ℕ → List ℕ → Option Entry → Type 0
-IsFetched bytes image e = IfSome e (λ e. bytes ≡ column_at image e Transient)
+IsFetched bytes image e = IfSome e (λ e. bytes ≡ front_of (column_at image e Transient))
+
+-- the column of messages of a list in the image
+abbrev pub column_of : List ℕ → Opening → ℕ → List ℕ
+column_of image o i = column_at image (entry_at o (key.List i)) Transient
 
 module _ (o : Opening) (i : ℕ) (held : is_some (lookup (same_key (key.List i)) o.records) ≡ true) where
   abbrev there : Option Entry
   there = lookup (same_key (key.List i)) o.records
 
-  fetched_is : (image bytes : List ℕ) → IsFetched bytes image there → bytes ≡ column_at image (entry_at o (key.List i)) Transient
+  fetched_is : (image bytes : List ℕ) → IsFetched bytes image there → bytes ≡ front_of (column_of image o i)
   fetched_is image bytes = by there held
     where
-      by : (e : Option Entry) → is_some e ≡ true → IsFetched bytes image e → bytes ≡ column_at image (entry_or_none e) Transient
+      by : (e : Option Entry) → is_some e ≡ true → IsFetched bytes image e → bytes ≡ front_of (column_at image (entry_or_none e) Transient)
       by None some h = absurd (false≢true some)
       by (Some e) some h = h
 
@@ -66,13 +72,18 @@ module _ (o : Opening) (i : ℕ) (held : is_some (lookup (same_key (key.List i))
 
 -- ---- the events
 
-module _ (names : ℕ) (image bytes : List ℕ) (o : Opening) (i : ℕ) (is : bytes ≡ column_at image (entry_at o (key.List i)) Transient) where
+-- what the bytes that were read tell, as those that were decoded do
+pub told_front : (names : ℕ) (decoded bytes : List ℕ) → decoded ≡ bytes → ((whole : List ℕ) → decoded ≡ front_of whole → IsToldByFront Transient names decoded whole)
+    → (whole : List ℕ) → bytes ≡ front_of whole → IsToldByFront Transient names bytes whole
+told_front names decoded bytes same tells whole is = subst (λ (b : List ℕ). IsToldByFront Transient names b whole) same (tells whole (same ∙ is))
+
+module _ (names : ℕ) (image bytes : List ℕ) (o : Opening) (i : ℕ) (front : IsToldByFront Transient names bytes (column_of image o i)) where
   pub messages_read : (placed : List Placed) (events : List Event) → events_in Transient names bytes ≡ Ok placed → events ≡ map (λ (p : Placed). p.event) placed → messages_in names image o i ≡ Ok events
   messages_read placed events read same =
-      ap (λ b. events_or i (events_in Transient names b)) (sym is) ∙ ap (events_or i) read ∙ ap (λ l. Ok l) (sym same)
+      ap (λ b. events_or i (events_in Transient names b)) (sym (front.all placed read)) ∙ ap (events_or i) read ∙ ap (λ l. Ok l) (sym same)
 
   pub messages_damaged : (offset : ℕ) → events_in Transient names bytes ≡ Err offset → messages_in names image o i ≡ Err i
-  messages_damaged offset read = ap (λ b. events_or i (events_in Transient names b)) (sym is) ∙ ap (events_or i) read
+  messages_damaged offset read = ap (events_or i) (front.damaged offset read).1
 
 body_named : (names : ℕ) (b : Body) → BodyFits names b → BodyHasNamesThere names b
 body_named names (body.NodeAdded id) h = tt
@@ -109,18 +120,28 @@ both_told (Some x) P Q R f p q = f x p q
 
 module _ (told : Option (List ℕ)) (o : Opening) (i : ℕ) (bytes : List ℕ) (held : is_some (lookup (same_key (key.List i)) o.records) ≡ true) (opened : IfSome told (λ image. IsOpenedAs image o))
     (fetched : IfSome told (λ image. IsFetched bytes image (lookup (same_key (key.List i)) o.records))) where
-  -- in the image the bytes are those of the column
-  pub column_is : IfSome told (λ image. bytes ≡ column_at image (entry_at o (key.List i)) Transient)
-  column_is =
-      both_told told (λ image. IsFetched bytes image (lookup (same_key (key.List i)) o.records)) (λ image. IsOpenedAs image o) (λ image. bytes ≡ column_at image (entry_at o (key.List i)) Transient)
+  -- in the image the bytes are the front of the column
+  pub front_is : IfSome told (λ image. bytes ≡ front_of (column_of image o i))
+  front_is =
+      both_told told (λ image. IsFetched bytes image (lookup (same_key (key.List i)) o.records)) (λ image. IsOpenedAs image o) (λ image. bytes ≡ front_of (column_of image o i))
       (λ image h opened. fetched_is o i held image bytes h) fetched opened
 
-  -- as many were read as the index tells
-  pub column_taken : (before after : ℕ) → after ≡ taken_after (length bytes) before → IfSome told (λ image. Takes (message_bytes o i) before after)
-  column_taken before after taken =
-      both_told told (λ image. bytes ≡ column_at image (entry_at o (key.List i)) Transient) (λ image. IsOpenedAs image o) (λ image. Takes (message_bytes o i) before after)
-      (λ image is opened. subst (λ n. Takes n before after) (ap length is ∙ column_long o i held image opened) (takes_after (length bytes) before after taken))
-      column_is opened
+  -- as many were read as the index tells, where they are the column
+  pub column_taken : ((whole : List ℕ) → bytes ≡ front_of whole → bytes ≡ whole) → (before after : ℕ) → after ≡ taken_after (length bytes) before → IfSome told (λ image. Takes (message_bytes o i) before after)
+  column_taken all before after taken =
+      both_told told (λ image. bytes ≡ front_of (column_of image o i)) (λ image. IsOpenedAs image o) (λ image. Takes (message_bytes o i) before after)
+      (λ image is opened. subst (λ n. Takes n before after) (ap length (all (column_of image o i) is) ∙ column_long o i held image opened) (takes_after (length bytes) before after taken))
+      front_is opened
+
+  -- no more than the index tells
+  pub front_taken : (before after : ℕ) → after ≡ taken_after (length bytes) before → IfSome told (λ image. TakesAtMost (message_bytes o i) before after)
+  front_taken before after taken =
+      both_told told (λ image. bytes ≡ front_of (column_of image o i)) (λ image. IsOpenedAs image o) (λ image. TakesAtMost (message_bytes o i) before after)
+      (λ image is opened.
+      let some = takes_after (length bytes) before after taken in
+      let within : length bytes ≤ message_bytes o i = omega (arith, ap length is, length-take EVENTS_FRONT (column_of image o i), column_long o i held image opened) in
+      omega (arith, some, within))
+      front_is opened
 
 -- what a call answers that took so many bytes
 pub list_taken : {A : Type 0} (told : Option (List ℕ)) (o : Opening) (i before after : ℕ) (r : Result A RetrievalFault) → IfSome told (λ image. Takes (message_bytes o i) before after) → IfSome told (λ image. TakesList o i before after r)
@@ -130,6 +151,12 @@ list_taken (Some image) o i before after r h = record { takes = by r; most = tak
     by : {A : Type 0} (r : Result A RetrievalFault) → IfOk r (λ x. Takes (message_bytes o i) before after)
     by (Ok x) = h
     by (Err f) = tt
+
+-- what a call answers that fails, and took no more
+pub list_failed : (A : Type 0) (told : Option (List ℕ)) (o : Opening) (i before after : ℕ) (f : RetrievalFault) → IfSome told (λ image. TakesAtMost (message_bytes o i) before after)
+    → IfSome told (λ image. TakesList {A = A} o i before after (Err f))
+list_failed A None o i before after f h = tt
+list_failed A (Some image) o i before after f h = record { takes = tt; most = h }
 
 -- what follows from a fact of what a disk tells
 pub told_so : {A : Type 0} (o : Option A) (P Q : A → Type 0) → ((x : A) → P x → Q x) → IfSome o P → IfSome o Q

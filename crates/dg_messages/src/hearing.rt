@@ -1,19 +1,19 @@
 //! Messages behind what leads to graphs.
-ghost use Rattle.std.specs.Prelude.{◌≡◌, ◌≤◌, ◌<◌, ◌+◌, List, length, IfOk, IfSome};
+ghost use Rattle.std.specs.Prelude.{◌≡◌, ◌≤◌, ◌<◌, ◌==◌, ◌+◌, List, length, map, slice_index, IfOk, IfSome};
 ghost use Rattle.std.specs.List.{sum};
 ghost use Rattle.dg_file.specs.Images.{IsOpenedAs};
-ghost use Rattle.dg_fold.specs.WritingSteps.{IsForOnly};
 ghost use Rattle.dg_graph.specs.declared.element.Element.{Element};
 ghost use Rattle.dg_heard.specs.Heard.{heard_bytes, with_heard_bytes};
 ghost use Rattle.dg_history.specs.History.{History};
 ghost use Rattle.dg_messages.specs.Calls.{HasMessages, HearsOver, TakesHeard, TellsMessageDamage};
+ghost use Rattle.dg_messages.specs.Once.{each_once, sets_for};
 ghost use Rattle.dg_messages.specs.Told.{TellBehind, telling};
 ghost use Rattle.dg_planner.specs.Whole.{TREE_WEIGHT_MAX};
 ghost use Rattle.dg_retrieval.specs.Beginnings.{leads_in};
 ghost use Rattle.dg_retrieval.specs.Calls.{ReadsRecords};
 ghost use Rattle.dg_retrieval.specs.Retrieval.{IsOver};
 
-use crate::told::messages;
+use crate::told::{Heard, messages_once};
 use dg_delta::Delta;
 use dg_disk::Disk;
 use dg_file::Index;
@@ -24,28 +24,53 @@ use dg_retrieval::{Leads, RetrievalFault, Retrieved};
 use dg_set::Set;
 use std::alloc::{AllocError, Global};
 
-// The messages, to be put in for one of so many instants alone.
-fn told_to(alloc: Global, messages: Set, target: usize, count: usize) -> Result<Writing, AllocError>
-    requires { target < count }
-    ensures delta { IfOk result (λ w. w.delta ≡ telling messages) }
-    ensures targets { IfOk result (λ w. IsForOnly target w) }
+// For each of the times, whether it is this instant.
+fn targets_at(alloc: Global, instant: u64, times: &[u64]) -> Result<Vec<bool>, AllocError>
+    ensures { IfOk result (λ targets. targets.items ≡ map (λ t. instant == t) times.now) }
 {
-    let mut targets = vec![in alloc; false; count]?;
-    targets[target] = true;
+    let mut targets = Vec::with_capacity(alloc, times.len())?;
+    for t in times {
+        targets.push(instant == *t)?;
+    }
+    Ok(targets)
+}
+
+// The messages, to be put in wherever the time is the instant of this number.
+fn told_at(
+    alloc: Global,
+    messages: Set,
+    instants: &[u64],
+    number: usize,
+    times: &[u64],
+) -> Result<Writing, AllocError>
+    requires { number < length instants.now }
+    ensures delta { IfOk result (λ w. w.delta ≡ telling messages) }
+    ensures targets { IfOk result (λ w. w.targets.items ≡ map (λ t. slice_index instants.now number == t) times.now) }
+{
+    let targets = targets_at(alloc, instants[number], times)?;
     let delta = Delta::of(Set::new(alloc), messages);
     Ok(Writing { delta, targets })
 }
 
-// The leads, and behind each of them the messages of its instant.
-fn told_behind(alloc: Global, leads: Leads, sets: Vec<Set>) -> Result<Leads, AllocError>
-    requires { length sets.items ≡ length leads.begins.items }
-    ensures { IfOk result (λ told. TellBehind (leads_in leads) (leads_in told) sets.items) }
+// The leads, and behind each of them the messages of its time: those of an instant are written once, for all times that
+// are this instant.
+fn told_behind(
+    alloc: Global,
+    leads: Leads,
+    heard: Heard,
+    times: &[u64],
+) -> Result<Leads, AllocError>
+    requires times { length times.now ≡ length leads.begins.items }
+    requires instants { heard.instants.items ≡ each_once times.now }
+    requires sets { length heard.sets.items ≡ length heard.instants.items }
+    ensures { IfOk result (λ told. TellBehind (leads_in leads) (leads_in told) (sets_for heard.instants.items heard.sets.items times.now)) }
 {
     let Leads { begins, writings } = leads;
+    let Heard { instants, sets } = heard;
     let mut writings = writings;
     let mut rest = sets;
     while let Some(set) = rest.pop() {
-        let writing = told_to(alloc, set, rest.len(), begins.len())?;
+        let writing = told_at(alloc, set, &instants, rest.len(), times)?;
         writings.push(writing)?;
     }
     Ok(Leads { begins, writings })
@@ -89,15 +114,17 @@ fn with_messages(
     alloc: Global,
     index: &Index,
     times: &[u64],
-    sets: Vec<Set>,
+    heard: Heard,
     retrieved: Retrieved,
 ) -> Result<Retrieved, AllocError>
     requires few { length times.now ≤ 32 }
-    requires sets { length sets.items ≡ length retrieved.leads.begins.items }
+    requires times { length times.now ≡ length retrieved.leads.begins.items }
+    requires instants { heard.instants.items ≡ each_once times.now }
+    requires sets { length heard.sets.items ≡ length heard.instants.items }
     requires singles { length retrieved.singles.items ≡ length times.now }
     requires light { retrieved.weight ≤ TREE_WEIGHT_MAX }
     requires light_sum { sum retrieved.singles.items ≤ TREE_WEIGHT_MAX }
-    ensures behind { IfOk result (λ r. TellBehind (leads_in retrieved.leads) (leads_in r.leads) sets.items) }
+    ensures behind { IfOk result (λ r. TellBehind (leads_in retrieved.leads) (leads_in r.leads) (sets_for heard.instants.items heard.sets.items times.now)) }
     ensures weight { IfOk result (λ r. r.weight ≡ retrieved.weight + heard_bytes index.now.opening times.now) }
     ensures singles { IfOk result (λ r. r.singles.items ≡ with_heard_bytes index.now.opening times.now retrieved.singles.items) }
     ensures sum { IfOk result (λ r. r.sum ≡ sum r.singles.items) }
@@ -108,7 +135,7 @@ fn with_messages(
         singles,
         ..
     } = retrieved;
-    let leads = told_behind(alloc, leads, sets)?;
+    let leads = told_behind(alloc, leads, heard, times)?;
     let Weights { singles, sum } = heard_weights(alloc, index, times, &singles)?;
     Ok(Retrieved {
         leads,
@@ -151,7 +178,7 @@ pub fn hear<D: Disk>(
     ensures reads { ReadsRecords D.Disk index.old index.new disk.old disk.new result }
 {
     law_histories_are_heard();
-    let sets = messages(alloc, index, disk, name_count, recent, times)?;
-    let told = with_messages(alloc, index, times, sets, retrieved)?;
+    let heard = messages_once(alloc, index, disk, name_count, recent, times)?;
+    let told = with_messages(alloc, index, times, heard, retrieved)?;
     Ok(told)
 }

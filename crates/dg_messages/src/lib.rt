@@ -5,6 +5,7 @@
 mod collected;
 mod hearing;
 mod list;
+mod once;
 mod sets;
 mod told;
 

@@ -7,7 +7,7 @@ ghost use Rattle.dg_messages.specs.Collected.{IsListRead, TakesList};
 ghost use Rattle.dg_retrieval.specs.Calls.{ReadsRecords};
 ghost use Rattle.dg_retrieval.specs.NamesThere.{EventNamesAreThere};
 
-use dg_columns::{ReadFault, read_events};
+use dg_columns::{EVENTS_FRONT, ReadFault, read_events};
 use dg_disk::Disk;
 use dg_file::Index;
 use dg_graph::{Column, Event, Placed};
@@ -27,7 +27,7 @@ fn events_of(alloc: Global, placed: &[Placed]) -> Result<Vec<Event>, AllocError>
 }
 
 /// The messages of a list of the index, in a history with so many names: its column of messages is read once, where it
-/// has a byte.
+/// has a byte, and of a column that is longer than events can be the front, which tells that it is damaged.
 ///
 /// `Disk` where the read failed, `Damaged` where the column is in no spelling, and `Memory`.
 pub(crate) fn read_list<D: Disk>(
@@ -50,7 +50,7 @@ pub(crate) fn read_list<D: Disk>(
 {
     index.facts();
     let key = Key::List(list);
-    let bytes = index.fetch(disk, key, Column::Transient)?;
+    let bytes = index.fetch_front(disk, key, Column::Transient, EVENTS_FRONT)?;
     match read_events(alloc, &bytes, Column::Transient, name_count) {
         Ok(placed) => Ok(events_of(alloc, &placed)?),
         Err(ReadFault::Damaged(_)) => Err(RetrievalFault::Damaged(key, Column::Transient)),

@@ -4,12 +4,14 @@ ghost use Rattle.std.specs.List.{All};
 ghost use Rattle.dg_file.specs.Images.{IsOpenedAs};
 ghost use Rattle.dg_messages.specs.Calls.{TakesHeard, TellsMessageDamage};
 ghost use Rattle.dg_messages.specs.Collected.{AreCollected, AreHeardIn};
+ghost use Rattle.dg_messages.specs.Once.{each_once, sets_for};
 ghost use Rattle.dg_messages.specs.Told.{AreToldIn};
 ghost use Rattle.dg_retrieval.specs.Calls.{ReadsRecords};
 ghost use Rattle.dg_retrieval.specs.NamesThere.{EventNamesAreThere, NamesAreThere};
 
 use crate::collected::push_all;
 use crate::list::read_list;
+use crate::once::each_once;
 use crate::sets::sets_of;
 use dg_disk::Disk;
 use dg_file::Index;
@@ -96,4 +98,42 @@ pub fn messages<D: Disk>(
     push_heard(alloc, index, disk, name_count, times, &mut lists)?;
     push_all(&mut lists, recent, times)?;
     Ok(sets_of(alloc, lists)?)
+}
+
+/// What is told at instants, each of which comes once: a set for each of them.
+#[derive(Drop)]
+pub(crate) struct Heard {
+    pub instants: Vec<u64>,
+    pub sets: Vec<Set>,
+}
+
+/// The messages of the instants as `messages` has them, but of an instant that is repeated one set.
+///
+/// `Disk` where a read failed, `Damaged` with the first list whose column is in no spelling, and `Memory`.
+pub(crate) fn messages_once<D: Disk>(
+    alloc: Global,
+    index: &mut Index,
+    disk: &mut D,
+    name_count: u32,
+    recent: &[Event],
+    times: &[u64],
+) -> Result<Heard, RetrievalFault>
+    requires image { IfSome (D.image disk.old) (λ image. IsOpenedAs image index.old.opening) }
+
+    // what it gives
+    ensures instants { IfOk result (λ h. h.instants.items ≡ each_once times.now) }
+    ensures count { IfOk result (λ h. length h.sets.items ≡ length h.instants.items) }
+    ensures told { IfOk result (λ h. IfSome (D.image disk.old) (λ image. AreToldIn name_count image index.old.opening recent.now times.now (sets_for h.instants.items h.sets.items times.now))) }
+    ensures named { IfOk result (λ h. EventNamesAreThere name_count recent.now → All (NamesAreThere name_count) (sets_for h.instants.items h.sets.items times.now)) }
+
+    // what it reads, and where a column is damaged
+    ensures takes { IfSome (D.image disk.old) (λ image. TakesHeard index.old.opening times.now (D.taken disk.old) (D.taken disk.new) result) }
+    ensures damage { IfSome (D.image disk.old) (λ image. TellsMessageDamage name_count index.old.opening times.now image result) }
+
+    // what it leaves, and why a read failed
+    ensures reads { ReadsRecords D.Disk index.old index.new disk.old disk.new result }
+{
+    let instants = each_once(alloc, times)?;
+    let sets = messages(alloc, index, disk, name_count, recent, &instants)?;
+    Ok(Heard { instants, sets })
 }
