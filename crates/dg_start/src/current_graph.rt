@@ -110,7 +110,7 @@ pub fn current_graph(
     ensures none { IfOk result (λ now. now.pending ≡ []) }
     ensures refused { IfErr result (RefusesEvents names.now first set (bounded (sources_in sources.now) events.now)) }
 {
-    let mut current = Now::from_set(alloc, set)?;
+    let mut current = Now::from_set(alloc, names.seed(), set)?;
     match first_wrong(&mut current, names, first, sources, events)? {
         None => Ok(current),
         Some(number) => Err(StartFault::BadRecent(number)),

@@ -26,6 +26,7 @@ use dg_disk::Disk;
 use dg_file::{Index, ReopenFault};
 use dg_graph::Event;
 use dg_names::Names;
+use dg_seed::Seed;
 use std::alloc::Global;
 use std::thread::Threads;
 
@@ -139,7 +140,7 @@ fn open_index<R: Threads + Sync, D: Disk>(
 /// Opens the index over the disk, if there is one: reads its recent events, composes the records along the plan of
 /// its last leaf, and takes the graph that they come to past the recent events, each of which some change comes to.
 /// Nothing else is read. The current graph keeps the graph of the last leaf, which is
-/// nowhere copied.
+/// nowhere copied. Names and current graph hash with the seed.
 ///
 /// In this order: `StartFault::Foreign` where the file is not one of an index, `StartFault::Damaged` with the offset
 /// of the first segment that breaks a rule, `StartFault::BadRecord` for the first column of the recent pieces and
@@ -151,6 +152,7 @@ fn open_index<R: Threads + Sync, D: Disk>(
 pub fn open<R: Threads + Sync, D: Disk>(
     rt: &R,
     alloc: Global,
+    seed: Seed,
     disk: &mut D,
 ) -> Result<StoredHistory, StartFault>
 
@@ -170,9 +172,9 @@ pub fn open<R: Threads + Sync, D: Disk>(
     ensures settled { OnOk result (IsOnDevice D.Disk disk.new) }
 {
     law_images_start_as_they_stand();
-    let mut names = Names::new(alloc);
+    let mut names = Names::new(alloc, seed);
     let Some(index) = reopen(alloc, disk, &mut names)? else {
-        return Ok(StoredHistory::empty(alloc));
+        return Ok(StoredHistory::empty(alloc, seed));
     };
     let opened = open_index(rt, alloc, disk, index, names)?;
     Ok(opened)

@@ -5,6 +5,7 @@ use dg_current::Now;
 use dg_file::Index;
 use dg_graph::Event;
 use dg_names::Names;
+use dg_seed::Seed;
 use std::alloc::Global;
 
 /// An index, if there is one, and what is kept in memory of the history that its file holds.
@@ -21,8 +22,8 @@ pub struct StoredHistory {
 }
 
 impl StoredHistory {
-    /// No index. Takes no memory.
-    pub fn empty(alloc: Global) -> StoredHistory
+    /// No index. Names and current graph hash with the seed. Takes no memory.
+    pub fn empty(alloc: Global, seed: Seed) -> StoredHistory
         ensures index { result.index ≡ None }
         ensures names { result.names ≡ [] }
         ensures graph { result.now.graph ≡ [] }
@@ -31,8 +32,8 @@ impl StoredHistory {
     {
         StoredHistory {
             index: None,
-            names: Names::new(alloc),
-            now: Now::new(alloc),
+            names: Names::new(alloc, seed),
+            now: Now::new(alloc, seed),
             recent: Vec::new(alloc),
         }
     }
