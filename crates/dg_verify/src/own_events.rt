@@ -54,7 +54,7 @@ fn follow(graph: &mut Now, names: &Names, earliest: u64, event: &Event) -> Resul
 fn followed(alloc: Global, names: &Names, events: &[Event]) -> Result<usize, AllocError>
     ensures { IfOk result (λ count. count ≡ followed names.now [] 0 events.now) }
 {
-    let mut graph = Now::new(alloc);
+    let mut graph = Now::new(alloc, names.seed());
     let mut time = 0;
     for (count, event) in events.iter().enumerate() {
         let is_right = follow(&mut graph, names, time, event)?;
