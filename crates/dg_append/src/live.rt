@@ -45,7 +45,8 @@ impl Live {
         ensures none { IsForgotten self.new }
         ensures live { IsLiveHistory self.new }
     {
-        drop(mem::replace(&mut self.history, StoredHistory::empty(alloc)));
+        let seed = self.history.names.seed();
+        drop(mem::replace(&mut self.history, StoredHistory::empty(alloc, seed)));
         self.pool = None;
     }
 }
