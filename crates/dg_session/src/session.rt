@@ -48,6 +48,7 @@ use dg_io::{Lines, Source};
 use dg_machine::{BodyLines, Command, Head, Limits, Refusal, Reply};
 use dg_names::Names;
 use dg_pool::Pool;
+use dg_seed::Seed;
 use dg_sound_files::{law_sound_files_stand, law_standing_files_are_sound};
 use dg_start::StartFault;
 use dg_verify::verify;
@@ -97,7 +98,8 @@ impl Model for Session {
 
 impl Session {
     /// A session over the index file that the disk has, within these limits, with room for every
-    /// handle that may live. Where the file has no index yet, the session has none.
+    /// handle that may live. Where the file has no index yet, the session has none. Names and current graph hash with the
+    /// seed, on which no answer depends.
     ///
     /// It reads the directories, the recent pieces and the records along the plan of the last leaf, and nothing
     /// else. With `checked` it reads all records too, makes anew what the events determine, and compares the two: that
@@ -111,6 +113,7 @@ impl Session {
     pub fn start<R: Threads + Sync, D: Disk>(
         rt: &R,
         alloc: Global,
+        seed: Seed,
         disk: &mut D,
         checked: bool,
         limits: Limits,
@@ -141,7 +144,7 @@ impl Session {
         law_images_are_opened();
         law_standing_files_are_sound();
         law_sound_files_stand();
-        let session = Session::begin(rt, alloc, disk, limits)?;
+        let session = Session::begin(rt, alloc, seed, disk, limits)?;
         if checked {
             session.checked(rt, disk)
         } else {

@@ -22,6 +22,7 @@ use dg_batch::Held;
 use dg_disk::Disk;
 use dg_handles::Handles;
 use dg_machine::Limits;
+use dg_seed::Seed;
 use dg_sound::Soundness;
 use dg_start::{StartFault, open};
 use std::alloc::Global;
@@ -32,6 +33,7 @@ impl Session {
     pub(super) fn begin<R: Threads + Sync, D: Disk>(
         rt: &R,
         alloc: Global,
+        seed: Seed,
         disk: &mut D,
         limits: Limits,
     ) -> Result<Session, StartFault>
@@ -59,7 +61,7 @@ impl Session {
         ensures settled { OnOk result (IsOnDevice D.Disk disk.new) }
     {
         let handles = Handles::new(alloc, limits.first_handle)?;
-        match open_live(rt, alloc, disk) {
+        match open_live(rt, alloc, seed, disk) {
             Ok(live) => Ok(Session {
                 limits,
                 held: Held {
@@ -134,6 +136,7 @@ impl Session {
 fn open_live<R: Threads + Sync, D: Disk>(
     rt: &R,
     alloc: Global,
+    seed: Seed,
     disk: &mut D,
 ) -> Result<Live, StartFault>
     // the history
@@ -157,7 +160,7 @@ fn open_live<R: Threads + Sync, D: Disk>(
     ensures disk { SyncsDisk D.Disk disk.old disk.new }
     ensures settled { OnOk result (IsOnDevice D.Disk disk.new) }
 {
-    match open(rt, alloc, disk) {
+    match open(rt, alloc, seed, disk) {
         Ok(history) => Ok(Live {
             history,
             pool: None,
