@@ -16,6 +16,7 @@ use dg_history::{EVENTS_MAX, FILE_BYTES_MAX};
 use dg_io::{Lines, Sink, Source};
 use dg_machine::{FIRST_HANDLE, Limits, SCRIPT_BYTES_MAX};
 use dg_reply::write_reply;
+use dg_seed::Seed;
 use dg_session::{Session, Stop, law_begins_are_determined};
 use dg_words::read_words;
 use std::alloc::Global;
@@ -23,7 +24,7 @@ use std::thread::Threads;
 
 /// Reads the words, and carries out the commands of the script one by one over the index file that
 /// the disk holds, which is verified first where the words say `--checked`. Each reply is written before
-/// the next line is read. It is `serve_with` at the standard limits.
+/// the next line is read. It is `serve_with` at the standard limits. Tables hash with the seed, on which no reply depends.
 ///
 /// Where the index file is on the device at the start, a crash at any moment leaves one that stands for the history of
 /// a state of the run, with the two exceptions of `specs/Served.antt`. Behind a run that began and did not end by the
@@ -31,6 +32,7 @@ use std::thread::Threads;
 pub fn serve<R: Threads + Sync, S: Source, K: Sink, D: Disk>(
     rt: &R,
     alloc: Global,
+    seed: Seed,
     words: &[String],
     source: &mut S,
     sink: &mut K,
@@ -43,13 +45,23 @@ pub fn serve<R: Threads + Sync, S: Source, K: Sink, D: Disk>(
         (LeftByCrash D.Disk disk.old disk.new) }
     ensures on_device { IsBegun result → result ≢ Status.DiskFault → IsOnDevice D.Disk disk.new }
 {
-    serve_with(rt, alloc, words, Limits::standard(), source, sink, disk)
+    serve_with(
+        rt,
+        alloc,
+        seed,
+        words,
+        Limits::standard(),
+        source,
+        sink,
+        disk,
+    )
 }
 
 /// The same within these limits. `specs/Promised.antt` says field by field what it promises.
 pub fn serve_with<R: Threads + Sync, S: Source, K: Sink, D: Disk>(
     rt: &R,
     alloc: Global,
+    seed: Seed,
     words: &[String],
     limits: Limits,
     source: &mut S,
@@ -64,7 +76,7 @@ pub fn serve_with<R: Threads + Sync, S: Source, K: Sink, D: Disk>(
     ensures on_device { IsBegun result → result ≢ Status.DiskFault → IsOnDevice D.Disk disk.new }
 {
     match read_words(alloc, words) {
-        Ok(Some(read)) => run_session(rt, alloc, read.checked, limits, source, sink, disk),
+        Ok(Some(read)) => run_session(rt, alloc, seed, read.checked, limits, source, sink, disk),
         Ok(None) => Status::Words,
         Err(_) => Status::NoMemory,
     }
@@ -74,6 +86,7 @@ pub fn serve_with<R: Threads + Sync, S: Source, K: Sink, D: Disk>(
 fn run_session<R: Threads + Sync, S: Source, K: Sink, D: Disk>(
     rt: &R,
     alloc: Global,
+    seed: Seed,
     checked: bool,
     limits: Limits,
     source: &mut S,
@@ -89,7 +102,7 @@ fn run_session<R: Threads + Sync, S: Source, K: Sink, D: Disk>(
 {
     // Its clause says that an image comes to one beginning.
     law_begins_are_determined();
-    match Session::start(rt, alloc, disk, checked, limits) {
+    match Session::start(rt, alloc, seed, disk, checked, limits) {
         Ok(mut session) => {
             // From here on it is commands that read, and they may ask for the same again.
             disk.expect_repeats();
