@@ -16,6 +16,7 @@ use dg_cached_disk::CachedDisk;
 use dg_file_disk::FileDisk;
 use dg_io::{StdSink, StdSource};
 use dg_run::{Status, serve};
+use dg_seed::Seed;
 use dg_words::{Words, read_words};
 use std::alloc::{AllocError, Global};
 use std::num::NonZeroUsize;
@@ -47,11 +48,13 @@ fn main(rt: HostRuntime) -> ExitCode {
     let mut source = StdSource::new(rt.stdin());
     let mut sink = StdSink::new(rt.stdout());
     let ranges = ranges_of(&rt, read.cache);
+    let seed = Seed::random(&rt);
     let mut file = FileDisk::new(&rt, read.index);
     let Some(ranges) = ranges else {
         let status = serve(
             &rt,
             rt.alloc(),
+            seed,
             words.as_slice(),
             &mut source,
             &mut sink,
@@ -63,6 +66,7 @@ fn main(rt: HostRuntime) -> ExitCode {
     let status = serve(
         &rt,
         rt.alloc(),
+        seed,
         words.as_slice(),
         &mut source,
         &mut sink,

@@ -7,6 +7,7 @@ use dg_io::{Line, Lines, MemorySink, MemorySource};
 use dg_line::read_command;
 use dg_machine::{Limits, SCRIPT_BYTES_MAX};
 use dg_reply::write_reply;
+use dg_seed::Seed;
 use dg_session::Session;
 use std::alloc::Global;
 use std::fs::{File, Files};
@@ -247,7 +248,14 @@ fn a_session_reads_a_list_from_the_file_when_it_is_asked_for(rt: HostRuntime) ->
     let path = env::temp_dir(&rt)?.join(rt.alloc(), name.as_str())?;
     let _ = fs::remove_file(&rt, path.as_path());
     let mut disk = FileDisk::new(&rt, path.as_str().to_string(rt.alloc())?);
-    let mut session = Session::start(&rt, rt.alloc(), &mut disk, false, Limits::standard())?;
+    let mut session = Session::start(
+        &rt,
+        rt.alloc(),
+        Seed::new(1),
+        &mut disk,
+        false,
+        Limits::standard(),
+    )?;
     let read = reads_anew(&rt, rt.alloc(), path.as_str(), &mut session, &mut disk);
     drop(session);
     read

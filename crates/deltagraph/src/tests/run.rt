@@ -8,6 +8,7 @@ use dg_history::{EVENTS_MAX, FILE_BYTES_MAX, Key};
 use dg_io::{MemorySink, MemorySource};
 use dg_machine::{FIRST_HANDLE, Limits, SCRIPT_BYTES_MAX};
 use dg_run::{Status, serve_with};
+use dg_seed::Seed;
 use dg_session::{SessionFault, StartFault};
 use std::alloc::{AllocError, Global};
 use std::ops::Range;
@@ -84,7 +85,16 @@ fn run_by<R: Threads + Sync>(
     let mut source = MemorySource::new(alloc, script, chunk, faults.source)?;
     let mut sink = MemorySink::new(alloc, faults.room, &[])?;
     let mut disk = MemoryDisk::new(alloc, image, ROOM, CALLS_MAX, faults.disk)?;
-    let status = serve_with(rt, alloc, words, limits, &mut source, &mut sink, &mut disk);
+    let status = serve_with(
+        rt,
+        alloc,
+        Seed::new(1),
+        words,
+        limits,
+        &mut source,
+        &mut sink,
+        &mut disk,
+    );
     Ran::new(alloc, status, &sink, &disk)
 }
 
