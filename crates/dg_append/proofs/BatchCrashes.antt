@@ -16,6 +16,7 @@ use Rattle.dg_disk.specs.Calls.{Fails, LeftByCrash, ReadsDisk, WritesDisk}
 use Rattle.dg_disk.specs.declared.disk.Disk.{Ghosts}
 use Rattle.dg_file.specs.Calls.{CommitsSegment}
 use Rattle.dg_file.specs.Images.{GainsBatchOrNot}
+use Rattle.dg_file.specs.TidyImages.{StaysTidy}
 use Rattle.dg_graph.specs.declared.element.Element.{Element}
 use Rattle.dg_history.specs.History.{History, events_of}
 use Rattle.dg_index.specs.FileOfHistory.{Segment, segment_of}
@@ -31,6 +32,7 @@ module _ {D : Type 0} (g : Ghosts D) where
     used = reads_use reads;
     causes = cause;
     settled = tt;
+    exact = tt;
     unwritten = λ other. reads;
     crash = told_reads g.image g.faults g.write_faults g.cached g.may_leave g.moment g.left_since old new reads only F P has f;
   }
@@ -94,6 +96,7 @@ module _ {D : Type 0} (g : Ghosts D) where
       used = reads_then_writes reads writes;
       causes = cause_kept f stops;
       settled = tt;
+      exact = tt;
       unwritten = unwritten_there f stops;
       crash = crash_left;
     }
@@ -103,6 +106,7 @@ module _ {D : Type 0} (g : Ghosts D) where
       used = reads_then_writes reads writes;
       causes = tt;
       settled = kept.settled;
+      exact = subst (λ (x : Option (List ℕ)). StaysTidy x (g.image after)) reads.same_image kept.exact;
       unwritten = tt;
       crash = crash_left;
     }
@@ -114,7 +118,7 @@ module _ {D : Type 0} (g : Ghosts D) where
     wider = told_widens g.moment g.left_since g.may_leave (g.image old) old new F P Q to fact
 
     pub done_leaves : {A B : Type 0} (x : A) (y : B) → LeavesDisk g P old new (Ok x) → LeavesDisk g Q old new (Ok y)
-    done_leaves x y left = record { used = left.used; causes = tt; settled = left.settled; unwritten = tt; crash = wider left.crash }
+    done_leaves x y left = record { used = left.used; causes = tt; settled = left.settled; exact = left.exact; unwritten = tt; crash = wider left.crash }
 
     pub failed_leaves : {A B : Type 0} (f : BatchFault) → LeavesDisk {A = A} g P old new (Err f) → LeavesDisk {A = B} g Q old new (Err f)
-    failed_leaves f left = record { used = left.used; causes = left.causes; settled = tt; unwritten = left.unwritten; crash = wider left.crash }
+    failed_leaves f left = record { used = left.used; causes = left.causes; settled = tt; exact = tt; unwritten = left.unwritten; crash = wider left.crash }

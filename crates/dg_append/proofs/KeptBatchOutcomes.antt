@@ -11,6 +11,7 @@ use Rattle.dg_disk.specs.Calls.{ReadsDisk}
 use Rattle.dg_disk.specs.declared.disk.Disk.{Ghosts}
 use Rattle.dg_file.specs.Calls.{CommitsSegment}
 use Rattle.dg_file.specs.Images.{BothTold, Fits, GainsBatch, GainsBatchOrNot, GainsSegment, IsOpenedAs}
+use Rattle.dg_file.specs.TidyImages.{StaysTidy}
 use Rattle.dg_graph.specs.declared.element.Element.{Element}
 use Rattle.dg_index.specs.FileOfHistory.{Segment}
 use Rattle.dg_index.specs.OpenedIndex.{Opening, may_be_named}
@@ -80,6 +81,7 @@ module _ {D : Type 0} (g : Ghosts D) (limit : ℕ) (o new : Opening) (next : Nex
       index = kept.index;
       opened = subst (λ (x : Option (List ℕ)). BothTold x (g.image after) (GainsSegment o s new)) reads.same_image kept.opened;
       gained = subst (λ (x : Option (List ℕ)). BothTold x (g.image after) (GainsBatch s)) reads.same_image kept.gained;
+      exact = subst (λ (x : Option (List ℕ)). StaysTidy x (g.image after)) reads.same_image kept.exact;
       fits = kept.fits;
       settled = kept.settled;
     };
