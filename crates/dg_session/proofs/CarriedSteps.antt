@@ -21,7 +21,8 @@ use Rattle.dg_machine.specs.declared.reply.Refusal.TheVariants as refusal
 use Rattle.dg_machine.specs.declared.reply.Reply.{Reply}
 use Rattle.dg_machine.specs.Needs.{following, is_writing, needs}
 use Rattle.dg_session.proofs.CommandCrashes.{OnlyNow, reading_left, refused_left}
-use Rattle.dg_session.proofs.CommandDisks.{every_answer, every_err}
+use Rattle.dg_file.specs.TidyImages.{StaysTidy}
+use Rattle.dg_session.proofs.CommandDisks.{every_answer, every_err, reading_tidy}
 use Rattle.dg_session.proofs.DamageStep.{met_nothing, never_for_damage, reads_undamaged}
 use Rattle.dg_session.proofs.ReadsStep.{fails_no_read, followed_by_none, reads_none, reads_nothing, store_read_is}
 use Rattle.dg_session.proofs.ReplyNames.{head_names}
@@ -115,6 +116,7 @@ module _ {S D : Type 0} {s : source.Ghosts S} {d : disk.Ghosts D} {c : Command} 
         swept = k.swept;
         reads = k.file.reads;
         settled = k.settled;
+        exact = k.exact;
         unwritten = λ e. absurd (false≢true (sym a.accepted ∙ e));
       }
 
@@ -138,6 +140,7 @@ module _ {S D : Type 0} {s : source.Ghosts S} {d : disk.Ghosts D} {c : Command} 
         swept = nothing_swept (sweep_of c) old.pool new.pool (head.Refused why) k.unswept;
         reads = k.file.reads;
         settled = frames.reads_stay before after (k.unwritten (λ e. cc));
+        exact = reading_tidy d before after (k.unwritten (λ e. cc));
         unwritten = λ refuses. k.unwritten (λ e. cc);
       })
 
@@ -182,6 +185,7 @@ module _ {S D : Type 0} {s : source.Ghosts S} {d : disk.Ghosts D} {lines : Lines
         reads_only = reads_only;
         unwritten = treats.unwritten;
         settled = treats.settled;
+        exact = treats.exact;
       })
 
 module _ {S D : Type 0} {s : source.Ghosts S} {d : disk.Ghosts D} {lines : LinesState} {from : S} {old : SessionState} {before : D} {new : SessionState} {after : D} (r : Result Reply Halt) where
@@ -228,6 +232,7 @@ module _ {S D : Type 0} {s : source.Ghosts S} {d : disk.Ghosts D} {lines : Lines
         reads_only = λ e. frame;
         unwritten = every_err r (λ h. (h ≡ halt.Stop stop.Store → ⊥) → ReadsDisk d before after) (λ h other. frame);
         settled = every_answer r (StaysOnDevice d before after) (frames.reads_stay before after frame);
+        exact = every_answer r (StaysTidy (d.image before) (d.image after)) (reading_tidy d before after frame);
       })
 
 module _ {S D : Type 0} {s : source.Ghosts S} {d : disk.Ghosts D} {lines : LinesState} {from : S} {old : SessionState} {at : D} {new : SessionState} (r : Result Reply Halt) where
@@ -251,4 +256,5 @@ module _ {S D : Type 0} {s : source.Ghosts S} {d : disk.Ghosts D} {lines : Lines
     reads_only = λ e. frames.reads_none;
     unwritten = every_err r (λ h. (h ≡ halt.Stop stop.Store → ⊥) → ReadsDisk d at at) (λ h other. frames.reads_none);
     settled = every_answer r (StaysOnDevice d at at) (λ there. there);
+    exact = every_answer r (StaysTidy (d.image at) (d.image at)) (λ tidy. tidy);
   }

@@ -16,6 +16,8 @@ use Rattle.dg_file.specs.declared.fault.CommitFault.{CommitFault}
 use Rattle.dg_file.specs.declared.fault.CommitFault.TheVariants as commit_fault
 use Rattle.dg_file.specs.declared.fault.CreateFault.{CreateFault}
 use Rattle.dg_file.specs.declared.fault.CreateFault.TheVariants as create_fault
+use Rattle.dg_file.proofs.TidyWrites.{same_tidy}
+use Rattle.dg_file.specs.TidyImages.{StaysTidy}
 use Rattle.dg_index.specs.OpenedIndex.{Opening}
 use Rattle.dg_machine.specs.declared.reply.Reply.{Reply}
 use Rattle.dg_session.specs.Calls.{TreatsDisk}
@@ -42,12 +44,17 @@ module _ {D : Type 0} (g : Ghosts D) where
   pub answers_stay : {A E : Type 0} (r : Result A E) (old new : D) → ReadsDisk g old new → IsOnDevice g old → OnOk r (IsOnDevice g new)
   answers_stay r old new reads settled = every_answer r (IsOnDevice g new) (reads_stay old new reads settled)
 
+  -- an image that calls leave, they leave as the bytes in use where it was those
+  pub reading_tidy : (old new : D) → ReadsDisk g old new → StaysTidy (g.image old) (g.image new)
+  reading_tidy old new reads = same_tidy (g.image old) (g.image new) reads.same_image
+
   -- calls that read, and no other
   pub reading_treats : (old new : D) (r : Result Reply Halt) → ReadsDisk g old new → TreatsDisk g old new r
   reading_treats old new r reads = record {
     used = reads_use reads;
     unwritten = every_err r (λ h. (h ≡ halt.Stop stop.Store → ⊥) → ReadsDisk g old new) (λ h other. reads);
     settled = every_answer r (StaysOnDevice g old new) (reads_stay old new reads);
+    exact = every_answer r (StaysTidy (g.image old) (g.image new)) (reading_tidy old new reads);
   }
 
   -- ---- a batch
@@ -61,6 +68,7 @@ module _ {D : Type 0} (g : Ghosts D) where
     used = left.used;
     unwritten = λ other. left.unwritten (batch_other f other);
     settled = tt;
+    exact = tt;
   }
 
   -- it is added
@@ -69,6 +77,7 @@ module _ {D : Type 0} (g : Ghosts D) where
     used = left.used;
     unwritten = tt;
     settled = λ before. left.settled;
+    exact = left.exact;
   }
 
   -- ---- an index
@@ -80,19 +89,22 @@ module _ {D : Type 0} (g : Ghosts D) where
     used = writes_use writes;
     unwritten = λ other. subst (λ (x : D). ReadsDisk g old x) (sym (same refl)) reads_none;
     settled = tt;
+    exact = tt;
   }
   unmade_treats old new create_fault.Disk writes same = record {
     used = writes_use writes;
     unwritten = λ other. absurd (other refl);
     settled = tt;
+    exact = tt;
   }
 
   -- it is made, or the file goes on in its second form
-  pub made_treats : (old new : D) (reply : Reply) → WritesDisk g old new → IsOnDevice g new → TreatsDisk g old new (Ok reply)
-  made_treats old new reply writes settled = record {
+  pub made_treats : (old new : D) (reply : Reply) → WritesDisk g old new → IsOnDevice g new → StaysTidy (g.image old) (g.image new) → TreatsDisk g old new (Ok reply)
+  made_treats old new reply writes settled exact = record {
     used = writes_use writes;
     unwritten = tt;
     settled = λ before. settled;
+    exact = exact;
   }
 
   -- ---- the second form
@@ -104,9 +116,11 @@ module _ {D : Type 0} (g : Ghosts D) where
     used = writes_use writes;
     unwritten = λ other. subst (λ (x : D). ReadsDisk g old x) (sym marks.3) reads_none;
     settled = tt;
+    exact = tt;
   }
   unmarked_treats A limit o before after old new commit_fault.Disk writes marks = record {
     used = writes_use writes;
     unwritten = λ other. absurd (other refl);
     settled = tt;
+    exact = tt;
   }

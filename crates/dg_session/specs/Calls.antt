@@ -10,6 +10,7 @@ use Rattle.dg_batch.specs.declared.stop.Stop.TheVariants as stop
 use Rattle.dg_cuts.specs.TakenLines.{CutsWithin, TakesBehind}
 use Rattle.dg_disk.specs.Calls.{FailsToWrite, LeftByCrash, ReadsDisk, StaysOnDevice, UsesDisk}
 use Rattle.dg_disk.specs.declared.disk.Disk as disk
+use Rattle.dg_file.specs.TidyImages.{StaysTidy}
 use Rattle.dg_text.specs.Lines.{ScriptLine}
 use Rattle.dg_io.specs.Calls.{FailsToRead}
 use Rattle.dg_io.specs.declared.source.Source as source
@@ -38,11 +39,13 @@ abbrev pub CutsFollowing : {S : Type 0} → source.Ghosts S → Command → Line
 CutsFollowing s command lines from then_lines then_from = CutsWithin (following command) lines (s.left from) then_lines (s.left then_from)
 
 -- What a command that may write does to the disk: where it comes to no reply, and is not stopped for the file, the disk was
--- only read; and where it is answered, what the disk holds stays on the device.
+-- only read; and where it is answered, what the disk holds stays on the device, and an image that was just the bytes in use
+-- is just those in use then.
 pub record TreatsDisk {D : Type 0} (d : disk.Ghosts D) (before after : D) (result : Result Reply Halt) : Type 0 where
   pub used : UsesDisk d before after
   pub unwritten : IfErr result (λ h. (h ≡ halt.Stop stop.Store → ⊥) → ReadsDisk d before after)
   pub settled : OnOk result (StaysOnDevice d before after)
+  pub exact : OnOk result (StaysTidy (d.image before) (d.image after))
 
 -- The command is answered with this reply.
 pub record AnswersCommand {S D : Type 0} (s : source.Ghosts S) (d : disk.Ghosts D) (command : Command) (lines : LinesState) (from : S) (then_lines : LinesState) (then_from : S)
@@ -72,6 +75,9 @@ pub record AnswersCommand {S D : Type 0} (s : source.Ghosts S) (d : disk.Ghosts 
   pub reads : Reads command old.parts (d.image before) reply.head (d.taken before) (d.taken after)
   -- Where what the disk held was on the device, what it holds is.
   pub settled : StaysOnDevice d before after
+  -- Where the image was just the bytes in use, it is just those in use now: the gate that closes them is 0, and no byte
+  -- stands behind it.
+  pub exact : StaysTidy (d.image before) (d.image after)
   -- Where it is refused, the disk was only read.
   pub unwritten : is_refusal reply.head ≡ true → ReadsDisk d before after
 
@@ -143,3 +149,5 @@ pub record CarriesOut {S D : Type 0} (s : source.Ghosts S) (d : disk.Ghosts D) (
   pub unwritten : IfErr result (λ h. (h ≡ halt.Stop stop.Store → ⊥) → ReadsDisk d before after)
   -- what is on the device stays there
   pub settled : OnOk result (StaysOnDevice d before after)
+  -- an image that was just the bytes in use is just those in use now
+  pub exact : OnOk result (StaysTidy (d.image before) (d.image after))

@@ -15,6 +15,10 @@ use Rattle.dg_disk.specs.Calls.{LeftByCrash}
 use Rattle.dg_session.proofs.CommandCrashes.{reading_left}
 use Rattle.dg_session.proofs.CreationCrashes.{created_left, uncreated_left}
 use Rattle.dg_session.proofs.CommandDisks.{made_treats, unmade_treats, reading_treats}
+use Rattle.dg_file.proofs.TidyWrites.{made_tidy}
+use Rattle.dg_history.specs.declared.form.Form.TheVariants as form
+use Rattle.dg_history.specs.declared.params.Params.{Params}
+use Rattle.dg_history.specs.History.{empty_history}
 use Rattle.dg_session.specs.Calls.{TreatsDisk}
 use Rattle.dg_session.proofs.SessionCreationStep.{create_answers, create_fails, creation_free, no_names, reads_no_record}
 use Rattle.dg_session.proofs.HeldIndexes.{held_made}
@@ -81,7 +85,10 @@ returns-in_err-index-clause-disk g c =
     (λ h. c.create.ensures.memory (c.in_err-index.was ∙ ap (λ f. Err f) h)))
 
 pub returns-clause-disk : goal.returns-clause-disk
-returns-clause-disk g c = made_treats g.D.Disk c.args.disk.now c.create.new.disk c.headed.result c.create.ensures.frame c.in_ok-index.ensures.settled
+returns-clause-disk g c =
+    let made : Params = record { l = c.args.l; k = c.args.k; function = c.function-function.result } in
+    made_treats g.D.Disk c.args.disk.now c.create.new.disk c.headed.result c.create.ensures.frame c.in_ok-index.ensures.settled
+    (made_tidy (empty_history form.Two made) (g.D.Disk.image c.args.disk.now) (g.D.Disk.image c.create.new.disk) c.in_ok-index.ensures.image c.in_ok-index.ensures.exact)
 
 pub returns-in-Some-clause-crash : goal.returns-in-Some-clause-crash
 returns-in-Some-clause-crash g c =

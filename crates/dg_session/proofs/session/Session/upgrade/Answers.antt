@@ -54,7 +54,7 @@ returns-clause-disk g c =
     elim c.match-mark.branch [
       | in-Ok w ↦ rw w.result-is
           (let marks = marked_here p limit limit_is none free g.D.Disk (Unit {0}) c.self.inside.limits old new c.args.disk.now c.mark.new.disk view c.mark.result (Ok w.in-Ok.field-0) c.mark.ensures.marks w.in-Ok.is in
-          made_treats g.D.Disk c.args.disk.now c.mark.new.disk w.headed.result c.mark.ensures.frame marks.2.settled)
+          made_treats g.D.Disk c.args.disk.now c.mark.new.disk w.headed.result c.mark.ensures.frame marks.2.settled marks.2.exact)
       | in-Err w ↦ rw w.result-is
           (subst (λ (h : Halt). TreatsDisk g.D.Disk c.args.disk.now c.mark.new.disk (Err h)) (sym w.upgrade_halt.ensures)
           (unmarked_treats g.D.Disk (Unit {0}) limit free.index old new c.args.disk.now c.mark.new.disk w.in-Err.fault c.mark.ensures.frame
