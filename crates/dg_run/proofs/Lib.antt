@@ -9,4 +9,5 @@ pub mod TakenRuns
 pub mod ServedRuns
 pub mod WrittenReplies
 pub mod StatusStarts
+pub mod ExactRuns
 pub mod PromisedRuns

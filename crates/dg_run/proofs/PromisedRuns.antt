@@ -32,6 +32,8 @@ use Rattle.dg_run.proofs.RunWeights.{opening_takes, takes_both}
 use Rattle.dg_run.specs.Statuses.{ending_of, is_unbegun, IsBegun}
 use Rattle.dg_run.specs.Turns.{ScriptAnswered}
 use Rattle.dg_run.proofs.CrashRuns.{Leads, Stays, in_run_first}
+use Rattle.dg_file.specs.TidyImages.{StaysTidy}
+use Rattle.dg_run.proofs.ExactRuns.{leaves_just, same_just}
 use Rattle.dg_run.proofs.PromisedEnds.{completes_of}
 use Rattle.dg_run.proofs.ServedRuns.{at_some, ended_faults, grown-nil, if_some, left_from, remains_from, served_nothing}
 use Rattle.dg_run.proofs.WrittenReplies.{none_gained}
@@ -62,6 +64,7 @@ words_promise : (limits : Limits) (checked : Bool) (start : Outside) (crashes : 
 words_promise limits checked start crashes stays = record {
   served = if_some start.image (λ x. (index : Option History) → StandsAs index x → (x : Served (machine_at limits index) status.Words start start crashes) × ReadsNoMore (OpensBy checked index start.image) x)
       (λ x is index stands. served_nothing status.Words (machine_at limits index) (OpensBy checked index start.image) start start x crashes is stands (untouched_here start) stays (λ e. cc) (λ nil. nil) (omega arith) uncut_words (λ n opened. omega arith));
+  exact = λ other. same_just limits status.Words start start crashes other refl;
   replies = none_gained status.Words start.written start.written (grown-nil start.written);
   checked = λ e. if_some start.image (IsLeft status.Words start start) (λ x is bytes. inr (untouched_here start, inl refl));
   told = refl;
@@ -90,6 +93,7 @@ pub unread_words : (limits : Limits) (are_written checked : Bool) (start : Outsi
 unread_words limits are_written checked start crashes stays = record {
   served = if_some start.image (λ x. (index : Option History) → StandsAs index x → (x : Served (machine_at limits index) status.NoMemory start start crashes) × ReadsNoMore (OpensBy checked index start.image) x)
       (λ x is index stands. served_nothing status.NoMemory (machine_at limits index) (OpensBy checked index start.image) start start x crashes is stands (untouched_here start) stays (λ e. cc) (λ nil. nil) (omega arith) uncut_nomemory (λ n opened. omega arith));
+  exact = λ other. same_just limits status.NoMemory start start crashes other refl;
   replies = none_gained status.NoMemory start.written start.written (grown-nil start.written);
   checked = λ e. if_some start.image (IsLeft status.NoMemory start start) (λ x is bytes. inr (untouched_here start, inl refl));
   told = refl;
@@ -126,6 +130,7 @@ no_session A determined limits checked s f start now crashes stays is same count
           (λ x here index stands. served_nothing s (machine_at limits index) (OpensBy checked index start.image) start now x crashes here stands same stays not.done
           (λ nil. unbegun_gains s f start.written now.written end nil) (ended_faults s start.disk_faults now.disk_faults counted failed) (either (s ≡ status.SourceFault) (s ≡ status.ScriptLimit) not.source not.limit)
           (λ n opened. opening_takes {A = A} (Err f) index x n start.bytes_read now.bytes_read stands (at_some start.image (λ image. TakesStart {A = A} (Err f) image start.bytes_read now.bytes_read) x (takes opened.0) here) (at_some start.image (λ bytes. IsOpening index bytes n) x opened.1 here)));
+      exact = λ other. same_just limits s start now crashes other same.image;
       replies = none_gained s start.written now.written (unbegun_gains s f start.written now.written end (same.written ∙ grown-nil start.written));
       checked = λ e. if_some start.image (IsLeft s start now) (λ x here bytes. inr (same, untouched_end s f end));
       told = ap (λ (o : Option (List ℕ)). is_some o) same.image;
@@ -223,6 +228,7 @@ session_promise {A} began determined limits checked session s start mid now begu
     let sink_fault : s ≡ status.SinkFault → CountRose start.sink_faults now.sink_faults =
     λ e. subst (λ (n : ℕ). CountRose n now.sink_faults) sink (answered.sink_fault e) in record {
       served = served;
+      exact = λ other. leaves_just limits s start now crashes other (subst (λ (o : Option (List ℕ)). StaysTidy o now.image) image (answered.exact other));
       replies = subst (λ (o : Option (List ℕ)). GainsReplies s o now.written) written answered.replies;
       checked = λ e. where_some start.image (λ x. AreBytes x → IsStanding x) (IsLeft s start now) (λ x h bytes. inl (h bytes)) (standing e);
       told = answered.told ∙ ap (λ (o : Option (List ℕ)). is_some o) image;

@@ -143,7 +143,7 @@ module _ {S D : Type 0} {s : source.Ghosts S} {d : disk.Ghosts D} where
   pub makes_here : {entries : Option (List script.Entry)} {front : List ScriptLine} {lines : LinesState} {from : S} {session : Parts} {at : D} {then_lines : LinesState} {then_from : S} (made : Turn) → HoldsImage session (d.image at)
       → Turns made (TakesEntries s front lines from then_lines then_from) entries (asked then_lines (s.left then_from)) session (d.image at) session (d.image at) (d.taken at) (d.taken at) (LeftByCrash d at at) → TellsFailedReads made (d.faults at) (d.faults at)
       → NamesTurn made (length session.names) → MakesTurn s d entries front lines from session at then_lines then_from session at made
-  makes_here made holds turn reads named = record { turn = turn; held = holds; no_index = λ none. (none, refl); store_read = reads; named = named; settled = λ on. on }
+  makes_here made holds turn reads named = record { turn = turn; held = holds; no_index = λ none. (none, refl); store_read = reads; named = named; settled = λ on. on; exact = λ tidy. tidy }
 
   -- what is cut off, in other words
   pub stopped_in : {from : S} {old : Parts} {before : D} {then_lines : LinesState} {then_from : S} {new : Parts} {after : D} {short cut : Type 0} (then_short then_cut : Type 0) (why : Stop) → (short → then_short) → (why ≡ stop.Store → cut → then_cut)
@@ -184,6 +184,7 @@ made_on s d entries line first lines early from old before then_lines then_from 
   store_read = m.store_read;
   named = m.named;
   settled = m.settled;
+  exact = m.exact;
 }
   where
     behind : (es : List script.Entry) → TakesEntries s (line ∷ []) lines from then_lines then_from es → TakesEntries s [] first early then_lines then_from es

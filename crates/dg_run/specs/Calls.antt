@@ -5,6 +5,7 @@ use Rattle.std.specs.Option.{option_map}
 use Rattle.dg_cuts.specs.TakenLines.{CutsEntries, GaveEntries}
 use Rattle.dg_disk.specs.Calls.{LeftByCrash, StaysOnDevice}
 use Rattle.dg_disk.specs.declared.disk.Disk as disk
+use Rattle.dg_file.specs.TidyImages.{StaysTidy}
 use Rattle.dg_text.specs.Lines.{ScriptLine, Text}
 use Rattle.dg_io.specs.declared.source.Source as source
 use Rattle.dg_io.specs.LinesState.{Comes, LinesState}
@@ -37,6 +38,8 @@ pub record MakesTurn {S D : Type 0} (s : source.Ghosts S) (d : disk.Ghosts D) (e
   pub named : NamesTurn made (length new.names)
   -- Where what the disk held was on the device, what it holds is.
   pub settled : StaysOnDevice d before after
+  -- Where the image was just the bytes in use, it is just those in use now.
+  pub exact : StaysTidy (d.image before) (d.image after)
 
 -- The fact holds of the entries that were to come before this line was taken, where these lines are to come behind it.
 abbrev pub AtLine : List ℕ → Option (List ScriptLine) → (Option (List Entry) → Type 0) → Type 0

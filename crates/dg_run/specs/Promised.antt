@@ -7,6 +7,7 @@ use Rattle.dg_session.specs.declared.session_fault.SessionFault.TheVariants as s
 use Rattle.dg_session.specs.SessionStart.{Begins, IsStanding}
 use Rattle.dg_start.specs.declared.fault.StartFault.TheVariants as start_fault
 use Rattle.dg_history.specs.History.{History}
+use Rattle.dg_file.specs.TidyImages.{IsJustFile}
 use Rattle.dg_fold.specs.BytesRead.{Takes}
 use Rattle.dg_index.specs.ImageOfHistory.{IsImageOf, StandsAs}
 use Rattle.dg_index.specs.OpenedIndex.{opened_of}
@@ -14,6 +15,7 @@ use Rattle.dg_start.specs.SessionStart.{PlansLastLeaf, start_bytes}
 use Rattle.dg_io.specs.Told.{Gives, CountRose}
 use Rattle.dg_machine.specs.declared.limits.Limits.{Limits}
 use Rattle.dg_machine.specs.MachineState.{machine_at}
+use Rattle.dg_machine.specs.Run.{last_state}
 use Rattle.dg_run.specs.declared.status.Status.{Status}
 use Rattle.dg_run.specs.declared.status.Status.TheVariants as status
 use Rattle.dg_run.specs.Outside.{Outside, IsUntouched}
@@ -25,6 +27,13 @@ use Rattle.dg_run.specs.Statuses.{is_unbegun}
 -- the fact holds of each history, or none, that the image stands for, where it is told
 abbrev pub WhereItStands : Option (List ℕ) → (Option History → Type 0) → Type 0
 WhereItStands image P = IfSome image (λ bytes. (index : Option History) → StandsAs index bytes → P index)
+
+-- Where the image is just the file of the history for which it stands and a closed gate, or there is no index, it is so at
+-- the end, of the history that the run came to: histories with the same parameters, batches and events are the same bytes.
+abbrev pub LeavesJustFile : Limits → Status → Outside → Outside → ((List ℕ → List ℕ → Type 0) → Type 0) → Type 0
+LeavesJustFile limits s start now crashes =
+    WhereItStands start.image (λ index. (x : Served (machine_at limits index) s start now crashes)
+    → IfSome start.image (IsJustFile index) → IfSome now.image (IsJustFile (last_state (machine_at limits index) x.answers).index))
 
 -- no call of source, sink or disk failed
 pub record NoneFailed (start now : Outside) : Type 0 where
@@ -49,6 +58,10 @@ pub record Promised (limits : Limits) (are_written are_checked : Bool) (s : Stat
   -- for what that run came to. `Served` has field by field what is owed then. No more bytes were read of the file than
   -- `ReadsNoMore` says of that run.
   pub served : WhereItStands start.image (λ index. (x : Served (machine_at limits index) s start now crashes) × ReadsNoMore (OpensBy are_checked index start.image) x)
+  -- The bytes of the file, to the last: where at the start they are the file of its history and a closed gate of 0, or there
+  -- is no index, they are at the end just the file of the history that the run of `served` came to and such a gate, unless
+  -- the disk failed.
+  pub exact : s ≢ status.DiskFault → LeavesJustFile limits s start now crashes
   -- With `--checked` no premise on the image is left but that it is one of bytes: it stands for a history or for no
   -- index, so that the headline holds over it, or the run did not begin.
   pub checked : are_checked ≡ true

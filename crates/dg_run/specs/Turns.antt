@@ -1,6 +1,6 @@
 -- What one turn over the script does: to the entries to come, to the session and its image, and in
 -- reply.
-use Rattle.std.specs.Prelude.{◌≡◌, ℕ, ◌<◌, true, List, [], ◌∷◌, IsTrue, IfSome, Option, Some, is_some, length}
+use Rattle.std.specs.Prelude.{◌≡◌, ◌≢◌, ℕ, ◌<◌, true, List, [], ◌∷◌, IsTrue, IfSome, Option, Some, is_some, length}
 use Rattle.std.specs.Option.{option_map}
 use Rattle.dg_machine.specs.declared.reply.Reply.{Reply}
 use Rattle.dg_machine.specs.CutImage.{IsCut}
@@ -15,6 +15,7 @@ use Rattle.dg_session.specs.Parts.{Parts}
 use Rattle.dg_session.specs.Reads.{Reads, ReadsToWrite}
 use Rattle.dg_session.specs.ReplyNames.{ReplyNamesAreThere}
 use Rattle.dg_disk.specs.Counts.{Rose as DiskRose}
+use Rattle.dg_file.specs.TidyImages.{StaysTidy}
 use Rattle.dg_io.specs.Told.{Gives, CountRose}
 use Rattle.dg_run.specs.declared.status.Status.{Status}
 use Rattle.dg_run.specs.declared.status.Status.TheVariants as status
@@ -136,6 +137,7 @@ pub record ScriptAnswered (limit : ℕ) (session : Parts) (s : Status) (start no
   pub served : (image : List ℕ) (m : MachineState) → start.image ≡ Some image → StandsFor session image m → (x : Served m s start now crashes) × ReadsNoMore (λ n. n ≡ 0) x
   pub replies : GainsReplies s start.written now.written
   pub told : is_some now.image ≡ is_some start.image
+  pub exact : s ≢ status.DiskFault → StaysTidy start.image now.image
   pub begun : IsBegun s
   pub done : s ≡ status.Done → IfSome start.left (λ script. length script < limit)
   pub source_fault : s ≡ status.SourceFault → CountRose start.source_faults now.source_faults

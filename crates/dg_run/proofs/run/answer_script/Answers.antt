@@ -1,6 +1,7 @@
 use Rattle.std.proofs.Common.{◌≡◌, ℕ, List, [], ◌∷◌, refl, sym, ◌∙◌, ap, subst, arith}
 use Rattle.dg_disk.proofs.FrameLemmas.{reads_stay}
 use Rattle.dg_disk.specs.Calls.{LeftByCrash}
+use Rattle.dg_file.proofs.TidyWrites.{same_tidy}
 use Rattle.dg_io.proofs.FrameLemmas.{advances_none, advances_both}
 use Rattle.dg_io.specs.Told.{CountRose, grown, GrowsByPart}
 use Rattle.dg_machine.specs.ReplyText.{text}
@@ -21,6 +22,7 @@ loop-reply-init g c = record {
       (took_none c.new-lines.result (g.S.Source.left c.args.source.now)) (asked_first c.new-lines.result (g.S.Source.left c.args.source.now) c.args.limit c.new-lines.ensures) (stays_here g.D.Disk g.met.D.Disk.only_now c.args.disk.now);
   replies = none_so_far (g.K.Sink.written c.args.sink.now);
   on_device = λ on. on;
+  exact = λ tidy. tidy;
   told = refl;
   held = c.requires;
   lines = advances_none c.new-lines.result _ _;
@@ -42,6 +44,7 @@ loop-reply-preserved-in-Ok-Skipped g c =
           (adds_turn g.D.Disk c.args.disk.now l.disk c.next_turn.new.disk (λ first left. left ≡ first) l.invariant.on_device turn.4);
       replies = l.invariant.replies;
       on_device = λ on. made.settled (l.invariant.on_device on);
+      exact = λ tidy. made.exact (l.invariant.exact tidy);
       told = c.next_turn.ensures.disk.told ∙ l.invariant.told;
       held = made.held;
       lines = advances_both c.new-lines.result l.lines c.next_turn.new.lines _ _ _ _ _ _ l.invariant.lines c.next_turn.ensures.lines;
@@ -67,6 +70,7 @@ loop-reply-preserved-else-is_err g c =
           (λ es took. took_more es (turn.0 ∷ []) c.new-lines.result l.lines c.next_turn.new.lines (g.S.Source.left c.args.source.now) (g.S.Source.left l.source) (g.S.Source.left c.next_turn.new.source) c.next_turn.ensures.lines.ended turn.5 took) turn.6;
       replies = one_more_reply (g.K.Sink.written c.args.sink.now) (g.K.Sink.written l.sink) (g.K.Sink.written c.write_reply.new.sink) c.next_turn.new.session.parts.names c.in-Ok-Replied.reply l.invariant.replies made.named written;
       on_device = λ on. made.settled (l.invariant.on_device on);
+      exact = λ tidy. made.exact (l.invariant.exact tidy);
       told = c.next_turn.ensures.disk.told ∙ l.invariant.told;
       held = made.held;
       lines = advances_both c.new-lines.result l.lines c.next_turn.new.lines _ _ _ _ _ _ l.invariant.lines c.next_turn.ensures.lines;
@@ -92,6 +96,7 @@ loop-reply-preserved g c =
           (λ es took. took_more es (turn.0 ∷ []) c.new-lines.result l.lines c.next_turn.new.lines (g.S.Source.left c.args.source.now) (g.S.Source.left l.source) (g.S.Source.left c.next_turn.new.source) c.next_turn.ensures.lines.ended turn.5 took) turn.6;
       replies = one_more_reply (g.K.Sink.written c.args.sink.now) (g.K.Sink.written l.sink) (g.K.Sink.written c.write_reply.new.sink) c.next_turn.new.session.parts.names c.in-Ok-Replied.reply l.invariant.replies made.named written;
       on_device = λ on. made.settled (l.invariant.on_device on);
+      exact = λ tidy. made.exact (l.invariant.exact tidy);
       told = c.next_turn.ensures.disk.told ∙ l.invariant.told;
       held = made.held;
       lines = advances_both c.new-lines.result l.lines c.next_turn.new.lines _ _ _ _ _ _ l.invariant.lines c.next_turn.ensures.lines;
@@ -122,6 +127,7 @@ returns-then-is_err g c =
             (λ es took. taken_uncut status.SinkFault es _ _ (λ e. cc) (λ e. cc) (entries_taken es c.new-lines.result c.next_turn.new.lines _ _ c.args.limit _ _ c.new-lines.ensures lines took));
         replies = part_gained (g.K.Sink.written c.args.sink.now) (g.K.Sink.written l.sink) (g.K.Sink.written c.write_reply.new.sink) c.next_turn.new.session.parts.names c.in-Ok-Replied.reply l.invariant.replies made.named part;
         told = c.next_turn.ensures.disk.told ∙ l.invariant.told;
+        exact = λ other tidy. made.exact (l.invariant.exact tidy);
         begun = tt;
         done = λ e. cc;
         source_fault = λ e. cc;
@@ -148,6 +154,7 @@ returns-in-Ok-End g c =
             (c.next_turn.ensures.disk.told ∙ l.invariant.told) (λ failed. cc) (λ done. turn.0) (λ due is. is) (λ es took. took);
         replies = replies_gained status.Done (g.K.Sink.written c.args.sink.now) (g.K.Sink.written l.sink) l.invariant.replies (λ due is. is);
         told = c.next_turn.ensures.disk.told ∙ l.invariant.told;
+        exact = λ other tidy. made.exact (l.invariant.exact tidy);
         begun = tt;
         done = λ e. done_within c.args.limit c.new-lines.result c.next_turn.new.lines _ _ _ _ lines c.new-lines.ensures (rw c.in-Ok-End.field-0-is at c.in-Ok-End.ensures.end);
         source_fault = λ e. cc;
@@ -174,6 +181,7 @@ returns-in-Err-Read g c =
             (c.next_turn.ensures.disk.told ∙ l.invariant.told) (λ failed. cc) (λ done. cc) (λ due is. is) (λ es took. took);
         replies = replies_gained status.SourceFault (g.K.Sink.written c.args.sink.now) (g.K.Sink.written l.sink) l.invariant.replies (λ due is. is);
         told = c.next_turn.ensures.disk.told ∙ l.invariant.told;
+        exact = λ other tidy. same_tidy (g.D.Disk.image l.disk) (g.D.Disk.image c.next_turn.new.disk) stop.same_image (l.invariant.exact tidy);
         begun = tt;
         done = λ e. cc;
         source_fault = λ e. omega (arith, l.invariant.lines.counted, stopped.read refl);
@@ -202,6 +210,7 @@ returns-in-Err-Limit g c =
             (c.next_turn.ensures.disk.told ∙ l.invariant.told) (λ failed. cc) (λ done. cc) (λ due is. is) (λ es took. took);
         replies = replies_gained status.ScriptLimit (g.K.Sink.written c.args.sink.now) (g.K.Sink.written l.sink) l.invariant.replies (λ due is. is);
         told = c.next_turn.ensures.disk.told ∙ l.invariant.told;
+        exact = λ other tidy. same_tidy (g.D.Disk.image l.disk) (g.D.Disk.image c.next_turn.new.disk) stop.same_image (l.invariant.exact tidy);
         begun = tt;
         done = λ e. cc;
         source_fault = λ e. cc;
@@ -226,6 +235,7 @@ returns-in-Err-Store g c =
             (before_others es (breaks.0 ∷ []) c.new-lines.result l.lines c.next_turn.new.lines (g.S.Source.left c.args.source.now) (g.S.Source.left l.source) (g.S.Source.left c.next_turn.new.source) c.args.limit _ _ c.new-lines.ensures lines c.next_turn.ensures.lines.ended breaks.4 took));
         replies = replies_gained status.DiskFault (g.K.Sink.written c.args.sink.now) (g.K.Sink.written l.sink) l.invariant.replies (λ due is. is);
         told = c.next_turn.ensures.disk.told ∙ l.invariant.told;
+        exact = λ other. absurd (other refl);
         begun = tt;
         done = λ e. cc;
         source_fault = λ e. cc;

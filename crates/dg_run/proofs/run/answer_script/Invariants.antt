@@ -2,6 +2,7 @@
 use Rattle.std.proofs.Common.{◌≡◌, ◌≤◌, [], is_some}
 use Rattle.std.specs.Option.{option_map}
 use Rattle.dg_disk.specs.Calls.{LeftByCrash, StaysOnDevice}
+use Rattle.dg_file.specs.TidyImages.{StaysTidy}
 use Rattle.dg_io.specs.Calls.{TakesFrom}
 use Rattle.dg_io.specs.LinesState.{to_come}
 use Rattle.dg_machine.specs.Script.{script}
@@ -19,6 +20,7 @@ invariant-loop-reply g l = record {
       (TakesEntries g.S.Source [] l.initial.lines l.fn.source l.lines l.source) (g.D.Disk.taken l.fn.disk) (g.D.Disk.taken l.disk) (LeftByCrash g.D.Disk l.fn.disk l.disk);
   replies : RepliesSoFar (g.K.Sink.written l.fn.sink) (g.K.Sink.written l.sink);
   on_device : StaysOnDevice g.D.Disk l.fn.disk l.disk;
+  exact : StaysTidy (g.D.Disk.image l.fn.disk) (g.D.Disk.image l.disk);
   told : is_some (g.D.Disk.image l.disk) ≡ is_some (g.D.Disk.image l.fn.disk);
   held : HoldsImage l.session.parts (g.D.Disk.image l.disk);
   lines : TakesFrom g.S.Source l.initial.lines l.fn.source l.lines l.source;

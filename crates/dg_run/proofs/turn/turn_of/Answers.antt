@@ -49,6 +49,7 @@ returns-in_ok-step-in-Command-clause-turn g c = λ start comes.
       store_read = λ e. (answers.store_read e).0;
       named = answers.named;
       settled = answers.settled;
+      exact = answers.exact;
     }
 
 pub returns-in_err-step-in-Command-clause-stops : goal.returns-in_err-step-in-Command-clause-stops
