@@ -10,3 +10,4 @@ pub mod DeltaKeys
 pub mod DeltaSegments
 pub mod DeltaComparisons
 pub mod VerificationOutcomes
+pub mod RecordReads

@@ -2,3 +2,4 @@ pub mod Stops
 pub mod EventTests
 pub mod Verification
 pub mod Deltas
+pub mod RecordBytes

@@ -1,11 +1,14 @@
 //! Comparing the tops and downs of an index with those that its events determine.
 
-ghost use Rattle.std.specs.Prelude.{◌≡◌, IfErr, IfSome, IsErrOf, None, OnOk, length};
+ghost use Rattle.std.specs.Prelude.{◌≡◌, IfErr, IfSome, IsErrOf, None, OnOk, filter, if◌then◌else◌, length};
 ghost use Rattle.dg_disk.specs.Calls.{Fails, ReadsDisk};
 ghost use Rattle.dg_file.specs.Images.{IsOpenedAs};
+ghost use Rattle.dg_fold.specs.BytesRead.{TakesAtMost};
 ghost use Rattle.dg_index.specs.FileOfHistory.{lent};
+ghost use Rattle.dg_index.specs.OpenedIndex.{entry_at, total};
 ghost use Rattle.dg_start.specs.EventSources.{WhereTold};
 ghost use Rattle.dg_verify.specs.Deltas.{first_unlike, has_kind, unlike_of};
+ghost use Rattle.dg_verify.specs.RecordBytes.{columns_bytes};
 ghost use Rattle.dg_verify.specs.Verification.{IsWrong, keyed_column};
 
 use crate::due_deltas::DueDeltas;
@@ -50,7 +53,8 @@ fn compare_delta<D: Disk>(
         (λ image. IsWrong stop (keyed_column key (unlike_of image index.old.opening kind key (lent due.entry))))) }
     ensures cause { IsErrOf result Stop.Disk → Fails D.Disk disk.old disk.new }
 
-    // what it leaves
+    // what it reads, and what it leaves
+    ensures takes { WhereTold (D.image disk.old) (λ image. TakesAtMost (if has_kind kind key then total (entry_at index.old.opening key).lengths else 0) (D.taken disk.old) (D.taken disk.new)) }
     ensures same { index.new ≡ index.old }
     ensures disk { ReadsDisk D.Disk disk.old disk.new }
 {
@@ -77,7 +81,8 @@ pub fn compare_deltas<D: Disk>(
         (λ image. IsWrong stop (first_unlike image index.old.opening kind due.now.keys.items due.now.segment.deltas))) }
     ensures cause { IsErrOf result Stop.Disk → Fails D.Disk disk.old disk.new }
 
-    // what it leaves
+    // what it reads, and what it leaves
+    ensures takes { WhereTold (D.image disk.old) (λ image. TakesAtMost (columns_bytes index.old.opening (filter (has_kind kind) due.now.keys.items)) (D.taken disk.old) (D.taken disk.new)) }
     ensures same { index.new ≡ index.old }
     ensures disk { ReadsDisk D.Disk disk.old disk.new }
 {

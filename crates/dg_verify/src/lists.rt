@@ -2,11 +2,14 @@
 
 ghost use Rattle.std.specs.Prelude.{◌≡◌, ◌+◌, ◌*◌, ◌<◌, [], IfErr, IfSome, IsErrOf, Ok, OnOk, length};
 ghost use Rattle.dg_disk.specs.Calls.{Fails, ReadsDisk};
+ghost use Rattle.dg_fold.specs.BytesRead.{TakesAtMost};
 ghost use Rattle.dg_history.specs.declared.node.Key.TheVariants as key;
-ghost use Rattle.dg_index.specs.OpenedIndex.{entry_at, opening};
+ghost use Rattle.dg_index.specs.IndexRecords.{lists_due};
+ghost use Rattle.dg_index.specs.OpenedIndex.{entry_at, event_total, opening, total};
 ghost use Rattle.dg_sound.specs.OwnEvents.{have_ends, list_total, listed_events, with_list};
 ghost use Rattle.dg_start.specs.EventSources.{WhereTold};
 ghost use Rattle.dg_verify.specs.EventTests.{IsRead, IsStopBehind, tested};
+ghost use Rattle.dg_verify.specs.RecordBytes.{columns_bytes};
 ghost use Rattle.dg_verify.specs.Verification.{opened_with};
 
 use crate::own_events::OwnEvents;
@@ -58,7 +61,8 @@ fn add_list<D: Disk>(
         (λ image. IsStopBehind names.now own.new stop (tested names.now own.old (with_list image (opened_with index.old.opening names.now) own.old.events.items number)))) }
     ensures cause { IsErrOf result Stop.Disk → Fails D.Disk disk.old disk.new }
 
-    // what it leaves
+    // what it reads, and what it leaves
+    ensures takes { WhereTold (D.image disk.old) (λ image. TakesAtMost (total (entry_at index.old.opening (key.List number)).lengths) (D.taken disk.old) (D.taken disk.new)) }
     ensures same { index.new ≡ index.old }
     ensures disk { ReadsDisk D.Disk disk.old disk.new }
 {
@@ -101,7 +105,8 @@ pub fn add_lists<D: Disk>(
         (λ image. IsStopBehind names.now own.new stop (listed_events image (opened_with index.old.opening names.now)))) }
     ensures cause { IsErrOf result Stop.Disk → Fails D.Disk disk.old disk.new }
 
-    // what it leaves
+    // what it reads, and what it leaves
+    ensures takes { WhereTold (D.image disk.old) (λ image. TakesAtMost (columns_bytes index.old.opening (lists_due index.old.opening.params 0 (event_total index.old.opening.batches))) (D.taken disk.old) (D.taken disk.new)) }
     ensures same { index.new ≡ index.old }
     ensures disk { ReadsDisk D.Disk disk.old disk.new }
 {

@@ -5,11 +5,14 @@ ghost use Rattle.std.specs.List.{All};
 ghost use Rattle.dg_columns.specs.NamesInRange.{NamesFit};
 ghost use Rattle.dg_disk.specs.Calls.{Fails, ReadsDisk};
 ghost use Rattle.dg_file.specs.Images.{IsOpenedAs};
+ghost use Rattle.dg_fold.specs.BytesRead.{TakesAtMost};
 ghost use Rattle.dg_graph.specs.declared.event.Event.{Event};
-ghost use Rattle.dg_index.specs.OpenedIndex.{event_total, opening};
+ghost use Rattle.dg_history.specs.declared.node.Key.TheVariants as key;
+ghost use Rattle.dg_index.specs.OpenedIndex.{entry_at, event_total, opening, total};
 ghost use Rattle.dg_sound.specs.OwnEvents.{has_batch_ends, is_recent, piece_length, piece_start, with_older, with_piece_events, with_pieces, with_recent};
 ghost use Rattle.dg_start.specs.EventSources.{WhereTold};
 ghost use Rattle.dg_verify.specs.EventTests.{IsRead, IsStopBehind, tested};
+ghost use Rattle.dg_verify.specs.RecordBytes.{columns_bytes, piece_keys};
 ghost use Rattle.dg_verify.specs.Verification.{AreSoFar, IsStop, opened_with};
 
 use crate::own_events::OwnEvents;
@@ -93,7 +96,8 @@ fn compare_older<D: Disk>(
         (λ image. IsStop stop (with_older image (opened_with index.old.opening []) events.now number before batch))) }
     ensures cause { IsErrOf result Stop.Disk → Fails D.Disk disk.old disk.new }
 
-    // what it leaves
+    // what it reads, and what it leaves
+    ensures takes { WhereTold (D.image disk.old) (λ image. TakesAtMost (total (entry_at index.old.opening (key.Piece number)).lengths) (D.taken disk.old) (D.taken disk.new)) }
     ensures same { index.new ≡ index.old }
     ensures disk { ReadsDisk D.Disk disk.old disk.new }
 {
@@ -139,7 +143,8 @@ fn add_recent<D: Disk>(
         (λ image. IsStopBehind names.now own.new stop (tested names.now own.old (with_recent image (opened_with index.old.opening names.now) own.old.events.items number before batch)))) }
     ensures cause { IsErrOf result Stop.Disk → Fails D.Disk disk.old disk.new }
 
-    // what it leaves
+    // what it reads, and what it leaves
+    ensures takes { WhereTold (D.image disk.old) (λ image. TakesAtMost (total (entry_at index.old.opening (key.Piece number)).lengths) (D.taken disk.old) (D.taken disk.new)) }
     ensures same { index.new ≡ index.old }
     ensures disk { ReadsDisk D.Disk disk.old disk.new }
 {
@@ -178,7 +183,8 @@ fn add_piece<D: Disk>(
         (λ image. IsStopBehind names.now own.new stop (tested names.now own.old (with_piece_events image (opened_with index.old.opening names.now) own.old.events.items number before batch)))) }
     ensures cause { IsErrOf result Stop.Disk → Fails D.Disk disk.old disk.new }
 
-    // what it leaves
+    // what it reads, and what it leaves
+    ensures takes { WhereTold (D.image disk.old) (λ image. TakesAtMost (total (entry_at index.old.opening (key.Piece number)).lengths) (D.taken disk.old) (D.taken disk.new)) }
     ensures same { index.new ≡ index.old }
     ensures disk { ReadsDisk D.Disk disk.old disk.new }
 {
@@ -218,7 +224,8 @@ pub fn add_pieces<D: Disk>(
         (λ image. IsStopBehind names.now own.new stop (tested names.now own.old (with_pieces image (opened_with index.old.opening names.now) own.old.events.items 0 0 index.old.opening.batches)))) }
     ensures cause { IsErrOf result Stop.Disk → Fails D.Disk disk.old disk.new }
 
-    // what it leaves
+    // what it reads, and what it leaves
+    ensures takes { WhereTold (D.image disk.old) (λ image. TakesAtMost (columns_bytes index.old.opening (piece_keys index.old.opening)) (D.taken disk.old) (D.taken disk.new)) }
     ensures same { index.new ≡ index.old }
     ensures disk { ReadsDisk D.Disk disk.old disk.new }
 {

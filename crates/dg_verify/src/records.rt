@@ -6,12 +6,14 @@ ghost use Rattle.std.specs.Map.{lookup};
 ghost use Rattle.dg_columns.specs.NamesInRange.{NamesFit};
 ghost use Rattle.dg_disk.specs.Calls.{Fails, ReadsDisk};
 ghost use Rattle.dg_file.specs.Images.{IsOpenedAs};
+ghost use Rattle.dg_fold.specs.BytesRead.{TakesAtMost};
 ghost use Rattle.dg_graph.specs.declared.event.Event.{Event};
 ghost use Rattle.dg_history.specs.Keys.{same_key};
 ghost use Rattle.dg_index.specs.FileOfHistory.{lent};
-ghost use Rattle.dg_index.specs.OpenedIndex.{column_at, entry_at, opening};
+ghost use Rattle.dg_index.specs.OpenedIndex.{column_at, entry_at, opening, total};
 ghost use Rattle.dg_sound.specs.OwnEvents.{events_of_record};
 ghost use Rattle.dg_start.specs.EventSources.{WhereTold};
+ghost use Rattle.dg_verify.specs.RecordBytes.{graph_total, length_at};
 ghost use Rattle.dg_verify.specs.Verification.{IsStop, IsWrong, keyed, keyed_column, opened_with, unlike, unlike_events};
 
 use crate::stop::Stop;
@@ -47,7 +49,8 @@ pub fn read_events<D: Disk>(
         (λ image. IsStop stop (keyed key (events_of_record image (opened_with index.old.opening names.now) key count)))) }
     ensures cause { IsErrOf result Stop.Disk → Fails D.Disk disk.old disk.new }
 
-    // what it leaves
+    // what it reads, and what it leaves
+    ensures takes { WhereTold (D.image disk.old) (λ image. TakesAtMost (total (entry_at index.old.opening key).lengths) (D.taken disk.old) (D.taken disk.new)) }
     ensures same { index.new ≡ index.old }
     ensures disk { ReadsDisk D.Disk disk.old disk.new }
 {
@@ -70,7 +73,8 @@ fn is_column<D: Disk>(
         (λ image. is ≡ bytes_eq (column_at image (entry_at index.old.opening key) col) due.now)) }
     ensures cause { IsErrOf result FetchFault.Disk → Fails D.Disk disk.old disk.new }
 
-    // what it leaves
+    // what it reads, and what it leaves
+    ensures takes { WhereTold (D.image disk.old) (λ image. TakesAtMost (length_at (entry_at index.old.opening key).lengths col) (D.taken disk.old) (D.taken disk.new)) }
     ensures same { index.new ≡ index.old }
     ensures disk { ReadsDisk D.Disk disk.old disk.new }
 {
@@ -96,7 +100,8 @@ pub fn compare_columns<D: Disk>(
         (λ image. IsWrong stop (keyed_column key (unlike image index.old.opening key (lent due.entry))))) }
     ensures cause { IsErrOf result Stop.Disk → Fails D.Disk disk.old disk.new }
 
-    // what it leaves
+    // what it reads, and what it leaves
+    ensures takes { WhereTold (D.image disk.old) (λ image. TakesAtMost (graph_total (entry_at index.old.opening key).lengths) (D.taken disk.old) (D.taken disk.new)) }
     ensures same { index.new ≡ index.old }
     ensures disk { ReadsDisk D.Disk disk.old disk.new }
 {
@@ -130,7 +135,8 @@ pub fn compare_event_columns<D: Disk>(
         (λ image. IsWrong stop (keyed_column key (unlike_events image index.old.opening key (lent due.entry))))) }
     ensures cause { IsErrOf result Stop.Disk → Fails D.Disk disk.old disk.new }
 
-    // what it leaves
+    // what it reads, and what it leaves
+    ensures takes { WhereTold (D.image disk.old) (λ image. TakesAtMost (total (entry_at index.old.opening key).lengths) (D.taken disk.old) (D.taken disk.new)) }
     ensures same { index.new ≡ index.old }
     ensures disk { ReadsDisk D.Disk disk.old disk.new }
 {

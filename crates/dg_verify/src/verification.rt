@@ -1,10 +1,11 @@
 //! Verifying an index file.
 
-ghost use Rattle.std.specs.Prelude.{◌≡◌, ◌≤◌, [], IfErr, IfOk, IfSome, IsErrOf, List, None, Ok, OnOk, Result, length, map, true};
+ghost use Rattle.std.specs.Prelude.{◌≡◌, ◌≤◌, ◌++◌, [], IfErr, IfOk, IfSome, IsErrOf, List, None, Ok, OnOk, Result, length, map, true};
 ghost use Rattle.std.specs.List.{All};
 ghost use Rattle.dg_columns.specs.NamesInRange.{NamesFit};
 ghost use Rattle.dg_disk.specs.Calls.{Fails, ReadsDisk};
 ghost use Rattle.dg_build.specs.declared.fault.BuildFault.TheVariants.{Memory};
+ghost use Rattle.dg_fold.specs.BytesRead.{TakesAtMost};
 ghost use Rattle.dg_graph.specs.declared.element.Column.{Column};
 ghost use Rattle.dg_graph.specs.declared.event.Event.{Event};
 ghost use Rattle.dg_history.specs.declared.node.Key.{Key};
@@ -12,7 +13,7 @@ ghost use Rattle.dg_history.specs.declared.limits.TheConstants.{EVENTS_MAX};
 ghost use Rattle.dg_history.specs.History.{are_parameters};
 ghost use Rattle.dg_index.specs.FileOfHistory.{stored};
 ghost use Rattle.dg_index.specs.Hierarchy.{leaves};
-ghost use Rattle.dg_index.specs.IndexRecords.{deltas_due, record_among};
+ghost use Rattle.dg_index.specs.IndexRecords.{deltas_due, lists_due, record_among};
 ghost use Rattle.dg_index.specs.OpenedIndex.{event_total, opening};
 ghost use Rattle.dg_sound.specs.OwnEvents.{own_events};
 ghost use Rattle.dg_sound.specs.Soundness.{soundness_of};
@@ -20,6 +21,7 @@ ghost use Rattle.dg_sound.specs.declared.soundness.Soundness.TheVariants.{Sound}
 ghost use Rattle.dg_start.specs.EventSources.{WhereTold};
 ghost use Rattle.dg_verify.specs.Deltas.{AreMadeOf};
 ghost use Rattle.dg_verify.specs.EventTests.{IsRead, IsStopBehind, IsUnfit, first_unfit, tested};
+ghost use Rattle.dg_verify.specs.RecordBytes.{columns_bytes, piece_keys, records_bytes};
 ghost use Rattle.dg_verify.specs.Verification.{IsStop, IsUnsound, opened_with};
 
 use crate::deltas::{DeltaKind, compare_deltas};
@@ -64,7 +66,8 @@ fn read_all<D: Disk>(
         (λ image. IsStopBehind names.now own.new stop (own_events image (opened_with index.old.opening names.now)))) }
     ensures cause { IsErrOf result Stop.Disk → Fails D.Disk disk.old disk.new }
 
-    // what it leaves
+    // what it reads, and what it leaves
+    ensures takes { WhereTold (D.image disk.old) (λ image. TakesAtMost (columns_bytes index.old.opening (lists_due index.old.opening.params 0 (event_total index.old.opening.batches) ++ piece_keys index.old.opening)) (D.taken disk.old) (D.taken disk.new)) }
     ensures same { index.new ≡ index.old }
     ensures disk { ReadsDisk D.Disk disk.old disk.new }
 {
@@ -153,7 +156,8 @@ fn compare_all<R: Threads, D: Disk>(
         (λ image. IsUnsound stop (soundness_of image (opened_with index.old.opening names.now)))) }
     ensures cause { IsErrOf result Stop.Disk → Fails D.Disk disk.old disk.new }
 
-    // what it leaves
+    // what it reads, and what it leaves
+    ensures takes { WhereTold (D.image disk.old) (λ image. TakesAtMost (records_bytes index.old.opening) (D.taken disk.old) (D.taken disk.new)) }
     ensures same { index.new ≡ index.old }
     ensures disk { ReadsDisk D.Disk disk.old disk.new }
 {
@@ -178,7 +182,7 @@ fn compare_all<R: Threads, D: Disk>(
 /// anew of the events. Wherever the keys are cut, the least key that is not right is named. At last each top and each
 /// down is compared.
 ///
-/// That costs what making the file costs, and each record is read once. All events and the columns of all records are
+/// That costs what making the file costs, and each record is read once at most. All events and the columns of all records are
 /// in memory at once.
 ///
 /// `VerifyFault::Disk` where the disk failed, `VerifyFault::Memory` for want of memory.
@@ -193,7 +197,8 @@ pub fn verify<R: Threads, D: Disk>(
     ensures sound { IfOk result (λ s. IfSome (D.image disk.old) (λ image. s ≡ soundness_of image (record { index = index.old.opening; names = names.now }))) }
     ensures cause { IsErrOf result VerifyFault.Disk → Fails D.Disk disk.old disk.new }
 
-    // what it leaves
+    // what it reads, and what it leaves
+    ensures takes { IfSome (D.image disk.old) (λ image. TakesAtMost (records_bytes index.old.opening) (D.taken disk.old) (D.taken disk.new)) }
     ensures same { index.new ≡ index.old }
     ensures disk { ReadsDisk D.Disk disk.old disk.new }
 {

@@ -1,17 +1,19 @@
-use Rattle.std.proofs.Common.{◌≡◌, ℕ, ◌<◌, List, None, length, slice_index_or, sym, ◌∙◌, ap, subst, arith}
+use Rattle.std.proofs.Common.{◌≡◌, ℕ, ◌+◌, ◌<◌, cond, List, None, length, slice_index_or, sym, ◌∙◌, ap, subst, arith}
 use Rattle.std.proofs.lemmas.List.{length-map}
 use Rattle.dg_disk.proofs.FrameLemmas.{reads_then}
 use Rattle.dg_file.specs.Index.{IndexState}
+use Rattle.dg_fold.specs.BytesRead.{TakesAtMost}
 use Rattle.dg_history.specs.declared.node.Key.{Key}
 use Rattle.dg_index.specs.declared.entry.Row.{Row}
 use Rattle.dg_index.specs.FileOfHistory.{Stored}
-use Rattle.dg_index.specs.OpenedIndex.{Opening, record_row}
+use Rattle.dg_index.specs.OpenedIndex.{Opening, entry_at, record_row, total}
 use Rattle.dg_start.specs.EventSources.{WhereTold}
 use Rattle.dg_start.proofs.EventSourceOutcomes.{err_is, said_before}
 use Rattle.dg_verify.specs.declared.stop.Stop.{Stop}
-use Rattle.dg_verify.specs.Deltas.{first_unlike, unlike_of}
+use Rattle.dg_verify.specs.Deltas.{first_unlike, has_kind, unlike_of}
 use Rattle.dg_verify.specs.Verification.{IsWrong, keyed_column}
 use Rattle.dg_verify.proofs.DeltaComparisons.{IsAt, behind_record, delta_stops, edges_are, edges_within, next_key, next_row, nodes_are, nodes_within, one_compared, structure_is, structure_within}
+use Rattle.dg_verify.proofs.RecordReads.{all_compared, next_compared}
 use Rattle.dg_verify.proofs.deltas.compare_deltas.Goals as goal
 
 abbrev no_row : Row
@@ -90,4 +92,32 @@ loop-number-preserved g c =
           ∙ said_before (g.D.Disk.image c.loop-number.disk) told c.loop-number.index.opening o
           (λ image p. unlike_of image p c.args.kind k (record at.stored { structure = c.split_at.result.0.now; node_attrs = c.split_at-in-loop-number.result.0.now; edge_attrs = c.split_at-in-loop-number-2.result.0.now }) ≡ None)
           c.loop-number.invariant.frame.same_image (ap (λ (x : IndexState). x.opening) c.loop-number.invariant.same) c.in_ok-compare_delta.ensures.alike image h);
+      takes = λ image h.
+          let x = g.D.Disk.taken c.args.disk.now in
+          let y = g.D.Disk.taken c.loop-number.disk in
+          let z = g.D.Disk.taken c.compare_delta.new.disk in
+          next_compared o c.args.kind keys i k x y z lt c.index-key.ensures (c.loop-number.invariant.takes image h)
+          (said_before (g.D.Disk.image c.loop-number.disk) told c.loop-number.index.opening o (λ image p. TakesAtMost (cond (has_kind c.args.kind k) (total (entry_at p k).lengths) 0) y z)
+          c.loop-number.invariant.frame.same_image (ap (λ (x : IndexState). x.opening) c.loop-number.invariant.same) c.compare_delta.ensures.takes image h);
     }
+
+pub returns-in_err-compare_delta-clause-takes : goal.returns-in_err-compare_delta-clause-takes
+returns-in_err-compare_delta-clause-takes g c image h =
+    let o : Opening = c.args.index.now.opening in
+    let told = g.D.Disk.image c.args.disk.now in
+    let due : List Stored = c.args.due.now.segment.deltas in
+    let keys : List Key = c.args.due.now.keys.items in
+    let i : ℕ = c.loop-number.number in
+    let k : Key = c.index-key.result.now in
+    let lt : i < length keys = omega (arith, c.loop-number-test.true, ap length c.delta_rows-rows.ensures, length-map due record_row, c.requires.many) in
+    let x = g.D.Disk.taken c.args.disk.now in
+    let y = g.D.Disk.taken c.loop-number.disk in
+    let z = g.D.Disk.taken c.compare_delta.new.disk in
+    all_compared o c.args.kind keys (i + 1) x z
+    (next_compared o c.args.kind keys i k x y z lt c.index-key.ensures (c.loop-number.invariant.takes image h)
+    (said_before (g.D.Disk.image c.loop-number.disk) told c.loop-number.index.opening o (λ image p. TakesAtMost (cond (has_kind c.args.kind k) (total (entry_at p k).lengths) 0) y z)
+    c.loop-number.invariant.frame.same_image (ap (λ (x : IndexState). x.opening) c.loop-number.invariant.same) c.compare_delta.ensures.takes image h))
+
+pub returns-clause-takes : goal.returns-clause-takes
+returns-clause-takes g c image h =
+    all_compared c.args.index.now.opening c.args.kind c.args.due.now.keys.items c.loop-number.number (g.D.Disk.taken c.args.disk.now) (g.D.Disk.taken c.loop-number.disk) (c.loop-number.invariant.takes image h)

@@ -1,8 +1,10 @@
-use Rattle.std.proofs.Common.{◌≡◌, ◌+◌, ◌-◌, ◌<◌, ◌≤◌, Some, Ok, length, slice_get, sym, ◌∙◌, ap, subst, arith}
+use Rattle.std.proofs.Common.{◌≡◌, ℕ, ◌+◌, ◌-◌, ◌<◌, ◌≤◌, Some, Ok, length, slice_get, sym, ◌∙◌, ap, subst, arith}
 use Rattle.dg_history.proofs.ParameterRanges.{in_range}
 use Rattle.dg_disk.proofs.FrameLemmas.{reads_then}
 use Rattle.dg_file.specs.Index.{IndexState}
-use Rattle.dg_index.specs.OpenedIndex.{Opening, event_total}
+use Rattle.dg_fold.specs.BytesRead.{TakesAtMost}
+use Rattle.dg_history.specs.declared.node.Key.TheVariants as key
+use Rattle.dg_index.specs.OpenedIndex.{Opening, entry_at, event_total, total}
 use Rattle.dg_sound.specs.OwnEvents.{with_piece_events, with_pieces}
 use Rattle.dg_start.specs.EventSources.{WhereTold}
 use Rattle.dg_start.proofs.EventSourceSources.{batch_there, batch_within, none_left}
@@ -12,6 +14,7 @@ use Rattle.dg_verify.specs.EventTests.{IsStopBehind, tested}
 use Rattle.dg_verify.specs.Verification.{AreSoFar, opened_with}
 use Rattle.dg_verify.proofs.OpenedIndexParameters.{all_count}
 use Rattle.dg_verify.proofs.EventTestPieces.{all_counted, all_pieced, one_pieced, piece_stops}
+use Rattle.dg_verify.proofs.RecordReads.{all_read, next_read}
 use Rattle.dg_verify.proofs.pieces.add_pieces.Goals as goal
 
 pub add_piece-requires-clause-few : goal.add_piece-requires-clause-few
@@ -75,6 +78,15 @@ loop-batch-preserved g c =
           (with_piece_events image (opened_with p c.args.names.now) c.loop-batch.own.events.items c.loop-batch.number c.loop-batch.before c.in-Some.batch)
           ≡ tested c.args.names.now c.add_piece.new.own (Ok c.add_piece.new.own.events.items))
           c.loop-batch.invariant.frame.same_image same c.in_ok-add_piece.ensures.pieced);
+      takes = λ image h.
+          let i : ℕ = c.loop-batch.number in
+          let a = g.D.Disk.taken c.args.disk.now in
+          let b = g.D.Disk.taken c.loop-batch.disk in
+          let d = g.D.Disk.taken c.add_piece.new.disk in
+          next_read o (λ i. key.Piece i) i a b d (c.loop-batch.invariant.takes image h)
+          (said_before (g.D.Disk.image c.loop-batch.disk) told c.loop-batch.index.opening o (λ image p. TakesAtMost (total (entry_at p (key.Piece i)).lengths) b d)
+          c.loop-batch.invariant.frame.same_image same c.add_piece.ensures.takes image h);
+      numbered = (let lt = batch_there o.batches c.loop-batch.number c.in-Some.batch there in omega (arith, lt));
     }
 
 pub returns-clause-pieced : goal.returns-clause-pieced
@@ -93,3 +105,24 @@ returns-clause-many g c =
     (all_counted (g.D.Disk.image c.args.disk.now) (opened_with o c.args.names.now) c.args.own.now c.loop-batch.number c.loop-batch.before c.loop-batch.own
     (none_left o.batches c.loop-batch.number (ap (λ (p : Opening). slice_get p.batches c.loop-batch.number) (sym same) ∙ sym c.batch.ensures ∙ c.in_default.is)) c.loop-batch.invariant.so_far)
     c.loop-batch.invariant.many
+
+pub returns-in_err-add_piece-clause-takes : goal.returns-in_err-add_piece-clause-takes
+returns-in_err-add_piece-clause-takes g c image h =
+    let o : Opening = c.args.index.now.opening in
+    let told = g.D.Disk.image c.args.disk.now in
+    let i : ℕ = c.loop-batch.number in
+    let a = g.D.Disk.taken c.args.disk.now in
+    let b = g.D.Disk.taken c.loop-batch.disk in
+    let d = g.D.Disk.taken c.add_piece.new.disk in
+    let same : c.loop-batch.index.opening ≡ o = ap (λ (i : IndexState). i.opening) c.loop-batch.invariant.same in
+    let there : slice_get o.batches i ≡ Some c.in-Some.batch = ap (λ (p : Opening). slice_get p.batches c.loop-batch.number) (sym same) ∙ sym c.batch.ensures ∙ c.in-Some.is in
+    let lt = batch_there o.batches i c.in-Some.batch there in
+    all_read o (λ i. key.Piece i) (i + 1) (length o.batches) a d (omega (arith, lt))
+    (next_read o (λ i. key.Piece i) i a b d (c.loop-batch.invariant.takes image h)
+    (said_before (g.D.Disk.image c.loop-batch.disk) told c.loop-batch.index.opening o (λ image p. TakesAtMost (total (entry_at p (key.Piece i)).lengths) b d)
+    c.loop-batch.invariant.frame.same_image same c.add_piece.ensures.takes image h))
+
+pub returns-clause-takes : goal.returns-clause-takes
+returns-clause-takes g c image h =
+    let o : Opening = c.args.index.now.opening in
+    all_read o (λ i. key.Piece i) c.loop-batch.number (length o.batches) (g.D.Disk.taken c.args.disk.now) (g.D.Disk.taken c.loop-batch.disk) c.loop-batch.invariant.numbered (c.loop-batch.invariant.takes image h)

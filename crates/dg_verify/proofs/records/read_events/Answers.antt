@@ -4,6 +4,7 @@ use Rattle.dg_start.proofs.EventSourceOutcomes.{err_is}
 use Rattle.dg_verify.specs.declared.stop.Stop.{Stop}
 use Rattle.dg_verify.specs.Stops.{stop_of_record}
 use Rattle.dg_verify.specs.Verification.{IsStop, keyed, opened_with}
+use Rattle.dg_verify.proofs.RecordReads.{record_read}
 use Rattle.dg_verify.proofs.VerificationRecords.{events_are, events_refused}
 use Rattle.dg_verify.proofs.records.read_events.Goals as goal
 
@@ -26,3 +27,11 @@ returns-clause-fit g c = c.in_ok-read_record.ensures.done.fit
 
 pub returns-clause-many : goal.returns-clause-many
 returns-clause-many g c = c.in_ok-read_record.ensures.done.many
+
+pub returns-in_err-read_record-clause-takes : goal.returns-in_err-read_record-clause-takes
+returns-in_err-read_record-clause-takes g c image h =
+    record_read c.read_record.result image c.args.index.now.opening c.args.key (g.D.Disk.taken c.args.disk.now) (g.D.Disk.taken c.read_record.new.disk) (c.read_record.ensures.takes image h)
+
+pub returns-clause-takes : goal.returns-clause-takes
+returns-clause-takes g c image h =
+    record_read c.read_record.result image c.args.index.now.opening c.args.key (g.D.Disk.taken c.args.disk.now) (g.D.Disk.taken c.read_record.new.disk) (c.read_record.ensures.takes image h)

@@ -1,4 +1,4 @@
-use Rattle.std.proofs.Common.{◌≡◌, ℕ, ◌+◌, List, [], Some, Ok, None, length, map, ◌∙◌, ap, arith}
+use Rattle.std.proofs.Common.{◌≡◌, ℕ, ◌+◌, List, [], Some, Ok, None, filter, length, map, ◌∙◌, ap, arith}
 use Rattle.dg_file.specs.Index.{IndexState}
 use Rattle.dg_graph.specs.declared.event.Event.{Event}
 use Rattle.dg_history.specs.declared.node.Key.{Key}
@@ -14,9 +14,11 @@ use Rattle.dg_start.proofs.EventSourceOutcomes.{err_is, said_before}
 use Rattle.dg_verify.specs.declared.deltas.DeltaKind.TheVariants as delta
 use Rattle.dg_verify.specs.declared.own_events.OwnEvents.{OwnEvents}
 use Rattle.dg_verify.specs.declared.stop.Stop.{Stop}
-use Rattle.dg_verify.specs.Deltas.{first_unlike}
+use Rattle.dg_verify.specs.Deltas.{first_unlike, has_kind}
+use Rattle.dg_verify.specs.RecordBytes.{columns_bytes, records_bytes}
 use Rattle.dg_verify.specs.Verification.{IsUnsound, IsWrong, opened_with}
 use Rattle.dg_verify.proofs.EventTestRecords.{all_tested}
+use Rattle.dg_verify.proofs.RecordReads.{downs_within, events_bytes, told_part, told_then, tops_within}
 use Rattle.dg_verify.proofs.VerificationOutcomes.{all_sound, downs_unsound, tops_unsound}
 use Rattle.dg_verify.proofs.verification.compare_all.Goals as goal
 
@@ -111,3 +113,74 @@ returns-clause-sound g c =
     ∙ (λ j. leaves ((c.params-2.ensures ∙ ap (λ (p : Opening). p.params) last_same) j) ((c.events_len.ensures.events ∙ ap (λ (p : Opening). event_total p.batches) last_same) j)) in
     λ image h. all_sound image x events (read image h) range.arity_some keys due many keys_are due_are (no_top image h)
     (c.from-lists.result + c.len.result) (no_down image h) (omega (arith, lists, c.len.ensures, c.in_ok-due.due.keys.ok))
+
+pub returns-in_err-compare_deltas-clause-takes : goal.returns-in_err-compare_deltas-clause-takes
+returns-in_err-compare_deltas-clause-takes g c =
+    let o : Opening = c.args.index.now.opening in
+    let told = g.D.Disk.image c.args.disk.now in
+    let range = in_range o.params.l o.params.k c.facts.ensures.parameters in
+    let events : List Event = c.read_all.new.own.events.items in
+    let keys : List Key = c.in_ok-due.due.keys.items in
+    let same : c.read_all.new.index.opening ≡ o = ap (λ (i : IndexState). i.opening) c.read_all.ensures.same in
+    let image_same = c.read_all.ensures.disk.same_image in
+    let p_is : c.params.result ≡ o.params = c.params.ensures ∙ ap (λ (p : Opening). p.params) same in
+    let many : length events ≡ event_total o.batches = c.in_default.ensures.many in
+    let keys_are : keys ≡ deltas_due o.params.k 0 (leaves o.params (event_total o.batches)) =
+    c.in_ok-due.ensures.keys ∙ (λ j. deltas_due (p_is j).k 0 (leaves (p_is j) (many j))) in
+    let start = g.D.Disk.taken c.args.disk.now in
+    let read = g.D.Disk.taken c.read_all.new.disk in
+    let topped = g.D.Disk.taken c.compare_deltas.new.disk in
+    let tops = columns_bytes o (filter (has_kind delta.Top) keys) in
+    let with_tops = told_then told (g.D.Disk.image c.read_all.new.disk) c.read_all.new.index.opening o (λ p. columns_bytes p (filter (has_kind delta.Top) keys)) (events_bytes o) start read topped
+    image_same same c.read_all.ensures.takes c.compare_deltas.ensures.takes in
+    told_part told (events_bytes o + tops) (records_bytes o) start topped (tops_within o range.arity_some keys keys_are) with_tops
+
+pub returns-in_err-compare_deltas-2-clause-takes : goal.returns-in_err-compare_deltas-2-clause-takes
+returns-in_err-compare_deltas-2-clause-takes g c =
+    let o : Opening = c.args.index.now.opening in
+    let told = g.D.Disk.image c.args.disk.now in
+    let range = in_range o.params.l o.params.k c.facts.ensures.parameters in
+    let events : List Event = c.read_all.new.own.events.items in
+    let keys : List Key = c.in_ok-due.due.keys.items in
+    let same : c.read_all.new.index.opening ≡ o = ap (λ (i : IndexState). i.opening) c.read_all.ensures.same in
+    let image_same = c.read_all.ensures.disk.same_image in
+    let p_is : c.params.result ≡ o.params = c.params.ensures ∙ ap (λ (p : Opening). p.params) same in
+    let many : length events ≡ event_total o.batches = c.in_default.ensures.many in
+    let keys_are : keys ≡ deltas_due o.params.k 0 (leaves o.params (event_total o.batches)) =
+    c.in_ok-due.ensures.keys ∙ (λ j. deltas_due (p_is j).k 0 (leaves (p_is j) (many j))) in
+    let start = g.D.Disk.taken c.args.disk.now in
+    let read = g.D.Disk.taken c.read_all.new.disk in
+    let topped = g.D.Disk.taken c.compare_deltas.new.disk in
+    let tops = columns_bytes o (filter (has_kind delta.Top) keys) in
+    let with_tops = told_then told (g.D.Disk.image c.read_all.new.disk) c.read_all.new.index.opening o (λ p. columns_bytes p (filter (has_kind delta.Top) keys)) (events_bytes o) start read topped
+    image_same same c.read_all.ensures.takes c.compare_deltas.ensures.takes in
+    let then_same : c.compare_deltas.new.index.opening ≡ o = ap (λ (i : IndexState). i.opening) c.compare_deltas.ensures.same ∙ same in
+    let downed = g.D.Disk.taken c.compare_deltas-2.new.disk in
+    told_part told (events_bytes o + tops + columns_bytes o (filter (has_kind delta.Down) keys)) (records_bytes o) start downed (downs_within o range.arity_some keys keys_are)
+    (told_then told (g.D.Disk.image c.compare_deltas.new.disk) c.compare_deltas.new.index.opening o (λ p. columns_bytes p (filter (has_kind delta.Down) keys)) (events_bytes o + tops) start topped downed
+    (c.compare_deltas.ensures.disk.same_image ∙ image_same) then_same with_tops c.compare_deltas-2.ensures.takes)
+
+pub returns-clause-takes : goal.returns-clause-takes
+returns-clause-takes g c =
+    let o : Opening = c.args.index.now.opening in
+    let told = g.D.Disk.image c.args.disk.now in
+    let range = in_range o.params.l o.params.k c.facts.ensures.parameters in
+    let events : List Event = c.read_all.new.own.events.items in
+    let keys : List Key = c.in_ok-due.due.keys.items in
+    let same : c.read_all.new.index.opening ≡ o = ap (λ (i : IndexState). i.opening) c.read_all.ensures.same in
+    let image_same = c.read_all.ensures.disk.same_image in
+    let p_is : c.params.result ≡ o.params = c.params.ensures ∙ ap (λ (p : Opening). p.params) same in
+    let many : length events ≡ event_total o.batches = c.in_default.ensures.many in
+    let keys_are : keys ≡ deltas_due o.params.k 0 (leaves o.params (event_total o.batches)) =
+    c.in_ok-due.ensures.keys ∙ (λ j. deltas_due (p_is j).k 0 (leaves (p_is j) (many j))) in
+    let start = g.D.Disk.taken c.args.disk.now in
+    let read = g.D.Disk.taken c.read_all.new.disk in
+    let topped = g.D.Disk.taken c.compare_deltas.new.disk in
+    let tops = columns_bytes o (filter (has_kind delta.Top) keys) in
+    let with_tops = told_then told (g.D.Disk.image c.read_all.new.disk) c.read_all.new.index.opening o (λ p. columns_bytes p (filter (has_kind delta.Top) keys)) (events_bytes o) start read topped
+    image_same same c.read_all.ensures.takes c.compare_deltas.ensures.takes in
+    let then_same : c.compare_deltas.new.index.opening ≡ o = ap (λ (i : IndexState). i.opening) c.compare_deltas.ensures.same ∙ same in
+    let downed = g.D.Disk.taken c.compare_deltas-2.new.disk in
+    told_part told (events_bytes o + tops + columns_bytes o (filter (has_kind delta.Down) keys)) (records_bytes o) start downed (downs_within o range.arity_some keys keys_are)
+    (told_then told (g.D.Disk.image c.compare_deltas.new.disk) c.compare_deltas.new.index.opening o (λ p. columns_bytes p (filter (has_kind delta.Down) keys)) (events_bytes o + tops) start topped downed
+    (c.compare_deltas.ensures.disk.same_image ∙ image_same) then_same with_tops c.compare_deltas-2.ensures.takes)
