@@ -3,11 +3,10 @@ use Rattle.std.proofs.Common.{◌≡◌, ℕ, true, false, List, [], ◌∷◌, 
 use Rattle.std.specs.Prelude.{IfSome}
 use Rattle.std.specs.List.{sum}
 use Rattle.std.proofs.lemmas.Bool.{false≢true}
-use Rattle.std.proofs.lemmas.List.{length-map}
 use Rattle.dg_append.specs.AddedBatches.{AddsBatch, FailsBatch, IsOverHistory, MeetsDamage, MeetsNoDamage, ReadsNothing, TakesBatch}
 use Rattle.dg_append.specs.Fronts.{ComeTo, IsFront, lines}
-use Rattle.dg_append.proofs.BatchSegmentHistory.{batch_damage}
-use Rattle.dg_append.specs.OlderGroups.{IsBatchDamage, older_children}
+use Rattle.dg_append.specs.OlderChildSteps.{IsNamedDamage}
+use Rattle.dg_append.specs.OlderGroups.{older_children}
 use Rattle.dg_append.specs.declared.batch.AddedBatch.{AddedBatch}
 use Rattle.dg_append.specs.declared.fault.BatchFault.{BatchFault}
 use Rattle.dg_append.specs.declared.fault.BatchFault.TheVariants as fault
@@ -15,6 +14,7 @@ use Rattle.dg_append.specs.declared.front.Front.{Front}
 use Rattle.dg_append.specs.declared.front.Front.TheVariants.{Whole, Form, Unkept}
 use Rattle.dg_fold.specs.BytesRead.{TakesAtMost}
 use Rattle.dg_graph.specs.declared.element.Column.{Column}
+use Rattle.dg_graph.specs.CompletedChanges.{completed}
 use Rattle.dg_graph.specs.declared.element.Element.{Element}
 use Rattle.dg_graph.specs.declared.event.Change.{Change}
 use Rattle.dg_graph.specs.declared.event.Event.{Event}
@@ -38,7 +38,6 @@ use Rattle.dg_plan.specs.Walks.{AreSingles}
 use Rattle.dg_retrieval.specs.KeptGraph.{record_edges}
 use Rattle.dg_session.proofs.BatchCommandForms.{Lines_of, Origin, Seed, adding, head_over, reads_records}
 use Rattle.dg_session.proofs.BatchCommandStep.{IsAsked, many_changes, of_here, opening_there, over, refused_first}
-use Rattle.dg_graph.proofs.Completions.{all_come, as_many}
 use Rattle.dg_session.proofs.DamageStep.{tells_no_damage}
 use Rattle.dg_session.proofs.PlanStep.{older_are, records_edges_are}
 use Rattle.dg_session.proofs.SessionRetrievals.{every_some, if_some}
@@ -207,20 +206,21 @@ module _ (from : Origin) (got : List ScriptLine) (p : Parts) (count limit : ℕ)
 
   -- ---- damage
 
-  -- the lines come to as many events as there are lines
-  many_events : (events : List Event) → b.front ≡ Whole → ComeTo o c.now.graph b (Ok events) → length events ≡ count
-  many_events events whole come =
-      let are : IsFront b.front b.changes.items (lines b.changes.items) = subst (λ (x : Front). IsFront x b.changes.items (lines b.changes.items)) (sym whole) refl in
-      as_many (earliest_in 0 o.batches) c.now.graph (lines b.changes.items) events (all_come 1 (earliest_in 0 o.batches) c.now.graph (lines b.changes.items) events (come (lines b.changes.items) are))
-      ∙ length-map b.changes.items (λ (x : Change). Some x) ∙ many_changes from got p count limit l b a whole
+  -- the changes come to these events
+  comes_to : (events : List Event) → b.front ≡ Whole → ComeTo o c.now.graph b (Ok events) → completed 1 (earliest_in 0 o.batches) c.now.graph (lines b.changes.items) ≡ Ok events
+  comes_to events whole come = come (lines b.changes.items) (subst (λ (x : Front). IsFront x b.changes.items (lines b.changes.items)) (sym whole) refl)
 
   meets : (told : Option (List ℕ)) (key : Key) (col : Column) → MeetsDamage o b c told key col → NamesBatchDamage p told count key col
   meets told key col d = (
     o,
     there,
-    subst (λ (n : ℕ). IfSome told (λ image. IsBatchDamage n o image count key col)) a.known_is
-        (subst (λ (n : ℕ). IfSome told (λ image. IsBatchDamage b.known o image n key col)) (many_events d.events d.whole d.come)
-        (batch_damage told b.known o c.recent.items d.events c.now.graph key col d.damage)),
+    b.changes.items,
+    many_changes from got p count limit l b a d.whole,
+    d.events,
+    ap (λ (set : List Element). completed 1 (earliest_in 0 o.batches) set (lines b.changes.items)) (sym a.graph) ∙ comes_to d.events d.whole d.come,
+    subst (λ (n : ℕ). IfSome told (λ image. IsNamedDamage n image o p.recent d.events p.graph key col)) a.known_is
+        (subst (λ (recent : List Event). IfSome told (λ image. IsNamedDamage b.known image o recent d.events p.graph key col)) a.recent
+        (subst (λ (graph : List Element). IfSome told (λ image. IsNamedDamage b.known image o c.recent.items d.events graph key col)) a.graph d.damage)),
   )
 
   pub failed_damage : (told after : Option (List ℕ)) (f : BatchFault) → IfSome (index_opening c.index) (λ o. FailsBatch o limit b c told after f) → DamageIn (adding from count) p told (Err (batch_halt f))

@@ -662,6 +662,7 @@ module _ (from : Origin) (got : List ScriptLine) (p : Parts) (count limit : ℕ)
           no_index = λ none. absurd (let e : Some (index_with free.index d.segment) ≡ None = sym index ∙ none in cc);
           quiet = λ not_writing. let e : true ≡ false = sym (writes from count) ∙ not_writing in cc;
           named = head_names (length new.history.names) (head_over from new.history.now.graph x.events x.total x.last) (headed (head_over from new.history.now.graph x.events x.total x.last)) refl;
+          keeps_names = ap (λ (ns : List (List ℕ)). take (length p.names) ns) names ∙ a.kept;
         }
 
     pub batch_failed : (f : BatchFault) → IfSome (index_opening c.index) (λ o. FailsBatch o limit b c before after f) → (q : Parts) → StaysAs f p q

@@ -25,7 +25,7 @@ use Rattle.dg_file.specs.TidyImages.{StaysTidy}
 use Rattle.dg_session.proofs.CommandDisks.{every_answer, every_err, reading_tidy}
 use Rattle.dg_session.proofs.DamageStep.{met_nothing, never_for_damage, reads_undamaged}
 use Rattle.dg_session.proofs.ReadsStep.{fails_no_read, followed_by_none, reads_none, reads_nothing, store_read_is}
-use Rattle.dg_session.proofs.ReplyNames.{head_names}
+use Rattle.dg_session.proofs.ReplyNames.{head_names, names_stay}
 use Rattle.dg_session.proofs.SessionPoolStep.{nothing_swept}
 use Rattle.dg_session.proofs.SessionSteps.{Carried, HasItsLines, alone, answered, refused_so}
 use Rattle.dg_session.proofs.VerifiedStep.{refused_verifies, unverified}
@@ -108,6 +108,7 @@ module _ {S D : Type 0} {s : source.Ghosts S} {d : disk.Ghosts D} {c : Command} 
         held = a.held holds;
         refused = λ e. absurd (false≢true (sym a.accepted ∙ e));
         named = a.named;
+        keeps_names = a.keeps_names;
         no_index = a.no_index;
         store_read = λ e. absurd (store_read_refuses reply.head a.accepted e);
         damaged = k.file.damaged;
@@ -132,6 +133,7 @@ module _ {S D : Type 0} {s : source.Ghosts S} {d : disk.Ghosts D} {c : Command} 
         held = still_held old.parts new.parts (d.image before) (d.image after) n.as_before holds;
         refused = λ e. n.as_before;
         named = head_names (length new.parts.names) (head.Refused why) (headed (head.Refused why)) refl;
+        keeps_names = names_stay old.parts.names new.parts.names (ap (λ (x : Parts). x.names) n.as_before.same);
         no_index = λ none. (ap (λ (x : Parts). x.index) (sym n.as_before.same) ∙ none, n.as_before.same_image);
         store_read = λ e. k.causes.store_read (ap (λ (x : Refusal). Err (halt.Refusal x)) (store_read_is why e));
         damaged = k.file.damaged;

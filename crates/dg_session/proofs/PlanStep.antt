@@ -39,7 +39,7 @@ use Rattle.dg_planner.proofs.HistoryLawPoints.{points_of_history}
 use Rattle.dg_catalogue.specs.Points.{point_of}
 use Rattle.dg_ask.proofs.HeldIndexHistory.{count_is, kept_span_is, span_is}
 use Rattle.dg_index.proofs.OpenedLegalHistories.{behind}
-use Rattle.dg_session.proofs.ReplyNames.{head_names, plan_names}
+use Rattle.dg_session.proofs.ReplyNames.{head_names, names_stay, plan_names}
 use Rattle.dg_session.proofs.PartStates.{IsOf, by_first, is_of, miss, one_image, opening_of, stands_on}
 use Rattle.dg_batch.specs.declared.halt.Halt.TheVariants as halt
 use Rattle.dg_batch.specs.declared.stop.Stop.{Stop}
@@ -188,6 +188,7 @@ plan_answers p t cols image o reply there inside r = record {
   quiet = λ h. refl;
   named = plan_names (length p.names) (kept_edges o (event_total o.batches) cols (bases_in cols p.table)) (kept_nodes o (event_total o.batches) cols)
       (weight_of (arcs_of (kept_edges o (event_total o.batches) cols (bases_in cols p.table))) r.plan.steps) r.plan.steps r.plan.potentials reply r.says;
+  keeps_names = names_stay p.names p.names refl;
 }
 
 pub certificate_answers : (p : Parts) (t : ℕ) (cols : Columns) (count : ℕ) (got : List ScriptLine) (image : Option (List ℕ)) (o : Opening) (verdict : Verdict) (reply : Reply)
@@ -209,6 +210,7 @@ certificate_answers p t cols count got image o verdict reply there inside enough
   no_index = λ h. (h, refl);
   quiet = λ h. refl;
   named = head_names (length p.names) (head.Certified verdict) reply reply_is;
+  keeps_names = names_stay p.names p.names refl;
 }
 
 -- ---- a certificate whose lines were read

@@ -22,7 +22,7 @@ use Rattle.dg_machine.specs.Needs.{needs}
 use Rattle.dg_planner.proofs.HistoryLawGraphs.{keys_held}
 use Rattle.dg_index.proofs.OpenedLegalHistories.{behind}
 use Rattle.dg_ask.proofs.HeldIndexHistory.{count_is}
-use Rattle.dg_session.proofs.ReplyNames.{record_names}
+use Rattle.dg_session.proofs.ReplyNames.{names_stay, record_names}
 use Rattle.dg_session.proofs.PartStates.{IsOf, hit, is_of, miss, one_image, opening_of, stands_on}
 use Rattle.dg_session.proofs.SessionSteps.{moved}
 use Rattle.dg_session.specs.Decided.{IsHeadOf}
@@ -82,4 +82,5 @@ tree_answers p image o reply there is = record {
   no_index = λ h. (h, refl);
   quiet = λ h. refl;
   named = record_names (length p.names) o (event_total o.batches) reply is;
+  keeps_names = names_stay p.names p.names refl;
 }

@@ -1,8 +1,9 @@
--- The names in each reply are there.
-use Rattle.std.proofs.Common.{◌≡◌, ℕ, ◌+◌, Bool, true, false, List, [], ◌∷◌, Option, Some, None, if◌then◌else◌, map, refl, sym, subst, nat_lt}
+-- The names in each reply are there, and names stay.
+use Rattle.std.proofs.Common.{◌≡◌, ℕ, ◌+◌, Bool, true, false, List, [], ◌∷◌, Option, Some, None, if◌then◌else◌, length, map, take, refl, sym, ◌∙◌, ap, subst, nat_lt}
 use Rattle.std.specs.Prelude.{◌||◌, ◌==◌, IfSome, slice_get}
 use Rattle.std.specs.List.{All, cons_option}
 use Rattle.std.proofs.lemmas.List.Elements.{All-append, All-cons, All-nil}
+use Rattle.std.proofs.Math.Seq.{take-length}
 use Rattle.dg_ask.specs.RecordListing.{held_line, listing_of}
 use Rattle.dg_graph.proofs.Sets.{has_first}
 use Rattle.dg_graph.specs.Elements.{has, same}
@@ -19,7 +20,7 @@ use Rattle.dg_plan.specs.declared.edge.Edge.{Edge}
 use Rattle.dg_query.specs.Queries.{degree_of, value_at, values_of}
 use Rattle.dg_query.specs.declared.answers.KeyValue.{KeyValue}
 use Rattle.dg_retrieval.specs.NamesThere.{HasNamesThere, NamesAreThere}
-use Rattle.dg_session.specs.ReplyNames.{LineNamesAreThere, ReplyNamesAreThere}
+use Rattle.dg_session.specs.ReplyNames.{BeginWith, LineNamesAreThere, ReplyNamesAreThere}
 
 module _ (n : ℕ) where
   -- ---- lines without a name
@@ -113,3 +114,9 @@ module _ (n : ℕ) where
 
   pub neighbour_names : (handle id : ℕ) (set : List Element) → ReplyNamesAreThere n (neighbours_reply handle id set)
   neighbour_names handle id set = made_names (λ x. line.Neighbour x) (λ x. tt) _
+
+-- ---- names that stay
+
+-- the same names
+pub names_stay : (a b : List (List ℕ)) → b ≡ a → BeginWith a b
+names_stay a b same = ap (take (length a)) same ∙ take-length a

@@ -25,7 +25,7 @@ use Rattle.dg_machine.specs.Run.{Step}
 use Rattle.dg_machine.specs.Script.{Asked}
 use Rattle.dg_index.specs.Hierarchy.{leaves}
 use Rattle.dg_index.specs.IndexRecords.{recent_of}
-use Rattle.dg_session.proofs.ReplyNames.{head_names}
+use Rattle.dg_session.proofs.ReplyNames.{head_names, names_stay}
 use Rattle.dg_session.proofs.PartStates.{AreOf, are_of, both_told, graph_in, no_graphs, no_handle_reached, no_index, one_told, opening_of, passes, recent_in, refused_is, stands}
 use Rattle.dg_session.proofs.SessionSteps.{accepted_is, accepted_steps, is_accepted, lacking_denies, moved}
 use Rattle.dg_batch.specs.Halt.{creation_halt}
@@ -150,6 +150,7 @@ module _ (l k : ℕ) (asked : AskedFunction) (params : Params) (params_are : par
     no_index = λ h. absurd (let e : Some o ≡ None = ap (λ (x : Parts). x.index) (sym is) ∙ h in cc);
     quiet = λ h. absurd (false≢true (sym h ∙ writes l k asked));
     named = head_names (length q.names) head.Created reply reply_is;
+    keeps_names = names_stay p.names q.names (ap (λ (x : Parts). x.names) is);
   }
 
   -- the disk failed

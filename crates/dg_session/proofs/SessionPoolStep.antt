@@ -14,7 +14,7 @@ use Rattle.dg_machine.specs.Needs.{needs}
 use Rattle.dg_machine.specs.Planning.{no_plan}
 use Rattle.dg_pool.specs.Graphs.{PoolState}
 use Rattle.dg_pool.specs.Sweeps.{cells_of}
-use Rattle.dg_session.proofs.ReplyNames.{head_names}
+use Rattle.dg_session.proofs.ReplyNames.{head_names, names_stay}
 use Rattle.dg_session.specs.ReplyNames.{ReplyNamesAreThere}
 use Rattle.dg_session.proofs.PartStates.{kept, one_image, stands_on}
 use Rattle.dg_session.proofs.SessionSteps.{IsUnplanned, moved}
@@ -38,6 +38,7 @@ stays c p q image reply unplanned free same due accepts fits named = record {
   no_index = λ h. (ap (λ (x : Parts). x.index) (sym same) ∙ h, refl);
   quiet = λ h. refl;
   named = named;
+  keeps_names = names_stay p.names q.names (ap (λ (x : Parts). x.names) same);
 }
 
 -- the elements that the current graph and the handles have together are those of the machine's

@@ -17,6 +17,7 @@ use Rattle.dg_machine.specs.Needs.{earliest, is_base, needs, when}
 use Rattle.dg_machine.specs.Planning.{no_plan}
 use Rattle.std.specs.List.{All}
 use Rattle.dg_retrieval.specs.NamesThere.{NamesAreThere}
+use Rattle.dg_session.proofs.ReplyNames.{names_stay}
 use Rattle.dg_session.proofs.GraphNames.{there_among}
 use Rattle.dg_session.specs.ReplyNames.{ReplyNamesAreThere}
 use Rattle.dg_session.proofs.PartStates.{hit, miss, one_image, stands_on}
@@ -99,6 +100,7 @@ module _ (c : Command) (handle : ℕ) (overlay : Bool) (answer : Columns → Lis
     no_index = λ h. (h, refl);
     quiet = λ h. refl;
     named = subst (ReplyNamesAreThere (length p.names)) (sym reply_is) (asks.names (length p.names) asked_columns graph (there_among (length p.names) handle p.table p.graphs graph there found));
+    keeps_names = names_stay p.names p.names refl;
   }
 
   -- the handle is not live

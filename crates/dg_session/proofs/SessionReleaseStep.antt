@@ -24,7 +24,7 @@ use Rattle.dg_machine.specs.Planning.{bases_in, usable}
 use Rattle.dg_planner.specs.Whole.{PlannerGraph}
 use Rattle.dg_ask.specs.KeptPlanner.{IsGraphOver, IsKeptFor}
 use Rattle.dg_ask.proofs.HeldIndexHandles.{kept_same}
-use Rattle.dg_session.proofs.ReplyNames.{head_names}
+use Rattle.dg_session.proofs.ReplyNames.{head_names, names_stay}
 use Rattle.dg_session.proofs.PartStates.{hit, kept, miss, one_image, parts_of, stands}
 use Rattle.dg_session.proofs.SessionSteps.{moved}
 use Rattle.dg_session.specs.Decided.{IsHeadOf}
@@ -136,4 +136,5 @@ release_answers p q handle image reply live unused is reply_is = record {
   no_index = λ h. (ap (λ (x : Parts). x.index) (sym is) ∙ h, refl);
   quiet = λ h. refl;
   named = head_names (length q.names) (head.Released handle) reply reply_is;
+  keeps_names = names_stay p.names q.names (ap (λ (x : Parts). x.names) is);
 }

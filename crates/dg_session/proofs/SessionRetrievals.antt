@@ -36,6 +36,7 @@ use Rattle.dg_retrieval.specs.declared.fault.RetrievalFault.{RetrievalFault}
 use Rattle.dg_retrieval.specs.declared.fault.RetrievalFault.TheVariants as retrieval_fault
 use Rattle.dg_retrieval.specs.KeptGraph.{kept_nodes}
 use Rattle.dg_retrieval.specs.Retrieval.{ArePoints, IsNoDamage, IsOver}
+use Rattle.dg_session.proofs.ReplyNames.{names_stay}
 use Rattle.dg_session.proofs.PlanStep.{point_here, point_is}
 use Rattle.dg_ask.proofs.PointNodes.{IsSoundIndex, point_there}
 use Rattle.dg_session.proofs.PartStates.{events_there, handle_taken, hit, instants_are, miss, is_of, last_passes, one_told, passes, refused_is}
@@ -265,6 +266,7 @@ retrieval_accepted c p q before after new graphs reply moves accepts free fits s
   no_index = λ h. (ap (λ (x : Parts). x.index) (sym is) ∙ h, same);
   quiet = λ h. same;
   named = named;
+  keeps_names = names_stay p.names q.names (ap (λ (x : Parts). x.names) is);
 }
 
 no_damage : (key : Key) (col : Column) → IsNoDamage (retrieval_fault.Damaged key col) → ⊥

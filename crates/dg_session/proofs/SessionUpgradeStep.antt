@@ -35,7 +35,7 @@ use Rattle.dg_machine.specs.Planning.{no_plan}
 use Rattle.dg_machine.specs.Run.{Step}
 use Rattle.dg_machine.specs.Script.{Asked}
 use Rattle.dg_session.proofs.PartStates.{IsOf, both_told, is_of, opening_of, passes, refused_is, stands}
-use Rattle.dg_session.proofs.ReplyNames.{head_names}
+use Rattle.dg_session.proofs.ReplyNames.{head_names, names_stay}
 use Rattle.dg_session.proofs.SessionSteps.{accepted_is, accepted_steps, denied_at, is_accepted, moved}
 use Rattle.dg_session.specs.Decided.{IsHeadOf}
 use Rattle.dg_session.specs.Parts.{Parts}
@@ -208,6 +208,7 @@ module _ (p : Parts) (limit : ℕ) (limit_is : limit ≡ p.limits.file_bytes) (n
     no_index = λ gone. absurd (let e : Some (index_upgraded o) ≡ None = ap (λ (x : Parts). x.index) (sym is) ∙ gone in cc);
     quiet = λ e. absurd (false≢true (sym e));
     named = head_names (length q.names) head.Upgraded reply reply_is;
+    keeps_names = names_stay p.names q.names (ap (λ (x : Parts). x.names) is);
   }
 
   pub upgrade_fills : (q : Parts) (before after : Option (List ℕ)) (n : ℕ) → q ≡ p → after ≡ before → n ≡ needed_for_marker o → limit < n → Denies command.Upgrade [] p before q after (refusal.FileFull n limit)

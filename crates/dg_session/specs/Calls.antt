@@ -24,7 +24,7 @@ use Rattle.dg_machine.specs.Run.{is_store_read}
 use Rattle.dg_session.specs.Damage.{DamageIn, DamageIs, MeetsNone, reads_for}
 use Rattle.dg_session.specs.Parts.{Parts}
 use Rattle.dg_session.specs.Reads.{Reads, ReadsIn, ReadsToStop}
-use Rattle.dg_session.specs.ReplyNames.{ReplyNamesAreThere}
+use Rattle.dg_session.specs.ReplyNames.{BeginWith, ReplyNamesAreThere}
 use Rattle.dg_session.specs.Session.{ComesTo, HoldsImage, IsAsBefore, LeavesCommand, Steps, Stops, TakesLines}
 use Rattle.dg_session.specs.SessionState.{SessionState}
 use Rattle.dg_session.specs.Sweeps.{SweepsNothing, SweepsPool}
@@ -59,6 +59,8 @@ pub record AnswersCommand {S D : Type 0} (s : source.Ghosts S) (d : disk.Ghosts 
   pub refused : is_refusal reply.head ≡ true → IsAsBefore old.parts (d.image before) new.parts (d.image after)
   -- Each name in the reply is there.
   pub named : ReplyNamesAreThere (length new.parts.names) reply
+  -- No name is gone or has another number, whatever the image is.
+  pub keeps_names : BeginWith old.parts.names new.parts.names
   -- Where there is no index behind it, there was none, and the image is as it was.
   pub no_index : new.parts.index ≡ None → (old.parts.index ≡ None) × (d.image after ≡ d.image before)
   -- It says that a read failed only where one did, and no write and no sync.

@@ -1,10 +1,15 @@
 -- Which damage a refusal names, and where there is none.
 use Rattle.std.specs.Prelude.{◌≡◌, ◌⊎◌, ℕ, true, false, List, [], ◌∷◌, Option, Some, None, Result, Ok, Err, IfSome, length, take}
-use Rattle.dg_append.specs.OlderGroups.{AreUndamaged, IsBatchDamage, in_groups, older_children}
+use Rattle.dg_append.specs.Fronts.{lines}
+use Rattle.dg_append.specs.OlderChildSteps.{IsNamedDamage}
+use Rattle.dg_append.specs.OlderGroups.{AreUndamaged, in_groups, older_children}
+use Rattle.dg_graph.specs.CompletedChanges.{completed}
 use Rattle.dg_graph.specs.declared.element.Column.{Column}
 use Rattle.dg_graph.specs.declared.element.Columns.{Columns}
+use Rattle.dg_graph.specs.declared.event.Change.{Change}
+use Rattle.dg_graph.specs.declared.event.Event.{Event}
 use Rattle.dg_history.specs.declared.node.Key.{Key}
-use Rattle.dg_index.specs.OpenedIndex.{Opening, event_total}
+use Rattle.dg_index.specs.OpenedIndex.{Opening, earliest_in, event_total}
 use Rattle.dg_machine.specs.declared.command.Command.{Command}
 use Rattle.dg_machine.specs.declared.command.Command.TheVariants as command
 use Rattle.dg_history.specs.declared.node.NodeId.{NodeId}
@@ -67,11 +72,13 @@ NamesNodeDamage old image asked f =
     (o : Opening) × (old.index ≡ Some o)
     × IfSome image (λ bytes. IsFirstDamage (length old.names) (index_edges o asked.1 false []) o asked.1 (asked.0 ∷ []) bytes f)
 
--- Of a batch of so many lines: the damage is the first that the trees of the older children enter, or it is of a delta that
--- is due.
+-- Of a batch of so many changes, which come to these events: the damage is the first that the trees of the older children
+-- enter; or these are whole, and it is the first of the deltas that the events give that is too large to be written.
 abbrev pub NamesBatchDamage : Parts → Option (List ℕ) → ℕ → Key → Column → Type 0
 NamesBatchDamage old image count key col =
-    (o : Opening) × (old.index ≡ Some o) × IfSome image (λ bytes. IsBatchDamage (length old.names) o bytes count key col)
+    (o : Opening) × (old.index ≡ Some o) × (changes : List Change) × (length changes ≡ count)
+    × (events : List Event) × (completed 1 (earliest_in 0 o.batches) old.graph (lines changes) ≡ Ok events)
+    × IfSome image (λ bytes. IsNamedDamage (length old.names) bytes o old.recent events old.graph key col)
 
 -- the damage is one that what is read for it meets
 abbrev pub IsMetBy : ReadsFor → Parts → Option (List ℕ) → Key → Column → Type 0

@@ -1,15 +1,22 @@
 -- What a retrieval gives, the handles that it is given, and the bytes that commands read.
-use Rattle.std.specs.Prelude.{◌≡◌, ℕ, ◌+◌, Bool, true, false, List, [], ◌∷◌, ◌++◌, Option, Some, None, Result, Ok, Err, IfErr, IfOk, IfSome, length, map}
+use Rattle.std.specs.Prelude.{◌≡◌, ℕ, ◌+◌, Bool, true, false, List, [], ◌∷◌, ◌++◌, Option, Some, None, Result, Ok, Err, IfErr, IfOk, IfSome, length, map, sum_by}
 use Rattle.std.specs.List.{All, sum}
 use Rattle.dg_fold.specs.BytesRead.{Takes, TakesAtMost}
+use Rattle.dg_graph.specs.declared.element.Column.TheVariants as column
 use Rattle.dg_graph.specs.declared.element.Columns.{Columns}
 use Rattle.dg_graph.specs.declared.element.Element.{Element}
 use Rattle.dg_graph.specs.Composition.{applied}
 use Rattle.dg_graph.specs.Elements.{shown}
 use Rattle.dg_text.specs.Lines.{ScriptLine}
 use Rattle.dg_handles.specs.Handles.{BeginsOn, held_by, numbered, overlays_on, with_messages}
+use Rattle.dg_history.specs.declared.node.Key.{Key}
+use Rattle.dg_history.specs.declared.node.Key.TheVariants as key
 use Rattle.dg_history.specs.declared.node.NodeId.{NodeId}
 use Rattle.dg_history.specs.declared.node.NodeId.TheVariants.{Root}
+use Rattle.dg_history.specs.History.{History, events_of}
+use Rattle.dg_index.specs.Hierarchy.{numbers}
+use Rattle.dg_index.specs.IndexRecords.{column_in, keys_of}
+use Rattle.dg_index.specs.OpenedIndex.{Opening}
 use Rattle.dg_machine.specs.declared.command.Command.{Command}
 use Rattle.dg_machine.specs.declared.command.Command.TheVariants as command
 use Rattle.dg_machine.specs.declared.reply.Head.{Head}
@@ -37,6 +44,7 @@ use Rattle.dg_batch.specs.declared.stop.Stop.TheVariants as stop
 use Rattle.dg_session.specs.BatchReads.{is_early, older_for}
 use Rattle.dg_session.specs.Parts.{Parts}
 use Rattle.dg_session.specs.Session.{StandsFor}
+use Rattle.dg_verify.specs.RecordBytes.{records_bytes}
 
 -- the session with new handles for these behind those that it has, which list these graphs
 abbrev pub with_new_handles : Parts → List Stands → List (List Element) → Parts
@@ -111,18 +119,32 @@ abbrev pub ReadsOlder : MachineState → ℕ → ℕ → ℕ → Type 0
 ReadsOlder m count before after =
     (singles : List ℕ) → AreSingles (arcs_of (record_edges_in m all_columns)) (Root ∷ []) (older_for m count) singles → TakesAtMost (sum singles) before after
 
--- what a command that adds a batch, or a retrieval, reads over an image that stands for the state; what `verify`
--- reads is not promised
+-- the bytes of the columns of a record, messages among them
+abbrev pub record_length : History → Key → ℕ
+record_length z k =
+    length (column_in z k column.Structure) + length (column_in z k column.NodeAttr) + length (column_in z k column.EdgeAttr) + length (column_in z k column.Transient)
+
+-- the bytes of the columns of all records of a history, each once: of its lists, tops and downs, and of its pieces
+abbrev pub records_length : History → ℕ
+records_length z =
+    sum_by (record_length z) (keys_of z.params (length (events_of z)) ++ map (λ s. key.Piece s) (numbers 0 (length z.batches)))
+
+-- The session has an index, and no more was read than the columns of its records have, each once.
+abbrev pub ReadsRecords : Parts → Option (List ℕ) → ℕ → ℕ → Type 0
+ReadsRecords old image before after =
+    (o : Opening) × (old.index ≡ Some o) × IfSome image (λ bytes. TakesAtMost (records_bytes o) before after)
+
+-- what a command that adds a batch, a retrieval, or `verify` reads over an image that stands for the state
 abbrev pub ReadsBy : MachineState → Command → List ScriptLine → Head → ℕ → ℕ → Type 0
 ReadsBy m (command.Load count) got h before after = ReadsOlder m count before after
 ReadsBy m (command.Append count) got h before after = ReadsOlder m count before after
-ReadsBy m command.Verify got h before after = Unit {0}
+ReadsBy m command.Verify got h before after = TakesAtMost (records_length (history_in m.index)) before after
 ReadsBy m (command.Workload seed count) got h before after = ReadsOlder m count before after
 ReadsBy m c got h before after = ReadsAsTold (is_refusal h) m c got h before after
 
 -- The bytes that the command reads, where the reply has this head: over an image that stands for a state what the
--- reply to a retrieval tells, and no more than the older children of a batch; nothing, where it is refused before
--- that, and for a command that reads no records.
+-- reply to a retrieval tells, and no more than the older children of a batch, or than all records for `verify`; nothing,
+-- where it is refused before that, and for a command that reads no records.
 pub record Reads (c : Command) (old : Parts) (image : Option (List ℕ)) (h : Head) (before after : ℕ) : Type 0 where
   pub told : (needs c).reads ≡ true → IfSome image (λ bytes. (m : MachineState) → StandsFor old bytes m
       → (got : List ScriptLine) → ReadsBy m c got h before after)

@@ -1,5 +1,5 @@
--- The names in a reply are there: the number of each is below the number of names.
-use Rattle.std.specs.Prelude.{◌<◌, ℕ}
+-- The names in a reply are there: the number of each is below the number of names. And names stay where they are.
+use Rattle.std.specs.Prelude.{◌≡◌, ◌<◌, ℕ, List, length, take}
 use Rattle.std.specs.List.{All}
 use Rattle.dg_machine.specs.declared.reply.BodyLine.{BodyLine}
 use Rattle.dg_machine.specs.declared.reply.BodyLine.TheVariants as line
@@ -15,3 +15,7 @@ LineNamesAreThere name_count l = Unit {0}
 -- so are those of a reply, whose head has none
 abbrev pub ReplyNamesAreThere : ℕ → Reply → Type 0
 ReplyNamesAreThere name_count reply = All (LineNamesAreThere name_count) reply.body
+
+-- the names begin with those that there were: none of these is gone or has another number
+abbrev pub BeginWith : List (List ℕ) → List (List ℕ) → Type 0
+BeginWith before names = take (length before) names ≡ before

@@ -31,7 +31,7 @@ use Rattle.dg_batch.specs.declared.stop.Stop.TheVariants as stop
 use Rattle.dg_session.specs.Crashes.{IsFirstByte, is_created}
 use Rattle.dg_session.specs.Decided.{IsHeadOf, is_late}
 use Rattle.dg_session.specs.Parts.{Parts}
-use Rattle.dg_session.specs.ReplyNames.{ReplyNamesAreThere}
+use Rattle.dg_session.specs.ReplyNames.{BeginWith, ReplyNamesAreThere}
 use Rattle.dg_ask.specs.HeldIndex.{events_held, has_node_held, span_held}
 use Rattle.dg_start.specs.StoredHistory.{IsHeldBy, KeepsHistory}
 
@@ -186,6 +186,7 @@ pub record Accepts (command : Command) (got : List ScriptLine) (old : Parts) (be
   pub no_index : new.index ≡ None → (old.index ≡ None) × (after ≡ before)
   pub quiet : is_writing command ≡ false → after ≡ before
   pub named : ReplyNamesAreThere (length new.names) reply
+  pub keeps_names : BeginWith old.names new.names
 
 -- neither the session nor the image has changed
 pub record IsAsBefore (old : Parts) (before : Option (List ℕ)) (new : Parts) (after : Option (List ℕ)) : Type 0 where

@@ -4,6 +4,7 @@ ghost use Rattle.std.specs.Prelude.{◌≡◌, ◌<◌, IsErrOf, [], Ok, Some, i
 ghost use Rattle.dg_disk.specs.Calls.{Fails, ReadsDisk};
 ghost use Rattle.dg_machine.specs.Answer.{headed};
 ghost use Rattle.dg_session.specs.Calls.{ReadsFile};
+ghost use Rattle.dg_session.specs.Reads.{ReadsRecords};
 ghost use Rattle.dg_session.specs.Session.{ComesTo, HoldsImage};
 ghost use Rattle.dg_session.specs.Verified.{IsOfFile, VerifiesFile};
 ghost use Rattle.dg_batch.specs.declared.stop.Stop.TheVariants as stop;
@@ -55,7 +56,8 @@ impl Session {
         ensures sound { IfOk result (λ soundness. IsOfFile self.old.parts (D.image disk.old) soundness) }
         ensures cause { IsErrOf result VerifyFault.Disk → Fails D.Disk disk.old disk.new }
 
-        // what it leaves
+        // what it reads, and what it leaves
+        ensures takes { ReadsRecords self.old.parts (D.image disk.old) (D.taken disk.old) (D.taken disk.new) }
         ensures same { self.new ≡ self.old }
         ensures disk { ReadsDisk D.Disk disk.old disk.new }
     {

@@ -1,6 +1,5 @@
 use Rattle.std.proofs.Common.{◌≡◌, [], refl, sym, ap, subst}
 use Rattle.std.specs.Prelude.{IsErrAnd, is_some}
-use Rattle.std.proofs.lemmas.Bool.{false≢true}
 use Rattle.dg_machine.specs.declared.command.Command.TheVariants as command
 use Rattle.dg_machine.specs.declared.reply.Head.TheVariants as head
 use Rattle.dg_machine.specs.declared.reply.Refusal.TheVariants as refusal
@@ -13,7 +12,7 @@ use Rattle.dg_session.specs.Session.{ComesTo}
 use Rattle.dg_session.specs.SessionState.{SessionState}
 use Rattle.dg_session.specs.Verified.{VerifiesFile}
 use Rattle.dg_session.proofs.SessionSteps.{handed_out, refused_denies}
-use Rattle.dg_session.proofs.VerifiedStep.{failed_damage, failed_reads, verify_answers, verify_failed, verify_reads, verify_refused}
+use Rattle.dg_session.proofs.VerifiedStep.{failed_damage, failed_reads, verified_reads, verify_answers, verify_failed, verify_refused, verify_unread}
 use Rattle.dg_session.proofs.DamageStep.{met_nothing}
 use Rattle.dg_session.proofs.session.Session.verify.Goals as goal
 
@@ -49,7 +48,7 @@ returns-in_err-index-clause-file g c = record {
   reads =
       handed_out c.from_residual.result (halt.Refusal refusal.NoIndex) (λ r. ReadsIn command.Verify c.args.self.now.parts (g.D.Disk.image c.args.disk.now) r (g.D.Disk.taken c.args.disk.now) (g.D.Disk.taken c.args.disk.now))
       (c.from_residual.ensures.0, subst (λ r. IsErrAnd c.from_residual.result (λ y. y ≡ halt.Refusal r)) c.in_err-index.ensures.none.1 c.from_residual.ensures.1)
-      (verify_reads c.args.self.now.parts (g.D.Disk.image c.args.disk.now) (head.Refused refusal.NoIndex) (g.D.Disk.taken c.args.disk.now) (g.D.Disk.taken c.args.disk.now) (λ e. refl));
+      (verify_unread c.args.self.now.parts (g.D.Disk.image c.args.disk.now) (head.Refused refusal.NoIndex) (g.D.Disk.taken c.args.disk.now) (g.D.Disk.taken c.args.disk.now) refl);
 }
 
 pub returns-in_err-soundness-clause-file : goal.returns-in_err-soundness-clause-file
@@ -58,7 +57,7 @@ returns-in_err-soundness-clause-file g c = record {
   undamaged = met_nothing command.Verify c.args.self.now.parts (g.D.Disk.image c.args.disk.now) c.from_residual-in_err-soundness.result tt;
   reads =
       handed_out c.from_residual-in_err-soundness.result (verify_halt c.in_err-soundness.field-0.0) (λ r. ReadsIn command.Verify c.args.self.now.parts (g.D.Disk.image c.args.disk.now) r (g.D.Disk.taken c.args.disk.now) (g.D.Disk.taken c.soundness.new.disk)) c.from_residual-in_err-soundness.ensures
-      (failed_reads c.args.self.now.parts (g.D.Disk.image c.args.disk.now) c.in_err-soundness.field-0.0 (g.D.Disk.taken c.args.disk.now) (g.D.Disk.taken c.soundness.new.disk));
+      (failed_reads c.args.self.now.parts (g.D.Disk.image c.args.disk.now) c.in_err-soundness.field-0.0 (g.D.Disk.taken c.args.disk.now) (g.D.Disk.taken c.soundness.new.disk) c.soundness.ensures.takes);
 }
 
 pub returns-clause-file : goal.returns-clause-file
@@ -67,5 +66,5 @@ returns-clause-file g c = record {
   undamaged = tt;
   reads =
       subst (λ (r : Reply). Reads command.Verify c.args.self.now.parts (g.D.Disk.image c.args.disk.now) r.head (g.D.Disk.taken c.args.disk.now) (g.D.Disk.taken c.soundness.new.disk)) (sym c.headed.ensures)
-      (verify_reads c.args.self.now.parts (g.D.Disk.image c.args.disk.now) (head.Verified c.in_ok-soundness.soundness) (g.D.Disk.taken c.args.disk.now) (g.D.Disk.taken c.soundness.new.disk) (λ e. absurd (false≢true e)));
+      (verified_reads c.args.self.now.parts (g.D.Disk.image c.args.disk.now) c.in_ok-soundness.soundness (g.D.Disk.taken c.args.disk.now) (g.D.Disk.taken c.soundness.new.disk) c.soundness.ensures.takes);
 }
