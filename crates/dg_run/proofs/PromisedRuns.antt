@@ -19,13 +19,13 @@ use Rattle.dg_machine.specs.MachineState.{machine_at}
 use Rattle.dg_machine.specs.Run.{last_state, texts_of}
 use Rattle.dg_machine.specs.Script.{script}
 use Rattle.dg_session.specs.Parts.{Parts}
-use Rattle.dg_session.specs.Session.{StandsFor}
+use Rattle.dg_session.specs.Session.{HoldsImage, StandsFor}
 use Rattle.dg_start.specs.StoredHistory.{started_with}
 use Rattle.dg_run.specs.declared.status.Status.{Status}
 use Rattle.dg_run.specs.declared.status.Status.TheVariants as status
 use Rattle.dg_run.specs.Outside.{Outside, IsUntouched}
 use Rattle.dg_run.specs.Promised.{Completes, Promised, WhereItStands}
-use Rattle.dg_run.specs.GainedReplies.{GainsReplies}
+use Rattle.dg_run.specs.GainedReplies.{GainsReplies, names_told}
 use Rattle.dg_run.specs.RunWeights.{IsOpening, OpensBy, ReadsNoMore}
 use Rattle.dg_run.specs.Served.{Gained, LeftInRun, Remains, Served, TakenFrom}
 use Rattle.dg_run.proofs.RunWeights.{opening_takes, takes_both}
@@ -36,7 +36,7 @@ use Rattle.dg_file.specs.TidyImages.{StaysTidy}
 use Rattle.dg_run.proofs.ExactRuns.{leaves_just, same_just}
 use Rattle.dg_run.proofs.PromisedEnds.{completes_of}
 use Rattle.dg_run.proofs.ServedRuns.{at_some, ended_faults, grown-nil, if_some, left_from, remains_from, served_nothing}
-use Rattle.dg_run.proofs.WrittenReplies.{none_gained}
+use Rattle.dg_run.proofs.WrittenReplies.{names_held, none_gained, replies_from}
 use Rattle.dg_run.proofs.StatusStarts.{EndsFor, where_some, ends_for, unbegun, unbegun_gains, untouched_end, disk_failed, lies, refused_so, ends_so, never_so, begins_ok}
 
 untouched_here : (start : Outside) → IsUntouched start start
@@ -65,7 +65,7 @@ words_promise limits checked start crashes stays = record {
   served = if_some start.image (λ x. (index : Option History) → StandsAs index x → (x : Served (machine_at limits index) status.Words start start crashes) × ReadsNoMore (OpensBy checked index start.image) x)
       (λ x is index stands. served_nothing status.Words (machine_at limits index) (OpensBy checked index start.image) start start x crashes is stands (untouched_here start) stays (λ e. cc) (λ nil. nil) (omega arith) uncut_words (λ n opened. omega arith));
   exact = λ other. same_just limits status.Words start start crashes other refl;
-  replies = none_gained status.Words start.written start.written (grown-nil start.written);
+  replies = none_gained status.Words (names_told start.image) start.written start.written (grown-nil start.written);
   checked = λ e. if_some start.image (IsLeft status.Words start start) (λ x is bytes. inr (untouched_here start, inl refl));
   told = refl;
   words = λ e. refl;
@@ -94,7 +94,7 @@ unread_words limits are_written checked start crashes stays = record {
   served = if_some start.image (λ x. (index : Option History) → StandsAs index x → (x : Served (machine_at limits index) status.NoMemory start start crashes) × ReadsNoMore (OpensBy checked index start.image) x)
       (λ x is index stands. served_nothing status.NoMemory (machine_at limits index) (OpensBy checked index start.image) start start x crashes is stands (untouched_here start) stays (λ e. cc) (λ nil. nil) (omega arith) uncut_nomemory (λ n opened. omega arith));
   exact = λ other. same_just limits status.NoMemory start start crashes other refl;
-  replies = none_gained status.NoMemory start.written start.written (grown-nil start.written);
+  replies = none_gained status.NoMemory (names_told start.image) start.written start.written (grown-nil start.written);
   checked = λ e. if_some start.image (IsLeft status.NoMemory start start) (λ x is bytes. inr (untouched_here start, inl refl));
   told = refl;
   words = λ e. absurd (cc);
@@ -131,7 +131,7 @@ no_session A determined limits checked s f start now crashes stays is same count
           (λ nil. unbegun_gains s f start.written now.written end nil) (ended_faults s start.disk_faults now.disk_faults counted failed) (either (s ≡ status.SourceFault) (s ≡ status.ScriptLimit) not.source not.limit)
           (λ n opened. opening_takes {A = A} (Err f) index x n start.bytes_read now.bytes_read stands (at_some start.image (λ image. TakesStart {A = A} (Err f) image start.bytes_read now.bytes_read) x (takes opened.0) here) (at_some start.image (λ bytes. IsOpening index bytes n) x opened.1 here)));
       exact = λ other. same_just limits s start now crashes other same.image;
-      replies = none_gained s start.written now.written (unbegun_gains s f start.written now.written end (same.written ∙ grown-nil start.written));
+      replies = none_gained s (names_told start.image) start.written now.written (unbegun_gains s f start.written now.written end (same.written ∙ grown-nil start.written));
       checked = λ e. if_some start.image (IsLeft s start now) (λ x here bytes. inr (same, untouched_end s f end));
       told = ap (λ (o : Option (List ℕ)). is_some o) same.image;
       words = λ e. absurd (not.words e);
@@ -179,13 +179,13 @@ begun_not status.ScriptLimit begun = (λ e. cc, λ e. cc, λ f e. cc)
 -- a session began over what was there at the start, with as many failed writes or more, and answered the script
 pub session_promise : {A : Type 0} (began : A) → BeginsAreDetermined → (limits : Limits) (checked : Bool) (session : Parts) (s : Status) (start mid now : Outside) (begun_crashes crashes : (List ℕ → List ℕ → Type 0) → Type 0)
     → mid.left ≡ start.left → mid.source_faults ≡ start.source_faults → mid.written ≡ start.written → mid.sink_faults ≡ start.sink_faults → mid.image ≡ start.image
-    → (DiskRose mid.write_faults now.write_faults → DiskRose start.write_faults now.write_faults) → start.disk_faults ≤ mid.disk_faults
+    → (DiskRose mid.write_faults now.write_faults → DiskRose start.write_faults now.write_faults) → start.disk_faults ≤ mid.disk_faults → HoldsImage session start.image
     → IfSome start.image (λ image. Begins checked image (Ok (started_with session.index session.names session.graph session.recent)))
     → IfSome start.image (λ image. (index : Option History) → StandsAs index image → StandsFor session image (machine_at limits index))
     → (checked ≡ true → IfSome start.image (λ image. AreBytes image → IsStanding image))
     → (checked ≡ false → IfSome start.image (λ image. TakesStart {E = SessionFault} (Ok began) image start.bytes_read mid.bytes_read)) → Leads start.image begun_crashes crashes
     → ScriptAnswered limits.script_bytes session s mid now begun_crashes → Promised limits true checked s start now crashes
-session_promise {A} began determined limits checked session s start mid now begun_crashes crashes left source written sink image writes counted begins stands standing takes leads answered =
+session_promise {A} began determined limits checked session s start mid now begun_crashes crashes left source written sink image writes counted holds begins stands standing takes leads answered =
     let not = begun_not s answered.begun in
     let untouched : IsUntouched start mid = record { left = left; source_faults = source; written = written; sink_faults = sink; image = image } in
     let served : WhereItStands start.image (λ index. (x : Served (machine_at limits index) s start now crashes) × ReadsNoMore (OpensBy checked index start.image) x) =
@@ -229,7 +229,9 @@ session_promise {A} began determined limits checked session s start mid now begu
     λ e. subst (λ (n : ℕ). CountRose n now.sink_faults) sink (answered.sink_fault e) in record {
       served = served;
       exact = λ other. leaves_just limits s start now crashes other (subst (λ (o : Option (List ℕ)). StaysTidy o now.image) image (answered.exact other));
-      replies = subst (λ (o : Option (List ℕ)). GainsReplies s o now.written) written answered.replies;
+      replies =
+          replies_from s (names_told start.image) session.names start.written now.written (names_held session start.image holds)
+          (subst (λ (o : Option (List ℕ)). GainsReplies s session.names o now.written) written answered.replies);
       checked = λ e. where_some start.image (λ x. AreBytes x → IsStanding x) (IsLeft s start now) (λ x h bytes. inl (h bytes)) (standing e);
       told = answered.told ∙ ap (λ (o : Option (List ℕ)). is_some o) image;
       words = λ e. absurd (not.0 e);

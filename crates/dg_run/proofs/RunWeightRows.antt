@@ -1,16 +1,36 @@
 -- Worked examples, computed by the definition: what replies account for.
-use Rattle.std.specs.Prelude.{false, [], ◌∷◌, refl}
+use Rattle.std.specs.Prelude.{codes, false, true, [], ◌∷◌, None, Some, refl}
 use Rattle.dg_graph.specs.declared.element.Columns.{Columns}
+use Rattle.dg_graph.specs.declared.event.Body.TheVariants as body
+use Rattle.dg_graph.specs.declared.function.Function.TheVariants.{Intersection}
+use Rattle.dg_history.specs.declared.form.Form.TheVariants as form
+use Rattle.dg_history.specs.History.{History}
 use Rattle.dg_machine.specs.declared.command.Command.TheVariants as command
 use Rattle.dg_machine.specs.declared.reply.Head.TheVariants as head
 use Rattle.dg_machine.specs.declared.reply.Refusal.TheVariants as refusal
-use Rattle.dg_machine.specs.Answer.{Answered, headed}
+use Rattle.dg_machine.specs.Answer.{Answered, headed, verify_reply}
 use Rattle.dg_machine.specs.MachineState.{MachineState}
 use Rattle.dg_machine.specs.Script.{Asked, No_command}
 use Rattle.dg_run.specs.RunWeights.{RunWeighs}
 
 abbrev structure : Columns
 structure = record { nodes_attr = false; edges_attr = false; transient = false }
+
+-- a file of five changes has two lists, a top, two downs and a piece, whose columns have 240 bytes together
+five : History
+five = record {
+  params = record { l = 2; k = 2; function = Intersection };
+  form = form.One;
+  batches = record {
+    names = codes "name" ∷ codes "A" ∷ [];
+    events =
+        record { time = 10; body = body.NodeAdded 1 }
+        ∷ record { time = 20; body = body.NodeAdded 2 }
+        ∷ record { time = 30; body = body.EdgeAdded true 5 1 2 }
+        ∷ record { time = 40; body = body.NodeAttr 0 1 None (Some 1) }
+        ∷ record { time = 50; body = body.EdgeRemoved true 5 1 2 } ∷ [];
+  } ∷ [];
+}
 
 module _ (m : MachineState) where
   -- two retrievals, which tell 26 and 40, and between them a command that reads nothing
@@ -35,3 +55,10 @@ module _ (m : MachineState) where
 
   refusals : RunWeighs m (Asked (command.Append 1) [] ∷ No_command [] ∷ []) (refused_early ∷ off_grammar ∷ []) 0
   refusals = (0, 0, refl, (0, 0, refl, refl, refl), refl)
+
+  abbrev sound : Answered
+  sound = record { reply = verify_reply five; state = m }
+
+  verified : RunWeighs (record m { index = Some five }) (Asked command.Verify [] ∷ []) (sound ∷ []) 240
+  unfolding five
+  verified = (240, 0, refl, refl, refl)

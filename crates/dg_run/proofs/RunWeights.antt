@@ -49,7 +49,7 @@ reading_weighs : (c : Command) (m : MachineState) (got : List ScriptLine) (h : H
 reading_weighs (command.Load count) m got h l before after reads w = older_weighs m count l before after reads w
 reading_weighs (command.Append count) m got h l before after reads w = older_weighs m count l before after reads w
 reading_weighs (command.Workload seed count) m got h l before after reads w = older_weighs m count l before after reads w
-reading_weighs command.Verify m got h l before after reads w = absurd w
+reading_weighs command.Verify m got h l before after reads w = subst (λ (n : ℕ). TakesAtMost n before after) (sym w) reads
 reading_weighs (command.Create a k f) m got h l before after reads w = told_weighs (is_refusal h) m (command.Create a k f) got h l before after reads w
 reading_weighs (command.CreateSkewed a k r) m got h l before after reads w = told_weighs (is_refusal h) m (command.CreateSkewed a k r) got h l before after reads w
 reading_weighs command.Upgrade m got h l before after reads w = told_weighs (is_refusal h) m command.Upgrade got h l before after reads w
@@ -97,8 +97,8 @@ cut_weighs e rest more old image x m l before after first is stands reads w = by
     by : (rest : Option (List Entry)) (e : Entry) → ReadsBroken e old image before after → CutWeighs m (option_map (λ es. e ∷ es) rest) l → TakesAtMost l before after
     by None e reads w = absurd w
     by (Some es) (Asked c got) reads w = write_weighs (needs c).reads c old image x m l before after refl is stands reads w
-    by (Some es) (No_command line) reads w = absurd w
-    by (Some es) Long_line reads w = absurd w
+    by (Some es) (No_command line) reads w = absurd reads
+    by (Some es) Long_line reads w = absurd reads
 
 -- ---- a run
 

@@ -23,6 +23,7 @@ use Rattle.dg_batch.specs.declared.stop.Stop.{Stop}
 use Rattle.dg_batch.specs.declared.stop.Stop.TheVariants as stop
 use Rattle.dg_io.specs.LinesState.{Comes, GaveLines, LinesState, NoneLeft, told}
 use Rattle.dg_line.specs.declared.command.Syntax.{Syntax}
+use Rattle.dg_session.proofs.ReplyNames.{names_stay}
 use Rattle.dg_session.specs.Calls.{IsStopped}
 use Rattle.dg_session.specs.Parts.{Parts}
 use Rattle.dg_session.specs.Reads.{Reads, ReadsToWrite}
@@ -143,7 +144,7 @@ module _ {S D : Type 0} {s : source.Ghosts S} {d : disk.Ghosts D} where
   pub makes_here : {entries : Option (List script.Entry)} {front : List ScriptLine} {lines : LinesState} {from : S} {session : Parts} {at : D} {then_lines : LinesState} {then_from : S} (made : Turn) → HoldsImage session (d.image at)
       → Turns made (TakesEntries s front lines from then_lines then_from) entries (asked then_lines (s.left then_from)) session (d.image at) session (d.image at) (d.taken at) (d.taken at) (LeftByCrash d at at) → TellsFailedReads made (d.faults at) (d.faults at)
       → NamesTurn made (length session.names) → MakesTurn s d entries front lines from session at then_lines then_from session at made
-  makes_here made holds turn reads named = record { turn = turn; held = holds; no_index = λ none. (none, refl); store_read = reads; named = named; settled = λ on. on; exact = λ tidy. tidy }
+  makes_here {session = session} made holds turn reads named = record { turn = turn; held = holds; no_index = λ none. (none, refl); store_read = reads; named = named; keeps_names = names_stay session.names session.names refl; settled = λ on. on; exact = λ tidy. tidy }
 
   -- what is cut off, in other words
   pub stopped_in : {from : S} {old : Parts} {before : D} {then_lines : LinesState} {then_from : S} {new : Parts} {after : D} {short cut : Type 0} (then_short then_cut : Type 0) (why : Stop) → (short → then_short) → (why ≡ stop.Store → cut → then_cut)
@@ -183,6 +184,7 @@ made_on s d entries line first lines early from old before then_lines then_from 
   no_index = m.no_index;
   store_read = m.store_read;
   named = m.named;
+  keeps_names = m.keeps_names;
   settled = m.settled;
   exact = m.exact;
 }

@@ -13,6 +13,7 @@ use Rattle.dg_machine.specs.Script.{Entry, entries_of}
 use Rattle.dg_run.specs.declared.turn.Turn.{Turn}
 use Rattle.dg_run.specs.Turns.{NamesTurn, TellsFailedReads, Turns, asked}
 use Rattle.dg_session.specs.Parts.{Parts}
+use Rattle.dg_session.specs.ReplyNames.{BeginWith}
 use Rattle.dg_session.specs.Session.{HoldsImage}
 
 -- the lines that were taken are those of these entries
@@ -36,6 +37,8 @@ pub record MakesTurn {S D : Type 0} (s : source.Ghosts S) (d : disk.Ghosts D) (e
   pub store_read : TellsFailedReads made (d.faults before) (d.faults after)
   -- The names in its reply are among those of the session.
   pub named : NamesTurn made (length new.names)
+  -- None of the names that the session had is gone or has another number.
+  pub keeps_names : BeginWith old.names new.names
   -- Where what the disk held was on the device, what it holds is.
   pub settled : StaysOnDevice d before after
   -- Where the image was just the bytes in use, it is just those in use now.

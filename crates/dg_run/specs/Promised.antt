@@ -19,7 +19,7 @@ use Rattle.dg_machine.specs.Run.{last_state}
 use Rattle.dg_run.specs.declared.status.Status.{Status}
 use Rattle.dg_run.specs.declared.status.Status.TheVariants as status
 use Rattle.dg_run.specs.Outside.{Outside, IsUntouched}
-use Rattle.dg_run.specs.GainedReplies.{GainsReplies}
+use Rattle.dg_run.specs.GainedReplies.{GainsReplies, names_told}
 use Rattle.dg_run.specs.RunWeights.{OpensBy, ReadsNoMore}
 use Rattle.dg_run.specs.Served.{HasNoEntry, Served}
 use Rattle.dg_run.specs.Statuses.{is_unbegun}
@@ -66,8 +66,9 @@ pub record Promised (limits : Limits) (are_written are_checked : Bool) (s : Stat
   -- index, so that the headline holds over it, or the run did not begin.
   pub checked : are_checked ≡ true
       → IfSome start.image (λ image. AreBytes image → IsStanding image ⊎ (IsUntouched start now × ((is_unbegun s ≡ true) ⊎ (s ≡ status.DiskFault))))
-  -- Whatever the image is, what is written is texts of replies.
-  pub replies : GainsReplies s start.written now.written
+  -- Whatever the image is, what is written is texts of replies. Their names begin with those that the directories of the
+  -- index file had at the start, and are only ever added to.
+  pub replies : GainsReplies s (names_told start.image) start.written now.written
   -- Whether the disk tells its image stays the same.
   pub told : is_some now.image ≡ is_some start.image
   -- Status 2 comes only where the words are not of the written form; such words end with it, or with want of memory to

@@ -11,7 +11,7 @@ use Rattle.dg_machine.specs.declared.command.Command.{Command}
 use Rattle.dg_machine.specs.declared.command.Command.TheVariants as command
 use Rattle.dg_machine.specs.declared.reply.Head.{Head}
 use Rattle.dg_machine.specs.Answer.{Answered, IsPlannedBy, answer, is_refusal, weight_told}
-use Rattle.dg_machine.specs.MachineState.{MachineState}
+use Rattle.dg_machine.specs.MachineState.{MachineState, history_in}
 use Rattle.dg_machine.specs.Needs.{needs, refused}
 use Rattle.dg_machine.specs.Planning.{Planned, record_edges_in}
 use Rattle.dg_machine.specs.Run.{last_state}
@@ -20,6 +20,7 @@ use Rattle.dg_plan.specs.HistoryGraph.{all_columns}
 use Rattle.dg_plan.specs.IndexGraph.{arcs_of}
 use Rattle.dg_plan.specs.Walks.{AreSingles}
 use Rattle.dg_session.specs.BatchReads.{is_early, older_for}
+use Rattle.dg_session.specs.Reads.{records_length}
 use Rattle.dg_start.specs.SessionStart.{PlansLastLeaf, start_bytes}
 use Rattle.dg_run.specs.Outside.{Outside}
 use Rattle.dg_run.specs.Served.{Served}
@@ -42,12 +43,12 @@ abbrev pub WeighsTold : Bool → MachineState → Command → List ScriptLine �
 WeighsTold false m c got h n = n ≡ weight_told h
 WeighsTold true m c got h n = (p : Planned) × IsPlannedBy (refused m c got) m c p × (n ≡ weight_told (answer m c got p).reply.head)
 
--- what a command weighs that reads; of `verify` nothing is said
+-- what a command weighs that reads: `verify` the columns of all records, each once
 abbrev pub WeighsReading : MachineState → Command → List ScriptLine → Head → ℕ → Type 0
 WeighsReading m (command.Load count) got h n = WeighsOlder m count n
 WeighsReading m (command.Append count) got h n = WeighsOlder m count n
 WeighsReading m (command.Workload seed count) got h n = WeighsOlder m count n
-WeighsReading m command.Verify got h n = ⊥
+WeighsReading m command.Verify got h n = n ≡ records_length (history_in m.index)
 WeighsReading m c got h n = WeighsTold (is_refusal h) m c got h n
 
 abbrev pub WeighsWhere : Bool → MachineState → Command → List ScriptLine → Head → ℕ → Type 0
@@ -75,9 +76,9 @@ WeighsToWrite false m count n = n ≡ 0
 -- what a command weighs within which the disk failed, the first of the entries to come
 abbrev pub CutWeighs : MachineState → Option (List Entry) → ℕ → Type 0
 CutWeighs m (Some (Asked c got ∷ rest)) n = WeighsToWrite (needs c).reads m (needs c).changes n
-CutWeighs m (Some (No_command line ∷ rest)) n = ⊥
-CutWeighs m (Some (Long_line ∷ rest)) n = ⊥
-CutWeighs m (Some []) n = ⊥
+CutWeighs m (Some (No_command line ∷ rest)) n = n ≡ 0
+CutWeighs m (Some (Long_line ∷ rest)) n = n ≡ 0
+CutWeighs m (Some []) n = n ≡ 0
 CutWeighs m None n = ⊥
 
 -- what was left when the run ended so

@@ -135,7 +135,7 @@ GoesOnward (turn.Replied reply) = Unit {0}
 -- What the run from a started session comes to: how it ended, and what it leaves of source, sink and disk.
 pub record ScriptAnswered (limit : ℕ) (session : Parts) (s : Status) (start now : Outside) (crashes : (List ℕ → List ℕ → Type 0) → Type 0) : Type 0 where
   pub served : (image : List ℕ) (m : MachineState) → start.image ≡ Some image → StandsFor session image m → (x : Served m s start now crashes) × ReadsNoMore (λ n. n ≡ 0) x
-  pub replies : GainsReplies s start.written now.written
+  pub replies : GainsReplies s session.names start.written now.written
   pub told : is_some now.image ≡ is_some start.image
   pub exact : s ≢ status.DiskFault → StaysTidy start.image now.image
   pub begun : IsBegun s

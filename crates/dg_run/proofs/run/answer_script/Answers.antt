@@ -13,14 +13,14 @@ use Rattle.dg_run.proofs.TakenRuns.{all_whole, before_others, entries_taken, tak
 use Rattle.dg_cuts.proofs.TakenEntries.{took_none}
 use Rattle.dg_run.specs.Calls.{TakesEntries}
 use Rattle.dg_run.proofs.ServedRuns.{asked_first, at_err, at_ok, over_first, over_skip, over_on, over_cut, over_broken, over_part, silent_on, silent_skip}
-use Rattle.dg_run.proofs.WrittenReplies.{none_so_far, one_more_reply, part_gained, replies_gained}
+use Rattle.dg_run.proofs.WrittenReplies.{names_later, none_so_far, one_more_reply, part_gained, replies_gained}
 use Rattle.dg_run.proofs.run.answer_script.Goals as goal
 
 pub loop-reply-init : goal.loop-reply-init
 loop-reply-init g c = record {
   going = over_first _ _ _ _ _ _ (TakesEntries g.S.Source [] c.new-lines.result c.args.source.now c.new-lines.result c.args.source.now) _ (LeftByCrash g.D.Disk c.args.disk.now c.args.disk.now)
       (took_none c.new-lines.result (g.S.Source.left c.args.source.now)) (asked_first c.new-lines.result (g.S.Source.left c.args.source.now) c.args.limit c.new-lines.ensures) (stays_here g.D.Disk g.met.D.Disk.only_now c.args.disk.now);
-  replies = none_so_far (g.K.Sink.written c.args.sink.now);
+  replies = none_so_far c.args.session.now.parts.names (g.K.Sink.written c.args.sink.now);
   on_device = λ on. on;
   exact = λ tidy. tidy;
   told = refl;
@@ -42,7 +42,7 @@ loop-reply-preserved-in-Ok-Skipped g c =
           l.invariant.going turn.0 turn.1 turn.2 c.next_turn.ensures.disk.counted turn.3
           (λ es took. took_no_more es c.new-lines.result l.lines c.next_turn.new.lines (g.S.Source.left c.args.source.now) (g.S.Source.left l.source) (g.S.Source.left c.next_turn.new.source) c.next_turn.ensures.lines.ended turn.5 took)
           (adds_turn g.D.Disk c.args.disk.now l.disk c.next_turn.new.disk (λ first left. left ≡ first) l.invariant.on_device turn.4);
-      replies = l.invariant.replies;
+      replies = names_later c.args.session.now.parts.names l.session.parts.names c.next_turn.new.session.parts.names (g.K.Sink.written c.args.sink.now) (g.K.Sink.written l.sink) l.invariant.replies made.keeps_names;
       on_device = λ on. made.settled (l.invariant.on_device on);
       exact = λ tidy. made.exact (l.invariant.exact tidy);
       told = c.next_turn.ensures.disk.told ∙ l.invariant.told;
@@ -68,7 +68,7 @@ loop-reply-preserved-else-is_err g c =
           (record { counted = c.next_turn.ensures.disk.counted; rose = made.store_read })
           (adds_turn g.D.Disk c.args.disk.now l.disk c.next_turn.new.disk (LeavesTurn turn.0 l.session.parts c.in-Ok-Replied.reply) l.invariant.on_device turn.4)
           (λ es took. took_more es (turn.0 ∷ []) c.new-lines.result l.lines c.next_turn.new.lines (g.S.Source.left c.args.source.now) (g.S.Source.left l.source) (g.S.Source.left c.next_turn.new.source) c.next_turn.ensures.lines.ended turn.5 took) turn.6;
-      replies = one_more_reply (g.K.Sink.written c.args.sink.now) (g.K.Sink.written l.sink) (g.K.Sink.written c.write_reply.new.sink) c.next_turn.new.session.parts.names c.in-Ok-Replied.reply l.invariant.replies made.named written;
+      replies = one_more_reply c.args.session.now.parts.names l.session.parts.names c.next_turn.new.session.parts.names (g.K.Sink.written c.args.sink.now) (g.K.Sink.written l.sink) (g.K.Sink.written c.write_reply.new.sink) c.in-Ok-Replied.reply l.invariant.replies made.keeps_names made.named written;
       on_device = λ on. made.settled (l.invariant.on_device on);
       exact = λ tidy. made.exact (l.invariant.exact tidy);
       told = c.next_turn.ensures.disk.told ∙ l.invariant.told;
@@ -94,7 +94,7 @@ loop-reply-preserved g c =
           (record { counted = c.next_turn.ensures.disk.counted; rose = made.store_read })
           (adds_turn g.D.Disk c.args.disk.now l.disk c.next_turn.new.disk (LeavesTurn turn.0 l.session.parts c.in-Ok-Replied.reply) l.invariant.on_device turn.4)
           (λ es took. took_more es (turn.0 ∷ []) c.new-lines.result l.lines c.next_turn.new.lines (g.S.Source.left c.args.source.now) (g.S.Source.left l.source) (g.S.Source.left c.next_turn.new.source) c.next_turn.ensures.lines.ended turn.5 took) turn.6;
-      replies = one_more_reply (g.K.Sink.written c.args.sink.now) (g.K.Sink.written l.sink) (g.K.Sink.written c.write_reply.new.sink) c.next_turn.new.session.parts.names c.in-Ok-Replied.reply l.invariant.replies made.named written;
+      replies = one_more_reply c.args.session.now.parts.names l.session.parts.names c.next_turn.new.session.parts.names (g.K.Sink.written c.args.sink.now) (g.K.Sink.written l.sink) (g.K.Sink.written c.write_reply.new.sink) c.in-Ok-Replied.reply l.invariant.replies made.keeps_names made.named written;
       on_device = λ on. made.settled (l.invariant.on_device on);
       exact = λ tidy. made.exact (l.invariant.exact tidy);
       told = c.next_turn.ensures.disk.told ∙ l.invariant.told;
@@ -125,7 +125,7 @@ returns-then-is_err g c =
             (widens_left g.D.Disk c.args.disk.now c.next_turn.new.disk)
             (λ es took. took_more es (turn.0 ∷ []) c.new-lines.result l.lines c.next_turn.new.lines (g.S.Source.left c.args.source.now) (g.S.Source.left l.source) (g.S.Source.left c.next_turn.new.source) c.next_turn.ensures.lines.ended turn.5 took) turn.6
             (λ es took. taken_uncut status.SinkFault es _ _ (λ e. cc) (λ e. cc) (entries_taken es c.new-lines.result c.next_turn.new.lines _ _ c.args.limit _ _ c.new-lines.ensures lines took));
-        replies = part_gained (g.K.Sink.written c.args.sink.now) (g.K.Sink.written l.sink) (g.K.Sink.written c.write_reply.new.sink) c.next_turn.new.session.parts.names c.in-Ok-Replied.reply l.invariant.replies made.named part;
+        replies = part_gained c.args.session.now.parts.names l.session.parts.names c.next_turn.new.session.parts.names (g.K.Sink.written c.args.sink.now) (g.K.Sink.written l.sink) (g.K.Sink.written c.write_reply.new.sink) c.in-Ok-Replied.reply l.invariant.replies made.keeps_names made.named part;
         told = c.next_turn.ensures.disk.told ∙ l.invariant.told;
         exact = λ other tidy. made.exact (l.invariant.exact tidy);
         begun = tt;
@@ -152,7 +152,7 @@ returns-in-Ok-End g c =
             (adds_turn g.D.Disk c.args.disk.now l.disk c.next_turn.new.disk (λ first left. left ≡ first) l.invariant.on_device turn.5))
             (widens_left g.D.Disk c.args.disk.now c.next_turn.new.disk)
             (c.next_turn.ensures.disk.told ∙ l.invariant.told) (λ failed. cc) (λ done. turn.0) (λ due is. is) (λ es took. took);
-        replies = replies_gained status.Done (g.K.Sink.written c.args.sink.now) (g.K.Sink.written l.sink) l.invariant.replies (λ due is. is);
+        replies = replies_gained status.Done c.args.session.now.parts.names l.session.parts.names (g.K.Sink.written c.args.sink.now) (g.K.Sink.written l.sink) l.invariant.replies (λ due is. is);
         told = c.next_turn.ensures.disk.told ∙ l.invariant.told;
         exact = λ other tidy. made.exact (l.invariant.exact tidy);
         begun = tt;
@@ -179,7 +179,7 @@ returns-in-Err-Read g c =
             (adds_turn g.D.Disk c.args.disk.now l.disk c.next_turn.new.disk (λ first left. left ≡ first) l.invariant.on_device (reads_leave g.D.Disk g.met.D.Disk.only_now l.disk c.next_turn.new.disk (unwritten (λ e. cc)))))
             (widens_left g.D.Disk c.args.disk.now c.next_turn.new.disk)
             (c.next_turn.ensures.disk.told ∙ l.invariant.told) (λ failed. cc) (λ done. cc) (λ due is. is) (λ es took. took);
-        replies = replies_gained status.SourceFault (g.K.Sink.written c.args.sink.now) (g.K.Sink.written l.sink) l.invariant.replies (λ due is. is);
+        replies = replies_gained status.SourceFault c.args.session.now.parts.names l.session.parts.names (g.K.Sink.written c.args.sink.now) (g.K.Sink.written l.sink) l.invariant.replies (λ due is. is);
         told = c.next_turn.ensures.disk.told ∙ l.invariant.told;
         exact = λ other tidy. same_tidy (g.D.Disk.image l.disk) (g.D.Disk.image c.next_turn.new.disk) stop.same_image (l.invariant.exact tidy);
         begun = tt;
@@ -208,7 +208,7 @@ returns-in-Err-Limit g c =
             (adds_turn g.D.Disk c.args.disk.now l.disk c.next_turn.new.disk (λ first left. left ≡ first) l.invariant.on_device (reads_leave g.D.Disk g.met.D.Disk.only_now l.disk c.next_turn.new.disk (unwritten (λ e. cc)))))
             (widens_left g.D.Disk c.args.disk.now c.next_turn.new.disk)
             (c.next_turn.ensures.disk.told ∙ l.invariant.told) (λ failed. cc) (λ done. cc) (λ due is. is) (λ es took. took);
-        replies = replies_gained status.ScriptLimit (g.K.Sink.written c.args.sink.now) (g.K.Sink.written l.sink) l.invariant.replies (λ due is. is);
+        replies = replies_gained status.ScriptLimit c.args.session.now.parts.names l.session.parts.names (g.K.Sink.written c.args.sink.now) (g.K.Sink.written l.sink) l.invariant.replies (λ due is. is);
         told = c.next_turn.ensures.disk.told ∙ l.invariant.told;
         exact = λ other tidy. same_tidy (g.D.Disk.image l.disk) (g.D.Disk.image c.next_turn.new.disk) stop.same_image (l.invariant.exact tidy);
         begun = tt;
@@ -233,7 +233,7 @@ returns-in-Err-Store g c =
             (adds_turn g.D.Disk c.args.disk.now l.disk c.next_turn.new.disk (CutsEntry breaks.0 l.session.parts) l.invariant.on_device breaks.3)
             (λ es took. taken_uncut status.DiskFault es _ _ (λ e. cc) (λ e. cc)
             (before_others es (breaks.0 ∷ []) c.new-lines.result l.lines c.next_turn.new.lines (g.S.Source.left c.args.source.now) (g.S.Source.left l.source) (g.S.Source.left c.next_turn.new.source) c.args.limit _ _ c.new-lines.ensures lines c.next_turn.ensures.lines.ended breaks.4 took));
-        replies = replies_gained status.DiskFault (g.K.Sink.written c.args.sink.now) (g.K.Sink.written l.sink) l.invariant.replies (λ due is. is);
+        replies = replies_gained status.DiskFault c.args.session.now.parts.names l.session.parts.names (g.K.Sink.written c.args.sink.now) (g.K.Sink.written l.sink) l.invariant.replies (λ due is. is);
         told = c.next_turn.ensures.disk.told ∙ l.invariant.told;
         exact = λ other. absurd (other refl);
         begun = tt;

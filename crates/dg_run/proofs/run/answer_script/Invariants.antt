@@ -18,7 +18,7 @@ invariant-loop-reply g l = record {
   going : GoingOver (g.D.Disk.image l.fn.disk) (g.S.Source.left l.fn.source) (g.K.Sink.written l.fn.sink) (g.D.Disk.faults l.fn.disk)
       l.fn.session.parts l.session.parts (g.D.Disk.image l.disk) (asked l.lines (g.S.Source.left l.source)) (g.K.Sink.written l.sink) (g.D.Disk.faults l.disk)
       (TakesEntries g.S.Source [] l.initial.lines l.fn.source l.lines l.source) (g.D.Disk.taken l.fn.disk) (g.D.Disk.taken l.disk) (LeftByCrash g.D.Disk l.fn.disk l.disk);
-  replies : RepliesSoFar (g.K.Sink.written l.fn.sink) (g.K.Sink.written l.sink);
+  replies : RepliesSoFar l.fn.session.parts.names l.session.parts.names (g.K.Sink.written l.fn.sink) (g.K.Sink.written l.sink);
   on_device : StaysOnDevice g.D.Disk l.fn.disk l.disk;
   exact : StaysTidy (g.D.Disk.image l.fn.disk) (g.D.Disk.image l.disk);
   told : is_some (g.D.Disk.image l.disk) ≡ is_some (g.D.Disk.image l.fn.disk);

@@ -27,7 +27,7 @@ returns-in-Ok g c =
     let settled = reads_stay c.start.new.disk c.expect_repeats.new.self c.expect_repeats.ensures.frame c.in-Ok.ensures.settled in
     record {
       promise = session_promise c.in-Ok.session c.law_begins_are_determined.ensures c.args.limits c.args.checked c.in-Ok.session.parts c.answer_script.result _ _ _ (LeftByCrash g.D.Disk c.expect_repeats.new.self c.answer_script.new.disk) _ refl refl refl refl begins.same_image
-          (λ rose. omega (arith, rose, begins.writes_counted)) (omega (arith, begins.counted))
+          (λ rose. omega (arith, rose, begins.writes_counted)) (omega (arith, begins.counted)) (subst (λ image. HoldsImage c.in-Ok.session.parts image) c.start.ensures.disk.same_image c.in-Ok.ensures.new.1)
           c.in-Ok.ensures.started c.in-Ok.ensures.stands c.in-Ok.ensures.checked
           (subst (λ n. c.args.checked ≡ false → IfSome (g.D.Disk.image c.args.disk.now) (λ image. TakesStart {E = SessionFault} (Ok c.in-Ok.session) image (g.D.Disk.taken c.args.disk.now) n)) (sym c.expect_repeats.ensures.same_taken) c.in-Ok.ensures.takes)
           (leads_on g.D.Disk g.met.D.Disk.only_now c.args.disk.now c.expect_repeats.new.self c.answer_script.new.disk begins settled) c.answer_script.ensures.answered;

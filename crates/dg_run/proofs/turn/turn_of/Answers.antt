@@ -48,6 +48,7 @@ returns-in_ok-step-in-Command-clause-turn g c = λ start comes.
       no_index = answers.no_index;
       store_read = λ e. (answers.store_read e).0;
       named = answers.named;
+      keeps_names = answers.keeps_names;
       settled = answers.settled;
       exact = answers.exact;
     }
