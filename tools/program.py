@@ -17,7 +17,7 @@ from pathlib import Path
 from time import monotonic
 from typing import IO, Callable, Iterable, Iterator, NoReturn, Optional, Sequence, TypeVar
 
-from clock import Clock, clock_of, seconds_of
+from clock import Clock, NoDate, noted, read_calendar, seconds_of, settled
 
 LAST_INSTANT = 2**63 - 1
 LARGEST_ID = 2**64 - 1
@@ -233,6 +233,7 @@ class Reader:
         self.program, self.index = program, index
         self.live: list[int] = []
         self.known_clock: Optional[Clock] = None
+        self.texts: dict[int, str] = {}  # of instants, as they were written
         self.session = self.start()
 
     def start(self) -> Session:
@@ -251,25 +252,54 @@ class Reader:
         """
         if text in ("first", "last"):
             return self.range()[text == "last"]
-        if text.isascii() and text.isdecimal():
-            return int(text)
         try:
-            if re.fullmatch("@-?[0-9]+", text):
-                return self.clock().last(int(text[1:]))
-            if "-" in text[1:]:
-                return self.clock().last(seconds_of(text))
+            if text.isascii() and text.isdecimal():
+                found = int(text)
+            elif re.fullmatch("@-?[0-9]+", text):
+                found = self.clock().last(int(text[1:]))
+            elif "-" in text[1:]:
+                found = self.clock().last(seconds_of(text))
+            else:
+                raise WrongInput(f"{text!r} is no instant, and no date as 2024-06-10")
+            self.texts[found] = text
+            return found
         except ValueError as error:
             raise WrongInput(error) from error
-        raise WrongInput(f"{text!r} is no instant, and no date as 2024-06-10")
+
+    @contextmanager
+    def told(self, times: Sequence[int]) -> Iterator[None]:
+        """Tells of instants that are out of range what was taken for them, and the range as dates."""
+        try:
+            yield
+        except Refused as refused:
+            if refused.name != "out-of-range" or refused.rest == ["empty"]:
+                raise
+            first, last = map(int, refused.rest)
+            time = next(time for time in times if not first <= time <= last)
+            text = self.texts.get(time, str(time))
+            words = f"{text} is out of range" if text == str(time) else f"{text} is instant {time}, out of range"
+            dated = "-" in text[1:] or re.fullmatch("[12][0-9]{3}", text) is not None
+            span = f"from {self.clock().text(first)} to {self.clock().text(last)}, the instants" if dated else "from"
+            words += f": the history goes {span} {first} to {last}"
+            if dated and text == str(time):
+                words += f"; a number is an instant: for the year write {text}-01-01"
+            raise ProgramFailed(f"{words} (refused 7 out-of-range {first} {last})") from refused
 
     def clock(self) -> Clock:
-        """What instants are: as the history itself tells, else seconds since 1970."""
+        """What instants are: as the history itself tells, else the file beside the index, else seconds since 1970.
+
+        Where the two contradict each other, it is a `WrongInput`.
+        """
         if self.known_clock is None:
             first = self.range()[0]
             handle = int(self.session.ask(f"at {first} sn").head[2])
-            notes = [values[CLOCK_KEY] for values in self.graph(handle).nodes.values() if CLOCK_KEY in values]
+            notes = [noted(values[CLOCK_KEY]) for values in self.graph(handle).nodes.values() if CLOCK_KEY in values]
             self.session.ask(f"release {handle}")
-            self.known_clock = next((clock for clock in map(clock_of, notes) if clock is not None), Clock())
+            note = next((clock for clock in notes if clock is not None), None)
+            try:
+                self.known_clock = settled(self.index, note, read_calendar(self.index)) or Clock()
+            except NoDate as error:
+                raise WrongInput(error) from error
         return self.known_clock
 
     def range(self) -> tuple[int, int]:
@@ -289,13 +319,15 @@ class Reader:
     def at(self, time: int, columns: str) -> int:
         """The handle of the graph as of an instant."""
         self.release()
-        self.live = [int(self.session.ask(f"at {time} {columns}").head[2])]
+        with self.told([time]):
+            self.live = [int(self.session.ask(f"at {time} {columns}").head[2])]
         return self.live[0]
 
     def several(self, times: Sequence[int], columns: str) -> list[int]:
         """The handles of the graphs as of up to 32 instants, which are read together."""
         self.release()
-        reply = self.session.ask(f"several {columns} {' '.join(map(str, times))}")
+        with self.told(times):
+            reply = self.session.ask(f"several {columns} {' '.join(map(str, times))}")
         self.live = [int(line.split(" ")[1]) for line in reply.lines()]
         return self.live[:]
 

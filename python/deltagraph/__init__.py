@@ -94,6 +94,7 @@ from .replies import (
 )
 from .snapshot import EdgeTable, Snapshot, Snapshots
 from .store import Store
+from .tables import BadTable, Report, from_csv, from_pandas
 
 __version__ = "0.1.0"
 __all__ = [
@@ -102,6 +103,7 @@ __all__ = [
     "AlreadyLoaded",
     "AnyChange",
     "BadChange",
+    "BadTable",
     "Calendar",
     "Change",
     "Closed",
@@ -113,6 +115,8 @@ __all__ = [
     "EdgeAttribute",
     "EdgeTable",
     "FileFull",
+    "from_csv",
+    "from_pandas",
     "Generated",
     "HandlesSpent",
     "HistoryFull",
@@ -147,6 +151,7 @@ __all__ = [
     "ProgramMissing",
     "Record",
     "Refused",
+    "Report",
     "RemoveEdge",
     "RemoveNode",
     "ScriptLimit",

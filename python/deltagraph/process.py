@@ -27,12 +27,18 @@ Program = Union[str, "os.PathLike[str]", Sequence[str], None]
 def find_program(given: Program = None) -> list[str]:
     """The words that start the program.
 
-    They are those given, a name or several words; else $DELTAGRAPH, `deltagraph` on the PATH, or the one that is
-    built in the checkout that this file lies in. Raises `ProgramMissing` where the first word names no program.
+    They are those given, a name or several words; else $DELTAGRAPH, the program that a wheel brought along,
+    `deltagraph` on the PATH, or the one that is built in the checkout that this file lies in. Raises `ProgramMissing`
+    where the first word names no program.
     """
-    built = Path(__file__).resolve().parents[2] / "crates" / "deltagraph" / "out" / "deltagraph"
+    here = Path(__file__).resolve()
+    own = here.parent / "bin" / "deltagraph"
+    built = here.parents[2] / "crates" / "deltagraph" / "out" / "deltagraph"
     if given is None:
-        given = os.environ.get("DELTAGRAPH") or shutil.which("deltagraph") or built
+        found_there = os.environ.get("DELTAGRAPH") or (own if own.is_file() else shutil.which("deltagraph"))
+        given = found_there or (built if built.is_file() else None)
+    if given is None:
+        raise ProgramMissing("the program `deltagraph` is not on the PATH; put it there, set $DELTAGRAPH, or name one")
     words = [os.fspath(given)] if isinstance(given, (str, os.PathLike)) else list(given)
     found = shutil.which(words[0])
     if found is None:

@@ -24,7 +24,7 @@ The commands are those of the script language (docs/SCRIPT.md), as
                   the messages of the instant are there too
   several COLS TIMES    list HANDLE    counts HANDLE    node HANDLE ID    neighbours HANDLE ID    release HANDLE
   load COUNT, append COUNT    with the changes in the COUNT lines that follow
-TIME is an instant, first or last of the history, or a date where there is a calendar. HANDLE may be last, which is the
+TIME is an instant, first or last of the history, or a date as 2015-03 or 2015-03-01. HANDLE may be last, which is the
 last one that was given. And there are
   find NAME [@TIME]        the nodes with this value, and its keys, as of the last instant or of TIME
   diff TIME TIME [COLS]    what the second graph has not (-) and has (+) beside the first
@@ -91,6 +91,7 @@ class FrontEnd:
         self._lines, self._over = lines, False
         self._number = 0  # of the last line that was read
         self._last: Optional[str] = None  # the last handle that was given
+        self._dated = typed  # whether instants are told as dates where the index tells its calendar
         self._own: dict[str, Callable[[str], None]] = {
             "find": self.find,
             "diff": self.diff,
@@ -151,13 +152,11 @@ class FrontEnd:
         print(f"{place}`{shown}`: {words}", file=sys.stderr, flush=True)
 
     def _words(self, refused: Refused) -> str:
-        calendar = self.store.calendar
-        words = refused.words()
         if isinstance(refused, BadChange):
-            words = refused.told
-        if isinstance(refused, OutOfRange) and calendar and refused.first is not None and refused.last is not None:
-            words = f"the history goes from {calendar.text(refused.first)} to {calendar.text(refused.last)}"
-        return f"{words} ({refused.head})"
+            return f"{refused.told} ({refused.head})"
+        if isinstance(refused, OutOfRange) and self._dated:
+            refused.calendar, refused.told = self.store.calendar, self.store.told_calendar() is not None
+        return f"{refused.words()} ({refused.head})"
 
     # Commands of the script language.
 
@@ -198,7 +197,10 @@ class FrontEnd:
             if span is None:
                 raise Wrong("the history has no event yet")
             return str(span.last if word == "last" else span.first)
-        return str(self.store.instant(word)) if re.match(r"[0-9]{4}-", word) else word
+        if re.match(r"[0-9]{4}-", word):
+            self._dated = True
+            return str(self.store.instant(word))
+        return word
 
     def _show(self, reply: Reply, following: list[bytes]) -> None:
         head = reply.head()
@@ -209,7 +211,8 @@ class FrontEnd:
             raise refused
         if head[1] in ("at", "materialise"):
             self._last = head[2]
-        calendar = self.store.calendar if self.typed else None
+        told = self.typed and (head[1] in WITH_LAST or head[1] == "several")
+        calendar = self.store.told_calendar() if told else None
         if calendar and head[1] in WITH_LAST:
             place = WITH_LAST[head[1]]
             head[place] = calendar.text(int(head[place]))
@@ -276,7 +279,7 @@ class FrontEnd:
             zero, _, unit = rest.rpartition(" ")
             self.store.set_calendar(zero, unit)
         calendar = self.store.calendar
-        told = "none" if calendar is None else f"{calendar.text(0)} {calendar.unit}"
+        told = f"{calendar.text(0)} {calendar.unit}"
         self._answer(f"ok :dates {told}", [])
 
     def help(self, rest: str) -> None:

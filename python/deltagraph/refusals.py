@@ -6,6 +6,7 @@ from typing import TYPE_CHECKING, Optional, Sequence
 from .failures import DeltagraphError
 
 if TYPE_CHECKING:
+    from .calendar import Calendar
     from .changes import Change
 
 REASONS = {
@@ -134,7 +135,13 @@ class BadChange(Refused):
 
 
 class OutOfRange(Refused):
-    """7: an instant is not in the history. `first` and `last` are its ends, or None where it has no event."""
+    """7: an instant is not in the history. `first` and `last` are its ends, or None where it has no event.
+
+    `calendar` is what tells the dates of the instants, where a date was asked for.
+    """
+
+    calendar: Optional["Calendar"] = None
+    told = True  # whether the index tells its calendar
 
     @property
     def first(self) -> Optional[int]:
@@ -145,9 +152,13 @@ class OutOfRange(Refused):
         return None if self.rest == ["empty"] else int(self.rest[1])
 
     def words(self) -> str:
-        if self.first is None:
+        first, last, calendar = self.first, self.last, self.calendar
+        if first is None or last is None:
             return "the history has no event yet"
-        return f"the history goes from {self.first} to {self.last}"
+        if calendar is None:
+            return f"the history goes from {first} to {last}"
+        words = f"the history goes from {calendar.text(first)} to {calendar.text(last)}, the instants {first} to {last}"
+        return words if self.told else words + ", taken as seconds since 1970; a number is taken as an instant"
 
 
 class UnknownHandle(Refused):

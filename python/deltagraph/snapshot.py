@@ -1,6 +1,8 @@
 """Graphs that the program holds by handles."""
 from __future__ import annotations
 
+import operator
+from datetime import datetime
 from itertools import chain
 from typing import TYPE_CHECKING, Any, Callable, Iterator, NamedTuple, Optional, TypeVar, Union
 
@@ -8,7 +10,10 @@ from . import replies
 from .replies import Counts, Edge, EdgeAttribute, Message, Neighbour, Node, NodeAttribute
 
 if TYPE_CHECKING:
+    from .arrays import Arrays
     from .store import Store
+
+NAME = "name"  # the key whose value is the name of a node
 
 Element = TypeVar("Element")
 
@@ -23,45 +28,126 @@ class EdgeTable(NamedTuple):
 
 
 class Snapshot:
-    """A graph that the program holds by a handle until it is released, or the store is closed.
+    """A graph that the program holds by a handle until it is released or forgotten, or the store is closed.
 
     `handle` is its number, `columns` what it has (`s`, with `n` or `e` the attributes of nodes or edges, and with `t` the
-    messages of exactly its instant), `weight` the bytes that lead to it. `time` is its instant; of a node of the index,
-    which `Store.materialise` holds, it is None, and `held` is that node. Such a one may be no graph, so `node` and
+    messages of exactly its instant), `bytes_read` how much of the file led to it. `time` is its instant; of a node of the
+    index, which `Store.materialise` holds, it is None, and `held` is that node. Such a one may be no graph, so `node` and
     `neighbours` are refused.
+
+    As in networkx, `len` is the number of nodes, `in` asks for a node, and a loop goes over the nodes. Where a node is
+    asked for, it is its id, or as a text its name: the value for the key `name`.
 
     Elements come as the program writes them. Other calls may be made while they come: what is left of a listing is then
     kept as bytes. A listing that is not read to its end is read and dropped.
     """
 
     def __init__(
-        self, store: "Store", handle: int, columns: str, weight: int, time: Optional[int], held: Optional[str] = None
+        self, store: "Store", handle: int, columns: str, bytes_read: int, time: Optional[int], held: Optional[str] = None
     ) -> None:
-        self.store, self.handle, self.columns, self.weight = store, handle, columns, weight
+        self.store, self.handle, self.columns, self.bytes_read = store, handle, columns, bytes_read
         self.time, self.held = time, held
         self.released = False
+        self._ids: Optional[dict[str, list[int]]] = None  # of each name
 
     def __repr__(self) -> str:
         of = f"time={self.time}" if self.held is None else f"held={self.held!r}"
         return f"<Snapshot handle={self.handle} {of} columns={self.columns!r}>"
 
+    def _repr_html_(self) -> str:
+        """How a notebook shows it: its date, its counts and, where it is small, a picture."""
+        from .picture import shown
+
+        return shown(self)
+
+    def __del__(self) -> None:
+        if not getattr(self, "released", True):
+            self.store.forget(self.handle, self.held is not None)
+
+    @property
+    def date(self) -> Optional[datetime]:
+        """The date of its instant, by the calendar of the store; None of a node of the index."""
+        return None if self.time is None else self.store.calendar.date(self.time)
+
+    def __len__(self) -> int:
+        return self.counts().nodes
+
+    def __bool__(self) -> bool:
+        return True  # also without a node
+
+    def __contains__(self, node: object) -> bool:
+        return isinstance(node, (int, str)) and self.node(node) is not None
+
+    def __iter__(self) -> Iterator[int]:
+        return self.nodes()
+
     def counts(self) -> Counts:
         """How many elements of each kind there are, without listing them."""
         return Counts(*map(int, self.store.ask(f"counts {self.handle}").head()[3:]))
 
-    def node(self, node: int) -> Optional[Node]:
-        """A node with its degree and its values, or None where the graph does not have it."""
-        reply = self.store.ask(f"node {self.handle} {node}")
+    def node(self, node: Union[int, str]) -> Optional[Node]:
+        """A node, by its id or its name, with its degree and its values, or None where the graph does not have it."""
+        number = self._id_of(node)
+        if number is None:
+            return None
+        reply = self.store.ask(f"node {self.handle} {number}")
         head = reply.head()
         if head[4] == "no":
             return None
         values = (line.split(" ", 2) for line in reply.lines())
-        return Node(node, int(head[5]), {key: value for _, key, value in values})
+        return Node(number, int(head[5]), {key: value for _, key, value in values})
 
-    def neighbours(self, node: int) -> list[Neighbour]:
+    def neighbours(self, node: Union[int, str]) -> list[Neighbour]:
         """The edges at a node, by their ids; none where the graph does not have it."""
-        lines = (line.split(" ") for line in self.store.ask(f"neighbours {self.handle} {node}").lines())
+        number = self._id_of(node)
+        if number is None:
+            return []
+        lines = (line.split(" ") for line in self.store.ask(f"neighbours {self.handle} {number}").lines())
         return [Neighbour(side, int(edge), int(other)) for side, edge, other in lines]
+
+    def degree(self, node: Union[int, str, None] = None) -> Any:
+        """The degree of a node, to which a loop gives one; without a node a dictionary of those of all nodes, by id.
+
+        Raises KeyError for a node that is not there.
+        """
+        if node is not None:
+            found = self.node(node)
+            if found is None:
+                raise KeyError(node)
+            return found.degree
+        degrees = dict.fromkeys(self.nodes(), 0)
+        for _, source, target, _ in self.edges():
+            degrees[source] += 1
+            if target != source:
+                degrees[target] += 1
+        return degrees
+
+    def find(self, name: str, key: str = "name") -> list[int]:
+        """The ids of the nodes with this value for a key, in order."""
+        if key != NAME:
+            return [value.node for value in self._with_values() if value.key == key and value.value == name]
+        if self._ids is None:
+            self._ids = {}
+            for value in self._with_values():
+                if value.key == NAME:
+                    self._ids.setdefault(value.value, []).append(value.node)
+        return self._ids.get(name, [])
+
+    def _with_values(self) -> Iterator[NodeAttribute]:
+        if "n" in self.columns or self.time is None:
+            yield from self.node_attributes()
+        else:
+            with self.store.at(self.time, "sn") as same:
+                yield from same.node_attributes()
+
+    def _id_of(self, node: Union[int, str]) -> Optional[int]:
+        """The id of a node, or None where no node has the name. A name of several nodes is a LookupError."""
+        if not isinstance(node, str):
+            return operator.index(node)
+        found = self.find(node)
+        if len(found) > 1:
+            raise LookupError(f"{len(found)} nodes are named {node!r}: {', '.join(map(str, found[:5]))}")
+        return found[0] if found else None
 
     def sections(self) -> Iterator[tuple[bytes, bytes]]:
         """The listing in pieces of whole lines of one kind each: the kind's word in the script, and the bytes."""
@@ -91,7 +177,7 @@ class Snapshot:
         """The messages of exactly its instant, by source, target and value; none where the columns have no `t`."""
         return chain.from_iterable(self._of_kind(b"msg", replies.messages_in))
 
-    def __iter__(self) -> Iterator[Union[int, Edge, NodeAttribute, EdgeAttribute, Message]]:
+    def elements(self) -> Iterator[Union[int, Edge, NodeAttribute, EdgeAttribute, Message]]:
         """All elements in element order, by one listing; a node is its id."""
         read: dict[bytes, Callable[[bytes], Iterator[Any]]] = {
             b"node": replies.nodes_in,
@@ -104,77 +190,63 @@ class Snapshot:
 
     def to_edges(self, arrays: bool = False) -> EdgeTable:
         """The edges as four columns: lists, or with `arrays` arrays of numpy. ImportError where it is not there."""
+        if arrays:
+            from .arrays import edges_of
+
+            return EdgeTable(*edges_of(b"".join(section for kind, section in self.sections() if kind == b"edge")))
         table = EdgeTable([], [], [], [])
         for kind, section in self.sections():
             if kind == b"edge":
                 for column, more in zip(table, replies.edge_columns(section)):
                     column.extend(more)
-        if not arrays:
-            return table
-        import numpy
+        return table
 
-        ids, sources, targets = (numpy.array(column, numpy.uint64) for column in table[:3])
-        return EdgeTable(ids, sources, targets, numpy.array(table.directed, bool))
+    def to_arrays(self) -> "Arrays":
+        """Nodes, edges and values as arrays of numpy. Raises ImportError where it is not there.
 
-    def to_networkx(self) -> Any:
+        The values of a key are numbers where all of them are written as numbers are, and else texts.
+        """
+        from .arrays import arrays_of
+
+        return arrays_of(self)
+
+    def to_networkx(self, label: Optional[str] = None, numbers: bool = True) -> Any:
         """A graph of networkx with the attributes of the columns. Raises ImportError where networkx is not there.
+
+        Nodes are their ids or, with a label as "name", their values for that key (and the id of a node without one). The
+        values of a key are numbers where all are written as numbers are; with `numbers` false they are texts.
 
         It is a MultiGraph where no edge has a direction, else a MultiDiGraph; the key of an edge is its id. In a
         MultiDiGraph an edge without a direction is two arcs of this key, both of them with its attributes. Messages are
         arcs of a MultiDiGraph too, with the keys `msg 0`, `msg 1` and so on, and the value as their attribute `message`;
         an end that was removed at that very instant, behind the message, is then a node without attributes.
         """
-        import networkx
+        from .exports import networkx_of
 
-        nodes: dict[int, dict[str, str]] = {}
-        edges: dict[int, tuple[Edge, dict[str, str]]] = {}
-        messages: list[Message] = []
-        for element in self:
-            if isinstance(element, int):
-                nodes[element] = {}
-            elif isinstance(element, Edge):
-                edges[element.id] = element, {}
-            elif isinstance(element, NodeAttribute):
-                nodes[element.node][element.key] = element.value
-            elif isinstance(element, Message):
-                messages.append(element)
-            else:
-                edges[element.edge][1][element.key] = element.value
-        directed = bool(messages) or any(edge.directed for edge, _ in edges.values())
-        graph = networkx.MultiDiGraph() if directed else networkx.MultiGraph()
-        graph.add_nodes_from(nodes.items())
-        graph.add_edges_from((edge.source, edge.target, edge.id, values) for edge, values in edges.values())
-        if directed:
-            back = ((edge, values) for edge, values in edges.values() if not edge.directed)
-            graph.add_edges_from((edge.target, edge.source, edge.id, values) for edge, values in back)
-        for number, (source, target, value) in enumerate(messages):
-            graph.add_edge(source, target, f"msg {number}", message=value)
-        return graph
+        return networkx_of(self, label, numbers)
 
-    def to_pandas(self) -> tuple[Any, Any]:
+    def to_igraph(self, label: Optional[str] = None, numbers: bool = True) -> Any:
+        """A graph of igraph with the attributes of the columns, and the ids of nodes and edges as their attribute `id`.
+
+        It is directed where an edge is; then an edge without a direction is two. With a label, the attribute `name` of
+        a node is its value for that key, and else that for the key `name` where there are any. Messages are left out.
+        Raises ImportError where igraph or numpy is not there.
+        """
+        from .exports import igraph_of
+
+        return igraph_of(self, label, numbers)
+
+    def to_pandas(self, label: Optional[str] = None, numbers: bool = True) -> tuple[Any, Any]:
         """Two frames of pandas, of nodes and of edges, by their ids, with a column for each key; messages are left out.
 
         The frame of edges begins with `source`, `target` and `directed`; a key of one of these names stands there with
-        `value_` before it. What has no value is missing. Raises ImportError where pandas is not there.
+        `value_` before it. With a label as "name", source and target are the nodes' values for that key. The values of a
+        key are numbers where all are written as numbers are; what has no value is missing. Raises ImportError where
+        pandas is not there.
         """
-        import pandas
+        from .exports import pandas_of
 
-        nodes: dict[int, dict[str, object]] = {}
-        edges: dict[int, dict[str, object]] = {}
-        for element in self:
-            if isinstance(element, int):
-                nodes[element] = {}
-            elif isinstance(element, Edge):
-                edges[element.id] = {name: getattr(element, name) for name in ("source", "target", "directed")}
-            elif isinstance(element, NodeAttribute):
-                nodes[element.node][element.key] = element.value
-            elif isinstance(element, EdgeAttribute):
-                own = element.key in ("source", "target", "directed")
-                edges[element.edge][f"value_{element.key}" if own else element.key] = element.value
-        return tuple(
-            pandas.DataFrame(list(rows.values()), index=pandas.Index(list(rows), name="id", dtype="uint64"))
-            for rows in (nodes, edges)
-        )  # type: ignore[return-value]
+        return pandas_of(self, label, numbers)
 
     def release(self) -> None:
         """Gives the handle up, and nothing where it was given up before. Its memory comes back by `Store.clean`.
@@ -209,12 +281,18 @@ class Snapshot:
 class Snapshots(list[Snapshot]):
     """The graphs of one `Store.several`, in the order of their instants.
 
-    `weight` is the bytes of the tree that leads to all of them, and `sum` those of their single plans together.
+    `bytes_read` is how much of the file led to all of them, and `bytes_singly` how much would lead to each alone.
     """
 
-    def __init__(self, snapshots: list[Snapshot], weight: int, sum: int) -> None:
+    def __init__(self, snapshots: list[Snapshot], bytes_read: int, bytes_singly: int) -> None:
         super().__init__(snapshots)
-        self.weight, self.sum = weight, sum
+        self.bytes_read, self.bytes_singly = bytes_read, bytes_singly
+
+    def add(self, more: "Snapshots") -> None:
+        """Takes the graphs of a further run."""
+        self.extend(more)
+        self.bytes_read += more.bytes_read
+        self.bytes_singly += more.bytes_singly
 
     def release(self) -> None:
         """Gives all the handles up."""

@@ -2,16 +2,29 @@
 from __future__ import annotations
 
 import importlib.util
+import operator
 import os
 import sys
-from datetime import date, datetime
-from typing import Any, Callable, Iterable, Optional, Sequence, Union
+from collections import deque
+from itertools import islice
+from typing import TYPE_CHECKING, Any, Callable, Iterable, Iterator, Optional, Sequence, TypeVar, Union
 
-from .calendar import Calendar, Date, NoDate, calendar_of, read_calendar, write_calendar
+from .calendar import (
+    NOTE_KEY,
+    Calendar,
+    Date,
+    NoDate,
+    calendar_of,
+    is_date,
+    noted,
+    read_calendar,
+    settled,
+    write_calendar,
+)
 from .changes import AnyChange, batches, change_of, check_instants
 from .failures import Closed, ProgramEnded, WrongProgram
 from .process import Process, Program, Reply, find_program
-from .refusals import BadChange, NoIndex, OutOfRange, refusal
+from .refusals import BadChange, NoIndex, OutOfRange, Refused, refusal
 from .replies import (
     Generated,
     Loaded,
@@ -27,10 +40,14 @@ from .replies import (
     step_or_potential,
 )
 from .snapshot import Snapshot, Snapshots
-from .words import LARGEST_BATCH, LAST_INSTANT, MOST_INSTANTS, bytes_of, lines_after
+from .words import COLUMNS, LARGEST_BATCH, LAST_INSTANT, MOST_INSTANTS, bytes_of, lines_after
 
-Time = Union[int, date, datetime, str]
+if TYPE_CHECKING:
+    from .history import History
+
+Time = Union[int, Date]
 Progress = Callable[[int], None]
+Result = TypeVar("Result")
 
 SHOWN_AFTER = 1.0  # seconds, from which on a load shows a bar
 
@@ -39,11 +56,12 @@ class Store:
     """A run of the program over one index file, by `deltagraph.open`.
 
     A refusal of the program is an exception (`refusals`), and so is its end (`failures`); after a refusal the store
-    goes on. `index` is the path, and `calendar` tells which dates the instants are, where the index has one.
+    goes on. `index` is the path, and `calendar` tells which dates the instants are.
 
-    A time is an instant, or with a calendar a date: text, a date or a datetime. `columns` is what is retrieved: `s`,
-    the nodes and edges, with `n` the attributes of nodes and with `e` those of edges (`s`, `sn`, `se`, `sne`);
-    `at` and `several` take a `t` behind them for the messages of the instant.
+    A time is an instant, as a number, or a date: a text as "2023", "2023-06", "2023-06-10" or "2023-06-10T12:30", a date
+    or datetime of Python, a Timestamp of pandas or a datetime64 of numpy. `columns` is what is retrieved: `s`, the nodes
+    and edges, with `n` the attributes of nodes and with `e` those of edges (`s`, `sn`, `se`, `sne`); `at` and `several`
+    take a `t` behind them for the messages of the instant.
 
     One thread at a time may use it.
     """
@@ -52,7 +70,11 @@ class Store:
         self, index: Union[str, "os.PathLike[str]"], program: Program = None, checked: bool = False, cache: int = 0
     ) -> None:
         self.index = os.fspath(index)
-        self.calendar: Optional[Calendar] = read_calendar(self.index)
+        self.report: Any = None  # of the table that the index was made of, by `from_pandas` or `from_csv`
+        self._beside = read_calendar(self.index)
+        self._note: Optional[Calendar] = None  # what the index itself tells
+        self._note_read = False  # whether it was asked
+        self._forgotten: deque[tuple[int, bool]] = deque()  # handles of snapshots that nobody has any more
         self._program, self._checked, self._cache = find_program(program), checked, cache
         self._process: Optional[Process] = None
         self._closed = False
@@ -101,6 +123,8 @@ class Store:
             if not command.startswith("create ") and not os.path.exists(self.index):
                 raise NoIndex(["refused", "2", "no-index"], command)
             process = self._start()
+        if self._forgotten:
+            self._release_forgotten(process)
         reply = process.send(command, following)
         if short:
             process.end_script()
@@ -122,6 +146,20 @@ class Store:
             reply.finish()
         return reply
 
+    def forget(self, handle: int, held: bool) -> None:
+        """Gives a handle up before the next command; `held` where it holds a node of the index."""
+        self._forgotten.append((handle, held))
+
+    def _release_forgotten(self, process: Process) -> None:
+        rested_on = []
+        while self._forgotten:
+            handle, held = self._forgotten.popleft()
+            reply = process.send(f"release {handle}")
+            if held and reply.head()[0] == "refused":  # a live handle rests on it still
+                rested_on.append((handle, held))
+            reply.drop()
+        self._forgotten.extend(rested_on)
+
     def close(self) -> None:
         """Ends the session. Raises `ProgramEnded` where the program ends with another status than 0."""
         self._closed = True
@@ -136,19 +174,61 @@ class Store:
 
     # Times.
 
+    @property
+    def calendar(self) -> Calendar:
+        """What instants are: as the index tells, by its own note or the file beside it, else seconds since 1970.
+
+        Raises `NoDate` where note and file contradict each other.
+        """
+        return self.told_calendar() or Calendar()
+
+    def told_calendar(self) -> Optional[Calendar]:
+        """What the index tells of its instants, by its own note or the file beside it, or None where it tells nothing.
+
+        The first call reads the first graph, so that the next handle has a higher number.
+        """
+        note = self._noted()
+        return settled(self.index, note, self._beside)
+
+    def _noted(self) -> Optional[Calendar]:
+        """What the index itself tells."""
+        if self._note_read or not os.path.exists(self.index):
+            return self._note
+        span = self.span()
+        if span is not None:
+            with self.at(span.first, "sn") as first:
+                notes = (noted(value.value) for value in first.node_attributes() if value.key == NOTE_KEY)
+                self._note = next((note for note in notes if note is not None), None)
+            self._note_read = True
+        return self._note
+
     def instant(self, time: Time) -> int:
-        """The instant of a time. Raises `NoDate` for a date where there is no calendar."""
-        if not isinstance(time, (date, str)):
-            return time
-        if self.calendar is None:
-            raise NoDate(f"{time} is no instant, and the index has no calendar to tell which one it is")
-        return self.calendar.instant(time)
+        """The instant of a time. Raises `NoDate` for a date that is none, or that is before instant 0.
+
+        A number is an instant as it is, and a number with a fraction a TypeError.
+        """
+        if is_date(time):
+            return self.calendar.instant(time)
+        try:
+            return operator.index(time)
+        except TypeError:
+            raise TypeError(f"{time!r} is no time: times are whole numbers, or dates") from None
+
+    def dates(self, *instants: int) -> list[str]:
+        """Instants as dates."""
+        return [self.calendar.text(instant) for instant in instants]
 
     def set_calendar(self, zero: Date, unit: str) -> Calendar:
-        """Says which moment instant 0 is, and the unit of instants, and keeps both in a file beside the index."""
-        self.calendar = calendar_of(zero, unit)
-        write_calendar(self.index, self.calendar)
-        return self.calendar
+        """Says which moment instant 0 is, and the unit of instants, and keeps both in a file beside the index.
+
+        Raises `NoDate` where the index itself tells otherwise.
+        """
+        calendar, note = calendar_of(zero, unit), self._noted()
+        if note is not None and not note.same(calendar):
+            raise NoDate(f"the index itself tells that instant 0 is {note.text(0)} and that instants are {note.unit}")
+        write_calendar(self.index, zero, unit)
+        self._beside = calendar
+        return calendar
 
     def span(self) -> Optional[Span]:
         """The first and the last instant of the history, or None where it has no event."""
@@ -253,24 +333,91 @@ class Store:
     def at(self, time: Time, columns: str = "s") -> Snapshot:
         """The graph as of a time; with a `t` at the end of the columns, as `st`, with the messages of exactly that time."""
         instant = self.instant(time)
-        _, _, handle, weight = self.ask(f"at {instant} {columns}").head()
-        return Snapshot(self, int(handle), columns, int(weight), instant)
+        _, _, handle, read = self._ask_of(f"at {instant} {_known(columns)}", time).head()
+        return Snapshot(self, int(handle), columns, int(read), instant)
 
     def several(self, times: Iterable[Time], columns: str = "s") -> Snapshots:
-        """The graphs as of 1 to 32 times, by one tree that reads each record once. ValueError for another number."""
+        """The graphs as of some times, in their order, 32 together by a tree that reads each record once.
+
+        All of them live at once, so that there are at most 127; `series` and `each` take any number.
+        """
+        found = Snapshots([], 0, 0)
+        given = iter(times)
+        try:
+            while run := list(islice(given, MOST_INSTANTS)):
+                found.add(self._run(run, columns))
+        except Refused:
+            found.release()
+            raise
+        return found
+
+    def _run(self, times: Sequence[Time], columns: str) -> Snapshots:
         instants = [self.instant(time) for time in times]
-        if not 1 <= len(instants) <= MOST_INSTANTS:
-            raise ValueError(f"graphs are retrieved at 1 to {MOST_INSTANTS} times together, and not at {len(instants)}")
-        reply = self.ask(f"several {columns} {' '.join(map(str, instants))}")
-        _, _, weight, total = reply.head()
+        reply = self._ask_of(f"several {_known(columns)} {' '.join(map(str, instants))}", *times)
+        _, _, read, singly = reply.head()
         found = [list(map(int, line.split(" ")[1:])) for line in reply.lines()]
         snapshots = [Snapshot(self, handle, columns, single, instant) for handle, instant, single in found]
-        return Snapshots(snapshots, int(weight), int(total))
+        return Snapshots(snapshots, int(read), int(singly))
+
+    def each(self, times: Iterable[Time], f: Callable[[Snapshot], Result], columns: str = "s") -> Iterator[Result]:
+        """What a function says of the graph as of each of any number of times, in their order.
+
+        The graphs are retrieved 32 together, and released and cleaned away before the next ones.
+        """
+        given = iter(times)
+        while run := list(islice(given, MOST_INSTANTS)):
+            with self._run(run, columns) as snapshots:
+                for snapshot in snapshots:
+                    yield f(snapshot)
+                    snapshot.release()
+            self.clean()
+
+    def series(self, times: Iterable[Time], f: Callable[[Snapshot], Any] = Snapshot.counts, columns: str = "s") -> Any:
+        """What a function says of the graph as of each of any number of times, as a frame of pandas by these times.
+
+        A function that gives a dictionary or a named tuple, as `Snapshot.counts`, makes a column of each of its names;
+        any other makes a Series. Raises ImportError where pandas is not there; `each` needs none.
+        """
+        import pandas
+
+        given = list(times)
+        found = list(self.each(given, f, columns))
+        index = pandas.Index(pandas.to_datetime(given) if given and all(map(is_date, given)) else given, name="time")
+        if found and hasattr(found[0], "_fields"):
+            return pandas.DataFrame(found, index, found[0]._fields).dropna(axis="columns", how="all")
+        if found and isinstance(found[0], dict):
+            return pandas.DataFrame(found, index)
+        return pandas.Series(found, index, name=getattr(f, "__name__", None), dtype=None if found else object)
+
+    def _ask_of(self, command: str, *times: Time) -> Reply:
+        """The reply to a command that names times; where they are dates, a refusal tells the history's."""
+        try:
+            return self.ask(command)
+        except OutOfRange as refused:
+            if any(map(is_date, times)):
+                refused.calendar, refused.told = self.calendar, self.told_calendar() is not None
+            raise
+
+    def history(self) -> "History":
+        """The whole history, as spells and changes: what there was, from when to when. It is read from the file.
+
+        Nothing of this reading is proved, and it takes the file as it is: `verify` first. Raises ImportError where
+        numpy is not there.
+        """
+        from .history import History
+
+        if not os.path.exists(self.index):
+            raise NoIndex(["refused", "2", "no-index"], "history")
+        return History(self.index, self.told_calendar())
+
+    def changes(self) -> Any:
+        """All changes of the history in their order, as a frame of pandas (`History.changes`)."""
+        return self.history().changes()
 
     def materialise(self, node: str, columns: str = "s") -> Snapshot:
         """Holds a node of the index, `leaf 3` or `inner 2 1`, from which later retrievals go on for nothing."""
-        _, _, handle, weight = self.ask(f"materialise {node} {columns}").head()
-        return Snapshot(self, int(handle), columns, int(weight), None, node)
+        _, _, handle, read = self.ask(f"materialise {node} {columns}").head()
+        return Snapshot(self, int(handle), columns, int(read), None, node)
 
     def pool(self) -> Pool:
         """How many handles live, and how many elements are in memory for them and for the current graph."""
@@ -290,7 +437,7 @@ class Store:
 
     def plan(self, time: Time, columns: str = "s") -> Plan:
         """The cheapest way through the index to the graph as of a time, with the potentials that show it."""
-        reply = self.ask(f"plan {self.instant(time)} {columns}")
+        reply = self._ask_of(f"plan {self.instant(time)} {columns}", time)
         steps: list[Step] = []
         potentials: list[Potential] = []
         for part in map(step_or_potential, reply.lines()):
@@ -323,6 +470,13 @@ class Store:
         if told == "sound":
             return Verification(True, int(rest[0]), None, None)
         return Verification(False, None, " ".join(rest[:-1]), rest[-1])
+
+
+def _known(columns: str) -> str:
+    """Columns that there are. Others are a ValueError."""
+    if (columns[:-1] if columns.endswith("t") else columns) not in COLUMNS:
+        raise ValueError(f"{columns!r} are no columns: they are {', '.join(COLUMNS)}, and with a t behind them messages")
+    return columns
 
 
 def _bar(wanted: Optional[bool], total: Optional[int]) -> Any:

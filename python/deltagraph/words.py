@@ -14,6 +14,7 @@ LONGEST_VALUE = 1024  # bytes
 LONGEST_LINE = 4096  # bytes
 LARGEST_BATCH = 1 << 20  # lines
 MOST_INSTANTS = 32  # of one `several`
+COLUMNS = ("s", "sn", "se", "sne")  # of a graph: structure, attributes of nodes, of edges
 
 NUMBER = r"(?:0|[1-9][0-9]*)"
 WITH_LINES = re.compile(rf"(?:(load|append)|certify {NUMBER} (?:s|sn|se|sne)) ({NUMBER})", re.ASCII)

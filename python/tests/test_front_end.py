@@ -105,10 +105,10 @@ class Scripts(FrontEnd):
         self.assertIn("`diff 1 99`: the history goes from 10 to 40", told)
 
     def test_dates(self) -> None:
-        script = b"at 2020-01-11 s\n:dates 2020-01-01 days\n:dates\nat 2020-01-21 s\ncounts last\nseveral s 2020-01-11 2020-02-10\n"
+        script = b":dates\n:dates 2020-01-01 days\n:dates\nat 2020-01-21 s\ncounts last\nseveral s 2020-01-11 2020-02-10\n"
         status, replies, told = self.run_script(CHANGES + script + b"at 2019-01-01 s\nat 2020-13-01 s\n")
-        self.assertIn(b"refused 0 unsent\nend\nok :dates 2020-01-01 days\nend\n", replies)
-        self.assertIn(b"ok counts 1 3 1 0 0\nend\n", replies)
+        self.assertIn(b"ok :dates 1970-01-01 seconds\nend\nok :dates 2020-01-01 days\nend\n", replies)
+        self.assertIn(b"ok counts 2 3 1 0 0\nend\n", replies)
         self.assertIn("line 16, `at 2019-01-01 s`: 2019-01-01 is before 2020-01-01", told)
         status, replies, told = self.run_script(b"diff 2020-01-11 last s\nat 2021-01-01 s\n")
         self.assertIn(b"ok diff 0 3\n", replies)
@@ -225,7 +225,7 @@ class Terminals(FrontEnd):
         self.assertEqual(self.say(b"foo"), b"`foo`: this is no command from column 1 on (refused 1 syntax 1)")
         self.assertEqual(self.say(b":dates 2020-01-01 days"), b"ok :dates 2020-01-01 days")
         self.assertIn(b"from 2020-01-11 to 2020-02-10", self.say(b"at 2019-12-31 s") + self.say(b"at 2021-01-01 s"))
-        self.assertIn(b"handle 3 2020-02-10 0", self.say(b"several s 2020-01-11 last"))
+        self.assertIn(b"handle 4 2020-02-10 0", self.say(b"several s 2020-01-11 last"))
         self.say(b"append 2", b"... ")
         self.say(b"50 +node 8", b"... ")
         self.assertEqual(self.say(b"50 +node 9"), b"ok append 2 9 2020-02-20")

@@ -108,13 +108,13 @@ class Histories(Case):
             times = sorted([*times, pick.choice(sorted(model.messages))])
         with store.several(times, columns + heard) as snapshots:
             self.assertEqual([snapshot.time for snapshot in snapshots], times)
-            self.assertEqual(snapshots.sum, sum(snapshot.weight for snapshot in snapshots))
+            self.assertEqual(snapshots.bytes_singly, sum(snapshot.bytes_read for snapshot in snapshots))
             for snapshot, time in zip(snapshots, times):
                 self.same(snapshot, model.graph(time), columns, pick, model.messages.get(time, set()) if heard else None)
         with store.at(times[0], columns) as snapshot:
             self.same(snapshot, model.graph(times[0]), columns, pick, None)
             plan = store.plan(times[0], columns)
-            self.assertEqual(plan.weight, snapshot.weight)
+            self.assertEqual(plan.weight, snapshot.bytes_read)
             self.assertEqual(sum(step.weight for step in plan.steps), plan.weight)
             self.assertEqual(store.certify(times[0], columns, plan), (True, "valid"))
         self.assertEqual(store.pool().live, 0)
@@ -147,7 +147,9 @@ class Histories(Case):
             listed = list(listed)
             self.assertEqual(sorted(listed), sorted(values))
             self.assertEqual([owner for owner, _, _ in listed], sorted(owner for owner, _, _ in values))
-        elements = list(found)
+        elements = list(found.elements())
+        self.assertEqual((list(found), len(found)), (sorted(due.nodes), len(due.nodes)))
+        self.assertEqual(found.degree(), {node: len(due.at(node)) for node in sorted(due.nodes)})
         self.assertEqual(elements[: len(due.nodes) + len(edges)], [*sorted(due.nodes), *edges])
         self.assertEqual(len(list(found.lines())), len(elements))
         for node in pick.sample(sorted(due.nodes), min(3, len(due.nodes))):

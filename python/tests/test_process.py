@@ -26,7 +26,7 @@ class LongReplies(Case):
             self.assertEqual(sum(1 for edge in snapshot.edges() if edge[1:] == (1, 2, True)), LONG)
             self.assertEqual(sum(edge.id for edge in snapshot.edges()), LONG * (LONG - 1) // 2)
             self.assertEqual(sum(1 for value in snapshot.node_attributes() if value[1:] == ("name", "a name")), LONG)
-            self.assertEqual(sum(1 for _ in snapshot), 3 * LONG)
+            self.assertEqual(sum(1 for _ in snapshot.elements()), 3 * LONG)
             self.assertEqual(sum(1 for _ in snapshot.lines()), 3 * LONG)
             self.assertEqual([len(column) for column in snapshot.to_edges()], [LONG] * 4)
 
@@ -63,8 +63,8 @@ class LongReplies(Case):
         with self.open() as store:
             store.create()
             store.workload(7, 800)
-            store.at(1100, "sn")
-            replies = [store.send(f"node 1 {node}") for node in range(3000)]
+            kept = store.at(1100, "sn")  # one that is forgotten gives its handle up
+            replies = [store.send(f"node {kept.handle} {node}") for node in range(3000)]
             self.assertEqual([int(reply.head()[3]) for reply in replies], list(range(3000)))
 
     def test_many_batches(self) -> None:

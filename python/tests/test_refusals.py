@@ -76,7 +76,7 @@ class Refusals(Case):
             self.refused(deltagraph.AlreadyLoaded, store.load, ["60 +node 9"])
             self.refused(deltagraph.AlreadyLoaded, store.workload, 1, 8)
             self.assertEqual(self.refused(deltagraph.OutOfRange, store.several, [20, 51]).last, 50)
-            self.assertEqual(self.refused(deltagraph.Syntax, store.at, 20, "ns").column, 7)
+            self.assertEqual(self.refused(deltagraph.Syntax, store.ask, "at 20 ns").column, 7)
             self.assertEqual(self.refused(deltagraph.Syntax, store.ask, "lists 1").column, 5)
             self.refused(deltagraph.LineLong, store.ask, "at " + "1" * 4096)
             self.refused(deltagraph.UnknownNode, store.materialise, "leaf 3")
@@ -96,21 +96,20 @@ class Refusals(Case):
             self.assertEqual(self.refused(deltagraph.NotAnOverlay, base.node, 1).handle, base.handle)
             self.refused(deltagraph.NotAnOverlay, base.neighbours, 1)
             resting = store.at(20)
-            self.assertEqual(resting.weight, 0)
+            self.assertEqual(resting.bytes_read, 0)
             self.assertEqual(self.refused(deltagraph.InUse, base.release).handle, resting.handle)
             resting.release()
             resting.release()
             base.release()
             self.refused(deltagraph.UnknownHandle, resting.counts)
             self.refused(deltagraph.UnknownHandle, lambda: next(resting.nodes()))
-            for _ in range(126):
-                store.at(50)
+            kept = [store.at(50) for _ in range(126)]
             refused = self.refused(deltagraph.PoolFull, store.several, [10, 20])
             self.assertEqual((refused.live, refused.asked), (126, 2))
-            with self.assertRaises(ValueError):
-                store.several([])
-            with self.assertRaises(ValueError):
-                store.several([10] * 33)
+            self.assertEqual(store.several([]), [])
+            kept.clear()
+            self.assertEqual(store.pool().live, 0)
+            self.assertEqual([of.time for of in store.several([10] * 100)], [10] * 100)
 
     def test_damage_is_named(self) -> None:
         with self.open() as store:

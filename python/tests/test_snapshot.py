@@ -34,7 +34,7 @@ class Snapshots(Case):
         self.store.load(CHANGES)
 
     def test_elements_in_their_order(self) -> None:
-        found = list(self.store.at(30, "sne"))
+        found = list(self.store.at(30, "sne").elements())
         self.assertEqual(found[:4], [1, 2, deltagraph.Edge(5, 1, 2, True), deltagraph.Edge(6, 1, 1, False)])
         self.assertEqual(found[4], deltagraph.NodeAttribute(1, "name", "Ada"))
         self.assertEqual(found[5], deltagraph.EdgeAttribute(5, "source", "here"))
@@ -55,8 +55,8 @@ class Snapshots(Case):
 
     def test_weights_of_several(self) -> None:
         snapshots = self.store.several([10, 20, 30], "sne")
-        self.assertEqual(snapshots.sum, sum(snapshot.weight for snapshot in snapshots))
-        self.assertLessEqual(snapshots.weight, snapshots.sum)
+        self.assertEqual(snapshots.bytes_singly, sum(snapshot.bytes_read for snapshot in snapshots))
+        self.assertLessEqual(snapshots.bytes_read, snapshots.bytes_singly)
 
     def test_the_index(self) -> None:
         tree = self.store.tree()
@@ -71,7 +71,7 @@ class Snapshots(Case):
             self.assertEqual(store.certify(20, "s", ["step 2 list 0 42", "step 4 leaf 1 0"]), (False, "potential root"))
             self.assertEqual(store.certify(20, "s", ["nothing"]), (False, "line 1"))
             self.assertEqual([record.key for record in store.tree().records][:2], ["list 0", "list 1"])
-            self.assertEqual(store.several([20, 30, 20]).weight, 66)
+            self.assertEqual(store.several([20, 30, 20]).bytes_read, 66)
 
     def test_generated_changes(self) -> None:
         with self.open(self.folder / "workload.dg") as store:
@@ -98,8 +98,11 @@ class Snapshots(Case):
         self.assertEqual(edges.loc[5, "value_source"], "here")
 
     def test_packages_that_are_not_there(self) -> None:
-        with mock.patch.dict(sys.modules, {"networkx": None, "numpy": None, "pandas": None}):
+        with mock.patch.dict(sys.modules, {"networkx": None, "numpy": None, "pandas": None, "igraph": None}):
+            sys.modules.pop("deltagraph.arrays", None)
             snapshot = self.store.at(30)
-            for run in (snapshot.to_networkx, lambda: snapshot.to_edges(arrays=True), snapshot.to_pandas):
+            arrays = lambda: snapshot.to_edges(arrays=True)  # noqa: E731
+            exports = snapshot.to_networkx, snapshot.to_pandas, snapshot.to_igraph, snapshot.to_arrays
+            for run in (*exports, arrays, self.store.history, lambda: self.store.series([30])):
                 with self.assertRaises(ImportError):
                     run()

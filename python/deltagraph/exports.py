@@ -1,0 +1,142 @@
+"""Graphs for networkx, igraph and pandas."""
+from __future__ import annotations
+
+import re
+from typing import TYPE_CHECKING, Any, Optional
+
+from .calendar import NOTE_KEY, noted
+from .replies import Edge, EdgeAttribute, Message, NodeAttribute
+from .snapshot import NAME
+
+if TYPE_CHECKING:
+    from .snapshot import Snapshot
+
+WHOLE_NUMBER = re.compile(r"0|-?[1-9][0-9]{0,17}", re.ASCII)
+REAL_NUMBER = re.compile(r"-?(?:0|[1-9][0-9]*)(?:\.[0-9]+)?(?:[eE][-+]?[0-9]+)?", re.ASCII)
+OF_EDGES = ("source", "target", "directed")
+
+AllValues = dict[int, dict[str, Any]]
+
+
+def with_numbers(owners: AllValues) -> None:
+    """Makes numbers of the values of each key that has nothing else."""
+    kinds: dict[str, Any] = {}
+    for values in owners.values():
+        for key, value in values.items():
+            kind = kinds.get(key, int)
+            if kind is int and not WHOLE_NUMBER.fullmatch(value):
+                kind = float
+            if kind is float and not REAL_NUMBER.fullmatch(value):
+                kind = str
+            kinds[key] = kind
+    numeric = {key: kind for key, kind in kinds.items() if kind is not str}
+    if numeric:
+        for values in owners.values():
+            for key in numeric.keys() & values.keys():
+                values[key] = numeric[key](values[key])
+
+
+def labels_of(nodes: AllValues, label: Optional[str]) -> dict[int, Any]:
+    """What each node is called: its value for a key, or its id where it has none. Two of one name are a ValueError."""
+    names = {node: values.get(label, node) for node, values in nodes.items()} if label is not None else {}
+    if len(set(names.values())) < len(names):
+        seen: set[Any] = set()
+        twice = next(name for name in names.values() if name in seen or seen.add(name))  # type: ignore[func-returns-value]
+        raise ValueError(f"several nodes have {twice!r} for {label!r}, so that it names none of them")
+    return names
+
+
+def networkx_of(snapshot: "Snapshot", label: Optional[str], numbers: bool) -> Any:
+    """As `Snapshot.to_networkx`."""
+    import networkx
+
+    nodes: AllValues = {}
+    edges: dict[int, Edge] = {}
+    of_edges: AllValues = {}
+    messages: list[Message] = []
+    for element in snapshot.elements():
+        if isinstance(element, int):
+            nodes[element] = {}
+        elif isinstance(element, Edge):
+            edges[element.id], of_edges[element.id] = element, {}
+        elif isinstance(element, NodeAttribute):
+            if element.key != NOTE_KEY or noted(element.value) is None:
+                nodes[element.node][element.key] = element.value
+        elif isinstance(element, EdgeAttribute):
+            of_edges[element.edge][element.key] = element.value
+        else:
+            messages.append(element)
+    names = labels_of(nodes, label)
+    if numbers:
+        with_numbers(nodes)
+        with_numbers(of_edges)
+    directed = bool(messages) or any(edge.directed for edge in edges.values())
+    graph = networkx.MultiDiGraph() if directed else networkx.MultiGraph()
+    graph.add_nodes_from((names.get(node, node), values) for node, values in nodes.items())
+    arcs = [(names.get(edge.source, edge.source), names.get(edge.target, edge.target), edge) for edge in edges.values()]
+    # The attributes are a dictionary of their own, since a key may be called as a word of networkx.
+    graph.add_edges_from((source, target, edge.id, of_edges[edge.id]) for source, target, edge in arcs)
+    if directed:
+        back = (arc for arc in arcs if not arc[2].directed)
+        graph.add_edges_from((target, source, edge.id, of_edges[edge.id]) for source, target, edge in back)
+    for number, (source, target, value) in enumerate(messages):
+        graph.add_edge(names.get(source, source), names.get(target, target), f"msg {number}", message=value)
+    return graph
+
+
+def pandas_of(snapshot: "Snapshot", label: Optional[str], numbers: bool) -> tuple[Any, Any]:
+    """As `Snapshot.to_pandas`."""
+    import pandas
+
+    from .arrays import arrays_of, spread_over
+
+    found = arrays_of(snapshot, numbers)
+    nodes = pandas.DataFrame(
+        {key: spread_over(found.nodes, values) for key, values in found.node_values.items()},
+        index=pandas.Index(found.nodes, name="id"),
+    )
+    columns = {"source": found.sources, "target": found.targets, "directed": found.directed}
+    if label is not None:
+        columns.update(source=named(found, label, found.sources), target=named(found, label, found.targets))
+    for key, values in found.edge_values.items():
+        columns[f"value_{key}" if key in OF_EDGES else key] = spread_over(found.ids, values)
+    return nodes, pandas.DataFrame(columns, index=pandas.Index(found.ids, name="id"))
+
+
+def named(found: Any, label: str, ids: Any) -> Any:
+    """The nodes' values for a key, or their ids where they have none, as an array for some ids of nodes."""
+    import numpy
+
+    names = found.nodes.astype(object)
+    values = found.node_values.get(label)
+    if values is not None:
+        names[numpy.searchsorted(found.nodes, values.owners)] = values.values
+    return names[numpy.searchsorted(found.nodes, ids)]
+
+
+def igraph_of(snapshot: "Snapshot", label: Optional[str], numbers: bool) -> Any:
+    """As `Snapshot.to_igraph`."""
+    import igraph
+    import numpy
+
+    from .arrays import arrays_of, spread_over
+
+    found = arrays_of(snapshot, numbers)
+    arcs = numpy.column_stack([numpy.searchsorted(found.nodes, ends) for ends in (found.sources, found.targets)])
+    directed = bool(found.directed.any())
+    back = ~found.directed & (found.sources != found.targets) if directed else numpy.zeros(len(arcs), bool)
+    graph = igraph.Graph(n=len(found.nodes), edges=numpy.concatenate((arcs, arcs[back][:, ::-1])), directed=directed)
+    graph.vs["id"] = found.nodes.tolist()
+    graph.es["id"] = numpy.concatenate((found.ids, found.ids[back])).tolist()
+    for key, values in found.node_values.items():
+        graph.vs[key] = missing_as_none(spread_over(found.nodes, values))
+    for key, values in found.edge_values.items():
+        column = spread_over(found.ids, values)
+        graph.es[key] = missing_as_none(numpy.concatenate((column, column[back])))
+    if label is not None and label != NAME:
+        graph.vs[NAME] = named(found, label, found.nodes).tolist()
+    return graph
+
+
+def missing_as_none(column: Any) -> list[Any]:
+    return [None if value != value else value for value in column.tolist()]
