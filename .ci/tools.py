@@ -851,7 +851,39 @@ def growth(tests: Tests) -> None:
         tests.same("handles are given up", (handles[-1], reader.session.ask("pool").head[2]), (130, "1"))
     at_two = tests.run("tools/growth", "index", "--at", "first", "400").stdout.decode().split("\n")[1:3]
     tests.same("instants that are named", [line.split(",")[0] for line in at_two], ["100", "400"])
-    tests.same("33 instants", tests.run("tools/growth", "index", "--at", *map(str, range(100, 133))).returncode, 2)
+    many = tests.run("tools/growth", "index", "--columns", "s", "--at", *map(str, range(100, 400))).stdout.decode()
+    found = [line.split(",")[:3] for line in many.split("\n")[1:-1]]
+    due = [[str(t), str(len(due_nodes(rows, t))), str(sum(holds(row, t) for row in rows))] for t in range(100, 400)]
+    tests.same("300 instants", found, due)
+    tests.same("too many instants", tests.run("tools/growth", "index", "--points", "2001").returncode, 2)
+    growth_by_dates(tests)
+
+
+def growth_by_dates(tests: Tests) -> None:
+    """The counts at the beginnings of months, weeks and so on of a history from 2019-11-20 to 2021-02-03."""
+    days = ["2019-11-20", "2019-12-01", "2020-03-15", "2020-12-31", "2021-02-03"]
+    text = "".join(f"a,b,{day}\n" for day in days)
+    tests.load("index", tests.run("tools/edges2script", "--times", "iso", tests.file("edges", text)).stdout)
+    months = [f"{y}-{m:02d}-01" for y in (2019, 2020, 2021) for m in range(1, 13)]
+    months = [month for month in months if "2019-12-01" <= month <= "2021-02-01"]
+    weeks = tests.run("tools/growth", "index", "--every", "week").stdout.decode().split("\n")
+    tests.same("weeks begin on Mondays", (weeks[1].split(",")[0], len(weeks) - 2), ("2019-11-25", 63))
+    for every, due in (
+        ("month", months),
+        ("quarter", [month for month in months if month[5:7] in ("01", "04", "07", "10")]),
+        ("year", ["2020-01-01", "2021-01-01"]),
+    ):
+        lines = tests.run("tools/growth", "index", "--every", every, "--columns", "s").stdout.decode().split("\n")
+        found = [(line.split(",")[0], line.split(",")[3]) for line in lines[1:-1]]
+        tests.same(f"every {every}", found, [(day, str(sum(begin <= day for begin in days))) for day in due])
+        tests.same(f"a date and its instant, every {every}", lines[0].split(",")[:2], ["date", "instant"])
+    tests.one_line("no year begins", tests.run("tools/growth", "index", "--every", "year", "--to", "2019-12-15"), 2, "no year")
+    tests.one_line("too many hours", tests.run("tools/growth", "index", "--every", "hour"), 2, "more than 2000")
+    year = tests.run("tools/snapshot", "index", "2020")
+    told = ["2020 is out of range: the history goes from 2019-11-20 to 2021-02-03", "for the year write 2020-01-01"]
+    tests.one_line("a year that is taken as an instant", year, 1, *told)
+    late = tests.run("tools/growth", "index", "--at", "2022-05")
+    tests.one_line("a date behind the history", late, 1, "2022-05 is instant 1651363200, out of range", "to 2021-02-03")
 
 
 CHARTS: list[tuple[list[str], list[str]]] = [
