@@ -26,7 +26,7 @@ from collections import Counter
 from datetime import datetime, timezone
 from html.parser import HTMLParser
 from pathlib import Path
-from typing import Any, Iterator, NamedTuple, Optional, Sequence, Union
+from typing import Any, Callable, Iterator, NamedTuple, Optional, Sequence, Union
 
 ROOT = Path(__file__).resolve().parent.parent
 sys.path.insert(0, str(ROOT / "tools"))
@@ -857,6 +857,29 @@ def growth(tests: Tests) -> None:
     tests.same("300 instants", found, due)
     tests.same("too many instants", tests.run("tools/growth", "index", "--points", "2001").returncode, 2)
     growth_by_dates(tests)
+
+
+def short_way(tests: Tests) -> None:
+    """Plain tables with commas, and the same with spaces, which go the long way, make the same scripts."""
+    for seed in range(12):
+        rng = random.Random(seed)
+        dates = seed % 2 == 0
+        text: Callable[[int], str] = (lambda day: f"{1940 + day}-03-01") if dates else str
+        rows = []
+        for _ in range(rng.randrange(1, 80)):
+            begin, end = rng.randrange(40), rng.choice([None, 0, 1, 7])
+            rows.append([rng.choice("abcd"), rng.choice("abcd"), text(begin), "" if end is None else text(begin + end), "x"])
+        rows = [[*row[:3], row[3] or text(90), row[4]] for row in rows]  # white space leaves no field empty
+        if seed % 3 == 0:
+            rows.sort(key=lambda row: (len(row[2]), row[2]))
+        words = ["--columns", "source,target,time,end,w", *(["--times", "iso"] if dates else [])]
+        words += rng.choice([[], ["--undirected"], ["--closed"], ["--batch", "7"], ["--no-clock"]])
+        scripts = []
+        for separator in (",", " "):
+            edges = tests.file("edges", "".join(separator.join(row) + "\n" for row in rows))
+            ran = tests.run("tools/edges2script", *words, edges)
+            scripts.append((ran.returncode, ran.stdout, ran.stderr))
+        tests.check(f"the short way {seed}", scripts[0] == scripts[1] and scripts[0][0] == 0, scripts)
 
 
 def growth_by_dates(tests: Tests) -> None:
@@ -1703,7 +1726,7 @@ def bench_of_a_liar(tests: Tests, word: str) -> None:
 def main() -> int:
     tests = Tests(sys.argv[1], sys.argv[2])
     parts = [convert_many, convert_forms, convert_batches, other_forms, large, spread_in_parts, dates]
-    parts += [snapshots, growth, timeline, messages, failures, words_are_told, tutorial_as_written, bench]
+    parts += [snapshots, growth, short_way, timeline, messages, failures, words_are_told, tutorial_as_written, bench]
     for part in parts:
         try:
             part(tests)

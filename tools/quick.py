@@ -133,7 +133,9 @@ def read(plain: Plain, separator: str) -> tuple[Names, Iterator[Any]]:
 
 
 def written(plain: Plain, keys: list[str], names: Names, rows: Iterator[Any], out: str) -> Made:
-    first_row = next(rows, None)
+    empty, first_row = 0, next(rows, None)
+    while first_row is not None and first_row[3] == first_row[2]:  # it is in no graph, and says nothing of the shift
+        empty, first_row = empty + 1, next(rows, None)
     if first_row is None:
         raise NotPlain
     clock = plain.clock(first_row[2])
@@ -149,7 +151,7 @@ def written(plain: Plain, keys: list[str], names: Names, rows: Iterator[Any], ou
             changes, batches = changes + count, batches + 1
     if not batches:
         raise NotPlain
-    return Made(len(ties.ids), ties.ties, changes, batches, first, last, ties.empty)
+    return Made(len(ties.ids), ties.ties, changes, batches, first, last, ties.empty + empty)
 
 
 def chained(first: Any, rows: Iterator[Any]) -> Iterator[Any]:
