@@ -518,14 +518,15 @@ def _made(index: str, table: Table, kind: str, options: dict[str, Any]) -> Store
     calendar = None if kind == "numbers" else Calendar(Fraction(scale), shift)
     ties = Ties(names, table.keys, options["directed"], note=calendar.note() if calendar else None)
     new = index + ".new"
-    begin = earliest + shift if rows else None
+    begin: Optional[int] = None
     try:
         if os.path.exists(new):
             os.remove(new)
         with Store(new, options["program"]) as store:
             store.create(*options["create"])
             changes, last = 0, None
-            for count, text, _, end in batches_of(ties.instants(rows)):
+            for count, text, start, end in batches_of(ties.instants(rows)):
+                begin = begin if changes else start
                 store.ask(f"{'append' if changes else 'load'} {count}", bytes_of(text))
                 changes, last = changes + count, end
         os.replace(new, index)
