@@ -19,6 +19,7 @@ _deltagraph_values() {
         --as) echo mixed directed undirected ;;
         --columns) [ "$2" = edges2script ] || echo s sn se sne st snt set snet ;;
         --encoding) echo utf-8 utf-16 latin-1 cp1252 bytes ;;
+        --every) echo hour day week month quarter year ;;
         --form) echo table snap konect network-repository sociopatterns jsonl graphml gexf ;;
         --format) [ "$2" = timeline ] && echo html gexf || echo graphml gexf dot edges nodes ;;
         --from | --to | --at) echo first last ;;
@@ -41,7 +42,7 @@ _deltagraph_options() {
             ;;
         snapshot) echo --help --format --columns --label --numbers --as --ids --output --program --progress ;;
         growth)
-            echo --help --from --to --points --at --columns --text --svg --log --title --dates --shift --program \
+            echo --help --from --to --points --every --at --columns --text --svg --log --title --dates --shift --program \
                 --progress
             ;;
         timeline)
