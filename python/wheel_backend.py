@@ -7,7 +7,10 @@ from __future__ import annotations
 import base64
 import hashlib
 import io
+import os
 import re
+import stat
+import sysconfig
 import tarfile
 import zipfile
 from pathlib import Path
@@ -15,6 +18,8 @@ from typing import Any, Optional
 
 HERE = Path(__file__).resolve().parent
 PACKAGE = "deltagraph"
+PROGRAM = "DELTAGRAPH_IN_WHEEL"  # the variable that names a built program, which the wheel then brings along
+IN_WHEEL = f"{PACKAGE}/bin/{PACKAGE}"
 MOMENT = (1980, 1, 1, 0, 0, 0)  # the earliest that a zip file can tell: equal files make equal wheels
 
 
@@ -36,7 +41,7 @@ def _metadata() -> str:
         f"Requires-Python: {_told('requires-python')}",
         "Description-Content-Type: text/markdown",
     ]
-    for extra, names in (("bars", ["tqdm"]), ("graphs", ["networkx"]), ("tables", ["numpy", "pandas"])):
+    for extra, names in (("bars", ["tqdm"]), ("graphs", ["networkx", "igraph"]), ("tables", ["numpy", "pandas"])):
         lines.append(f"Provides-Extra: {extra}")
         lines += [f'Requires-Dist: {name}; extra == "{extra}"' for name in names]
     return "\n".join(lines) + "\n\n" + (HERE / "README.md").read_text("utf-8")
@@ -50,22 +55,27 @@ def build_wheel(wheel_directory: str, config_settings: Any = None, metadata_dire
     """Writes the wheel into a folder, and gives its name."""
     stem = f"{PACKAGE}-{_told('version')}"
     files = {f"{PACKAGE}/{path.name}": path.read_bytes() for path in _sources()}
+    program = os.environ.get(PROGRAM)
+    tag = "py3-none-any"
+    if program:
+        files[IN_WHEEL] = Path(program).read_bytes()
+        tag = "py3-none-" + re.sub("[-.]", "_", sysconfig.get_platform())
     files[f"{stem}.dist-info/METADATA"] = _metadata().encode()
     files[
         f"{stem}.dist-info/WHEEL"
-    ] = f"Wheel-Version: 1.0\nGenerator: {Path(__file__).stem}\nRoot-Is-Purelib: true\nTag: py3-none-any\n".encode()
+    ] = f"Wheel-Version: 1.0\nGenerator: {Path(__file__).stem}\nRoot-Is-Purelib: {str(not program).lower()}\nTag: {tag}\n".encode()
     record = f"{stem}.dist-info/RECORD"
     rows = []
     for name, content in files.items():
         digest = base64.urlsafe_b64encode(hashlib.sha256(content).digest()).rstrip(b"=").decode()
         rows.append(f"{name},sha256={digest},{len(content)}\n")
     files[record] = "".join([*rows, f"{record},,\n"]).encode()
-    wheel = f"{stem}-py3-none-any.whl"
+    wheel = f"{stem}-{tag}.whl"
     with zipfile.ZipFile(Path(wheel_directory) / wheel, "w", zipfile.ZIP_DEFLATED) as archive:
         for name, content in files.items():
             entry = zipfile.ZipInfo(name, MOMENT)
             entry.compress_type = zipfile.ZIP_DEFLATED
-            entry.external_attr = 0o644 << 16
+            entry.external_attr = (stat.S_IFREG | (0o755 if name == IN_WHEEL else 0o644)) << 16  # pip asks for both
             archive.writestr(entry, content)
     return wheel
 

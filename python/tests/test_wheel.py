@@ -3,6 +3,7 @@ from __future__ import annotations
 
 import importlib.util
 import os
+import stat
 import subprocess
 import sys
 import tempfile
@@ -10,6 +11,9 @@ import unittest
 import zipfile
 from pathlib import Path
 from types import ModuleType
+from unittest import mock
+
+from .support import program
 
 FOLDER = Path(__file__).resolve().parents[1]
 
@@ -38,6 +42,22 @@ class WheelTests(unittest.TestCase):
                 text=True,
             )
             self.assertEqual(ran.stdout, f"{backend()._told('version')}\n", ran.stderr)
+
+    def test_it_brings_a_program_along(self) -> None:
+        with tempfile.TemporaryDirectory() as folder, mock.patch.dict(os.environ, {"DELTAGRAPH_IN_WHEEL": program()[0]}):
+            wheel = Path(folder) / backend().build_wheel(folder)
+            self.assertNotIn("-any.whl", wheel.name)
+            with zipfile.ZipFile(wheel) as archive:
+                archive.extractall(folder)
+                held = archive.getinfo("deltagraph/bin/deltagraph")
+            self.assertEqual(held.external_attr >> 16, stat.S_IFREG | 0o755)  # which pip keeps
+            own = Path(folder) / "deltagraph" / "bin" / "deltagraph"
+            self.assertEqual(own.read_bytes(), Path(program()[0]).read_bytes())
+            own.chmod(0o755)
+            code = "import deltagraph; s = deltagraph.open('x.dg'); s.create(); print(s.load(['1 +node 1']).events)"
+            environment = {"PATH": "/usr/bin:/bin", "PYTHONPATH": folder}
+            ran = subprocess.run([sys.executable, "-c", code], env=environment, cwd=folder, capture_output=True, text=True)
+            self.assertEqual(ran.stdout, "1\n", ran.stderr)
 
     def test_equal_files_make_equal_wheels(self) -> None:
         with tempfile.TemporaryDirectory() as one, tempfile.TemporaryDirectory() as other:
