@@ -99,7 +99,8 @@ class Snapshots(Case):
 
     def test_packages_that_are_not_there(self) -> None:
         with mock.patch.dict(sys.modules, {"networkx": None, "numpy": None, "pandas": None, "igraph": None}):
-            sys.modules.pop("deltagraph.arrays", None)
+            for module in ("deltagraph.arrays", "deltagraph.history"):  # which have imported numpy already
+                sys.modules.pop(module, None)
             snapshot = self.store.at(30)
             arrays = lambda: snapshot.to_edges(arrays=True)  # noqa: E731
             exports = snapshot.to_networkx, snapshot.to_pandas, snapshot.to_igraph, snapshot.to_arrays
