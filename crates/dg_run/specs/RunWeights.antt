@@ -20,7 +20,7 @@ use Rattle.dg_plan.specs.HistoryGraph.{all_columns}
 use Rattle.dg_plan.specs.IndexGraph.{arcs_of}
 use Rattle.dg_plan.specs.Walks.{AreSingles}
 use Rattle.dg_session.specs.BatchReads.{is_early, older_for}
-use Rattle.dg_session.specs.Reads.{records_length}
+use Rattle.dg_session.specs.HistoryBytes.{records_length}
 use Rattle.dg_start.specs.SessionStart.{PlansLastLeaf, start_bytes}
 use Rattle.dg_run.specs.Outside.{Outside}
 use Rattle.dg_run.specs.Served.{Served}

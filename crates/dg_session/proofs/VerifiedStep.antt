@@ -49,7 +49,8 @@ use Rattle.dg_session.specs.Decided.{IsHeadOf}
 use Rattle.dg_batch.specs.Halt.{verify_halt}
 use Rattle.dg_session.specs.Parts.{Parts}
 use Rattle.dg_session.specs.BatchReads.{is_early}
-use Rattle.dg_session.specs.Reads.{Reads, ReadsBy, ReadsIn, ReadsRecords, record_length, records_length}
+use Rattle.dg_session.specs.HistoryBytes.{record_length, records_length}
+use Rattle.dg_session.specs.Reads.{Reads, ReadsBy, ReadsIn, ReadsRecords}
 use Rattle.dg_session.specs.Session.{Accepts, ComesTo, StandsFor, refused_by}
 use Rattle.dg_session.specs.Verified.{IsOfFile, VerifiesBy, VerifiesFile, is_verify}
 use Rattle.dg_start.specs.StoredHistory.{IsHeldBy}

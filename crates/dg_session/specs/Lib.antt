@@ -12,6 +12,7 @@ pub mod CreationCommand
 pub mod Upgrade
 pub mod BatchReads
 pub mod Retrievals
+pub mod HistoryBytes
 pub mod Reads
 pub mod Damage
 pub mod Calls

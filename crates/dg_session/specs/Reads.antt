@@ -2,20 +2,14 @@
 use Rattle.std.specs.Prelude.{◌≡◌, ℕ, ◌+◌, Bool, true, false, List, [], ◌∷◌, ◌++◌, Option, Some, None, Result, Ok, Err, IfErr, IfOk, IfSome, length, map, sum_by}
 use Rattle.std.specs.List.{All, sum}
 use Rattle.dg_fold.specs.BytesRead.{Takes, TakesAtMost}
-use Rattle.dg_graph.specs.declared.element.Column.TheVariants as column
 use Rattle.dg_graph.specs.declared.element.Columns.{Columns}
 use Rattle.dg_graph.specs.declared.element.Element.{Element}
 use Rattle.dg_graph.specs.Composition.{applied}
 use Rattle.dg_graph.specs.Elements.{shown}
 use Rattle.dg_text.specs.Lines.{ScriptLine}
 use Rattle.dg_handles.specs.Handles.{BeginsOn, held_by, numbered, overlays_on, with_messages}
-use Rattle.dg_history.specs.declared.node.Key.{Key}
-use Rattle.dg_history.specs.declared.node.Key.TheVariants as key
 use Rattle.dg_history.specs.declared.node.NodeId.{NodeId}
 use Rattle.dg_history.specs.declared.node.NodeId.TheVariants.{Root}
-use Rattle.dg_history.specs.History.{History, events_of}
-use Rattle.dg_index.specs.Hierarchy.{numbers}
-use Rattle.dg_index.specs.IndexRecords.{column_in, keys_of}
 use Rattle.dg_index.specs.OpenedIndex.{Opening}
 use Rattle.dg_machine.specs.declared.command.Command.{Command}
 use Rattle.dg_machine.specs.declared.command.Command.TheVariants as command
@@ -42,6 +36,7 @@ use Rattle.dg_batch.specs.declared.halt.Halt.TheVariants as halt
 use Rattle.dg_batch.specs.declared.stop.Stop.{Stop}
 use Rattle.dg_batch.specs.declared.stop.Stop.TheVariants as stop
 use Rattle.dg_session.specs.BatchReads.{is_early, older_for}
+use Rattle.dg_session.specs.HistoryBytes.{records_length}
 use Rattle.dg_session.specs.Parts.{Parts}
 use Rattle.dg_session.specs.Session.{StandsFor}
 use Rattle.dg_verify.specs.RecordBytes.{records_bytes}
@@ -118,16 +113,6 @@ ReadsAsTold true m c got h before after =
 abbrev pub ReadsOlder : MachineState → ℕ → ℕ → ℕ → Type 0
 ReadsOlder m count before after =
     (singles : List ℕ) → AreSingles (arcs_of (record_edges_in m all_columns)) (Root ∷ []) (older_for m count) singles → TakesAtMost (sum singles) before after
-
--- the bytes of the columns of a record, messages among them
-abbrev pub record_length : History → Key → ℕ
-record_length z k =
-    length (column_in z k column.Structure) + length (column_in z k column.NodeAttr) + length (column_in z k column.EdgeAttr) + length (column_in z k column.Transient)
-
--- the bytes of the columns of all records of a history, each once: of its lists, tops and downs, and of its pieces
-abbrev pub records_length : History → ℕ
-records_length z =
-    sum_by (record_length z) (keys_of z.params (length (events_of z)) ++ map (λ s. key.Piece s) (numbers 0 (length z.batches)))
 
 -- The session has an index, and no more was read than the columns of its records have, each once.
 abbrev pub ReadsRecords : Parts → Option (List ℕ) → ℕ → ℕ → Type 0
