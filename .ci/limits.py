@@ -1,5 +1,5 @@
 """A disk that is full, a file that may not grow or be written any more, and memory that lacks: what a run says, and that
-nothing is lost. And two costs that a batch must not have.
+nothing is lost. And what must not cost more: two kinds of batches, and an instant that is named again.
 
   python3 .ci/limits.py PROGRAM FOLDER
 
@@ -29,6 +29,7 @@ NOT_PERMITTED = "{}: Operation not permitted (os error 1)"
 PAGE = 4096  # bytes
 STEP = 7  # bytes between two limits of a file's size
 MEMORIES = [*range(4, 12), 12, 14, 16, 18, 20, 24, 28, 32, 40, 48, 56, 64, 80, 96, 112, 128, 160, 200, 256, 320, 400]  # MB
+REPEATED = 256  # MB, for 400,000 messages, which take about 13 as a set and 29 as cells
 NOT_LOADED = 127  # the status that the system's loader ends with, where it finds no room for the C library
 TOLD = ["refused 16 out-of-memory"]
 
@@ -302,6 +303,27 @@ class Limits:
         many, few = (single_appends(65536, count) for count in (20000, 5000))
         self.times_as_much("20,000 appends, beside 5,000", 8, many, few)
 
+    def repeated_instant(self):
+        """Many messages of one instant, which `several` names 32 times, are in memory once: with so little memory that there
+        would be no room for them 32 times. The last handle has them all."""
+        nodes, count = 1000, 400000
+        messages = [f"2 msg {1 + i % nodes} {1 + i // nodes} m" for i in range(count)]
+        load = "\n".join([f"load {nodes + count}", *(f"1 +node {i}" for i in range(1, nodes + 1)), *messages])
+        made, image = self.program.over(None, lines(["create 1024 4 union", load]))
+        self.tests.same("many messages of one instant", made.status, 0)
+
+        def prepare():
+            resource.setrlimit(resource.RLIMIT_AS, (REPEATED * 10**6, REPEATED * 10**6))
+
+        index = self.program.place("repeated")
+        put(index, image)
+        ran = self.limited(index, lines(["several st " + " ".join(["2"] * 32), "counts 32"]), prepare)
+        replies, _ = ran.commands()
+        heads = [reply[0] for reply in replies]
+        self.tests.check("an instant 32 times: it is retrieved", heads[:1] and heads[0].startswith("ok several "), (ran.status, heads))
+        self.tests.same("an instant 32 times: its messages", heads[1:], [f"ok counts 32 {nodes} 0 0 0 {count}"])
+        put(index, None)
+
     def ask(self, process, command):
         """Carries out one command, and gives its reply."""
         process.stdin.write(lines([command]))
@@ -429,6 +451,7 @@ def main():
     limits.long_lists()
     limits.longest_lists()
     limits.costs()
+    limits.repeated_instant()
     limits.size_of_file()
     limits.full_disk()
     limits.disk_that_is_read()
