@@ -17,6 +17,7 @@ import os
 import pty
 import random
 import re
+import shutil
 import signal
 import subprocess
 import sys
@@ -27,6 +28,7 @@ from datetime import datetime, timezone
 from html.parser import HTMLParser
 from pathlib import Path
 from typing import Any, Callable, Iterator, NamedTuple, Optional, Sequence, Union
+from urllib.parse import unquote
 
 ROOT = Path(__file__).resolve().parent.parent
 sys.path.insert(0, str(ROOT / "tools"))
@@ -844,6 +846,7 @@ def growth(tests: Tests) -> None:
     for words, series in CHARTS:
         drawn(tests, words, series, due)
     chart = tests.run("tools/growth", "index", "--text", "--points", "9").stdout.decode()
+    tests.same("equal series are one", chart.split("\n")[1], "n nodes = node values  e edges  * both")
     letters = Counter(letter for line in chart.split("\n")[3:21] for letter in line.split("+")[-1].split("|")[-1])
     tests.check("a chart has its letters", letters["e"] >= 5 and letters["n"] >= 5, chart)
     with tests.reader("index") as reader:
@@ -909,8 +912,9 @@ def growth_by_dates(tests: Tests) -> None:
     tests.one_line("a date behind the history", late, 1, "2022-05 is instant 1651363200, out of range", "to 2021-02-03")
 
 
+# In the history of `growth` each node has one value, its name.
 CHARTS: list[tuple[list[str], list[str]]] = [
-    ([], ["nodes", "edges", "node values"]),
+    ([], ["nodes", "edges"]),
     (["--columns", "s", "--log", "--dates"], ["nodes", "edges"]),
 ]
 
@@ -927,7 +931,10 @@ def drawn(tests: Tests, words: list[str], series: list[str], due: list[list[str]
         marks = [title.text for title in group.iter(f"{SVG}title")]
         column = ["nodes", "edges", "node values"].index(str(name)) + 1
         told = [f"{name}: {int(row[column]):,} at {row[0]}" for row in due]
-        tests.check(f"an SVG has its points {words} {name}", across == sorted(across) and len(points) == 32, points)
+        # A line has two corners between two points.
+        tests.check(f"an SVG has its points {words} {name}", across == sorted(across) and len(points) == 63, points)
+        heights = [point.split(",")[1] for point in points]
+        tests.same(f"an SVG has steps {words} {name}", heights[:-1:2], heights[1::2])
         tests.same(f"an SVG tells its points {words} {name}", marks, told)
 
 
@@ -1581,6 +1588,8 @@ def timeline(tests: Tests) -> None:
         tests.same(f"a page at {time}", found, (sorted(due_nodes(rows, time)), due, [len(nodes), len(due)]))
     changes_of_page(tests, rows, times, told)
     spells_of_page(tests, rows, times)
+    colours_of_page(tests)
+    page_in_browser(tests)
     few = json.loads(script_of(tests.run("tools/timeline", "index", "--most", "3", "--at", "20", "first").stdout))
     most = Counter(end for row in rows if holds(row, 20) or holds(row, 0) for end in (row.source, row.target))
     due_names = {name for name, count in most.items() if count >= sorted(most.values())[-3]}
@@ -1589,6 +1598,81 @@ def timeline(tests: Tests) -> None:
     dated = json.loads(script_of(tests.run("tools/timeline", "index", "--dates", "--at", "first", "40").stdout))
     tests.same("dates of a page", dated["labels"], ["1970-01-01 00:00:00", "1970-01-01 00:00:40"])
     tests.same("too many instants", tests.run("tools/timeline", "index", "--points", "9999").returncode, 2)
+
+
+def colours_of_page(tests: Tests) -> None:
+    """The values of a key that change, of which eight have a colour, at each instant of a page."""
+    rng = random.Random(9)
+    changes, due = [], [dict[int, str]() for _ in range(30)]
+    for time in range(30):
+        if time:
+            due[time].update(due[time - 1])
+        else:
+            changes += [f"0 +node {node}" for node in range(1, 21)]
+        for node in rng.sample(range(1, 21), 3):
+            value = rng.choice([None, *"abcdefghij"])
+            if value is None and node in due[time]:
+                changes.append(f"{time} ndel {node} kind")
+                del due[time][node]
+            elif value is not None:
+                changes.append(f"{time} nset {node} kind {value}")
+                due[time][node] = value
+    tests.load("coloured", f"create 16 4 union\nload {len(changes)}\n{chr(10).join(changes)}\n".encode())
+    ran = tests.run("tools/timeline", "coloured", "--colour", "kind", "--at", *map(str, range(30)))
+    told = json.loads(script_of(ran.stdout))
+    groups = told["groups"]
+    owners = {value: sum(any(at.get(node) == value for at in due) for node in range(1, 21)) for value in "abcdefghij"}
+    by_owners = sorted(owners, key=lambda value: (-owners[value], value))
+    wanted = {"key": "kind", "names": by_owners[:8], "others": 2, "none": True}
+    tests.same("the values that have colours", groups, wanted)
+    for time in range(30):
+        found = {}
+        for node, (_, _, changed) in enumerate(told["nodes"], 1):
+            place = [colour for begin, colour in zip(changed[::2], changed[1::2]) if begin <= time][-1]
+            found[node] = None if place < 0 else "another" if place == 8 else groups["names"][place]
+        others = {node: value if value in by_owners[:8] else "another" for node, value in due[time].items()}
+        tests.same(f"colours at {time}", {node: value for node, value in found.items() if value}, others)
+    tests.one_line("no such key", tests.run("tools/timeline", "coloured", "--colour", "no"), 2, "no node has a value for 'no'")
+
+
+IN_PAGE = """<script>(function look() {
+  if (document.body.dataset.settled !== "yes") { setTimeout(look, 20); return; }
+  show(20);
+  const plain = svgOf();
+  find(nodes[edges.find((edge) => there(edge[3], now))[0]][0]);
+  const told = { plain, found: svgOf(), ties: byId("found").textContent, ticks: byId("ticks").textContent };
+  told.png = pngOf().toDataURL("image/png").slice(0, 22);
+  document.body.textContent = "told:" + encodeURIComponent(JSON.stringify(told)) + ":told";
+})();</script></body>"""
+
+
+def page_in_browser(tests: Tests) -> None:
+    """The page in a browser, where there is one: what it draws, saves, and lets step back."""
+    browser = shutil.which("chromium")
+    if browser is None:
+        return
+    page = tests.run("tools/timeline", "index", "--points", "45").stdout.decode().replace("</body>", IN_PAGE)
+    tests.file("page.html", page)
+    words = [browser, "--headless", "--no-sandbox", "--disable-gpu", "--virtual-time-budget=60000", "--dump-dom"]
+    shown = subprocess.run([*words, (tests.folder / "page.html").as_uri()], capture_output=True).stdout.decode()
+    found = re.search("told:(.*):told", shown)
+    if found is None:
+        tests.check("a page in a browser", False, shown[-500:])
+        return
+    told, data = json.loads(unquote(found[1])), json.loads(script_of(page.encode()))
+    drawn = [sum(in_runs(runs, 20) or in_runs(runs, 19) for *_, runs in data[kind]) for kind in ("edges", "nodes")]
+    plain, focus = (xml.fromstring(told[name]) for name in ("plain", "found"))
+    paths = list(plain.iter(f"{SVG}path"))
+    filled = [path for path in paths if path.get("fill") != "none"]
+    gone = sum(in_runs(runs, 19) and not in_runs(runs, 20) for _, runs in data["nodes"])
+    tests.same("nodes of a saved picture", len(filled), drawn[1] - gone)
+    # A node that is there is filled and has a line around it; one that is gone has a line alone.
+    tests.same("lines of a saved picture", len(paths) - len(filled), drawn[0] + drawn[1])
+    pale = sum(path.get("opacity") == "0.2" for path in focus.iter(f"{SVG}path"))
+    tests.check("all but a node and its neighbours step back", 0 < pale < 2 * drawn[1], pale)
+    tests.check("a found node tells its edges", told["ties"].endswith(" edges drawn"), told["ties"])
+    tests.check("labels stand under the slider", told["ticks"].startswith(data["labels"][0]), told["ticks"])
+    tests.same("a saved picture", told["png"], "data:image/png;base64,")
 
 
 def in_runs(runs: Sequence[int], place: int) -> bool:

@@ -46,7 +46,7 @@ _deltagraph_options() {
                 --progress
             ;;
         timeline)
-            echo --help --from --to --points --at --messages --format --start-at --most --label --title --dates --output \
+            echo --help --from --to --points --at --messages --format --start-at --most --label --colour --title --dates --output \
                 --program --progress
             ;;
     esac
