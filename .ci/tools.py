@@ -1724,13 +1724,64 @@ def changes_of_page(tests: Tests, rows: Sequence[Row], times: Sequence[int], tol
     tests.check("what is new and gone", True)
 
 
+# Spells.
+
+
+def spells(tests: Tests) -> None:
+    """The tables of a history from its rows, where pandas is there; elsewhere a line that says what it needs."""
+    if importlib.util.find_spec("pandas") is None:
+        tests.one_line("spells without pandas", tests.run("tools/spells", "index"), 1, "needs numpy and pandas")
+        return
+    rng = random.Random(31)
+    for seed in range(6):
+        rows = random_rows(rng, ends=True, weights=seed % 2 == 1)
+        rows = [row for row in rows if row.end is None or row.end > row.begin]
+        lines = [f"{row.source},{row.target},{row.begin},{'' if row.end is None else row.end}\n" for row in rows]
+        made = tests.run("tools/edges2script", "--columns", "source,target,time,end", tests.file("edges", "".join(lines)))
+        tests.load("index", made.stdout)
+        found = list(csv.DictReader(io.StringIO(tests.run("tools/spells", "index", "--verify").stdout.decode())))
+        due = [(row.source, row.target, str(row.begin), "" if row.end is None else str(row.end)) for row in rows]
+        told = [(row["source"], row["target"], row["start"], row["end"]) for row in found]
+        tests.same(f"spells of edges {seed}", sorted(told), sorted(due))
+        nodes = csv.DictReader(io.StringIO(tests.run("tools/spells", "index", "nodes").stdout.decode()))
+        firsts: dict[str, int] = {}
+        for row in rows:
+            for end in (row.source, row.target):
+                firsts[end] = min(firsts.get(end, row.begin), row.begin)
+        tests.same(f"spells of nodes {seed}", {row["name"]: row["start"] for row in nodes}, {n: str(t) for n, t in firsts.items()})
+    dated = "a,b,2020-03-01,2020-03-05\nb,a,1960-01-01,\n"
+    made = tests.run("tools/edges2script", "--times", "iso", "--columns", "source,target,time,end", tests.file("edges", dated))
+    tests.load("index", made.stdout)
+    table = tests.run("tools/spells", "index", "--ids").stdout.decode().split("\n")[1:-1]
+    # Edges, and nodes within a row, are numbered in the order of their times.
+    tests.same("spells as dates", table, ["1,1,2,True,1960-01-01,", "2,2,1,True,2020-03-01,2020-03-05"])
+    values = tests.run("tools/spells", "index", "node-values", "--key", "name").stdout.decode().split("\n")[1:-1]
+    tests.same("spells of values", values, ["1,name,b,1960-01-01,", "2,name,a,1960-01-01,"])
+    changes = tests.run("tools/spells", "index", "changes", "--instants").stdout.decode().split("\n")[1:-1]
+    due_changes = [line for line in made.stdout.decode().split("\n") if line[:1].isdigit()]
+    tests.same("a row for each change", len(changes), len(due_changes))
+    tests.one_line("no such file", tests.run("tools/spells", "none"), 1, "none: no such file")
+    tests.same("a table that there is not", tests.run("tools/spells", "index", "ties").returncode, 2)
+    data = bytearray((tests.folder / "index").read_bytes())
+    data[-1] ^= 1
+    tests.file("damaged", bytes(data))
+    tests.one_line("a damaged file", tests.run("tools/spells", "damaged", "--verify"), 1)
+    if importlib.util.find_spec("pyarrow") is None:
+        ran = tests.run("tools/spells", "index", "--output", "edges.parquet")
+        tests.one_line("Parquet without pyarrow", ran, 1, "needs pyarrow")
+    else:
+        pandas: Any = importlib.import_module("pandas")
+        tests.run("tools/spells", "index", "--output", "edges.parquet")
+        tests.same("Parquet", len(pandas.read_parquet(tests.folder / "edges.parquet")), 2)
+
+
 # Words.
 
 
 def words_are_told(tests: Tests) -> None:
     """What bash completes are the options of --help, and the manual page has the commands of docs/SCRIPT.md."""
     source = f'source "{ROOT}/tools/completion.bash"; '
-    for tool in ("edges2script", "snapshot", "growth", "timeline"):
+    for tool in ("edges2script", "snapshot", "growth", "spells", "timeline"):
         told = tests.run(f"tools/{tool}", "--help").stdout.decode()
         due = {option for line in re.findall(r"^  -.*$", told, re.M) for option in re.findall(r"--[a-z-]+", line)}
         offered = subprocess.run(["bash", "-c", f"{source}_deltagraph_options {tool}"], capture_output=True)
@@ -1762,7 +1813,7 @@ def tutorial_as_written(tests: Tests) -> None:
     folder = tests.folder / "tutorial"
     folder.mkdir()
     told = tutorial.differences(tests.built, str(folder))
-    tests.check("the tutorial prints what it says", not told, "\n".join(told))
+    tests.check("the documents print what they say", not told, "\n".join(told))
 
 
 # The benchmark.
@@ -1810,7 +1861,7 @@ def bench_of_a_liar(tests: Tests, word: str) -> None:
 def main() -> int:
     tests = Tests(sys.argv[1], sys.argv[2])
     parts = [convert_many, convert_forms, convert_batches, other_forms, large, spread_in_parts, dates]
-    parts += [snapshots, growth, short_way, timeline, messages, failures, words_are_told, tutorial_as_written, bench]
+    parts += [snapshots, growth, short_way, timeline, spells, messages, failures, words_are_told, tutorial_as_written, bench]
     for part in parts:
         try:
             part(tests)

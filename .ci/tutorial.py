@@ -1,21 +1,24 @@
-"""Runs the commands of docs/TUTORIAL.md and compares what they print.
+"""Runs the commands of docs/TUTORIAL.md, RECIPES.md and R.md and compares what they print.
 
   python3 .ci/tutorial.py PROGRAM FOLDER            says where they differ
-  python3 .ci/tutorial.py PROGRAM FOLDER --write    puts what they print into the document
+  python3 .ci/tutorial.py PROGRAM FOLDER --write    puts what they print into the documents
 
-In its blocks of ```console a line that begins with `$ ` is a command, and lines with `> ` go on with it; what follows
-is what it prints. All commands run in one shell, in an empty folder that has the folders of the repository in it.
+A document is left out where a package that it needs is not there. In its blocks of ```console a line that begins with `$ ` is a command, and lines with `> ` go on with it; what follows
+is what it prints. All commands of a document run in one shell, in an empty folder that has the folders of the repository
+in it.
 """
 from __future__ import annotations
 
+import importlib.util
 import os
+import shutil
 import subprocess
 import sys
 from pathlib import Path
 from typing import Iterator, NamedTuple, Union
 
 ROOT = Path(__file__).resolve().parent.parent
-TUTORIAL = ROOT / "docs" / "TUTORIAL.md"
+DOCUMENTS = {"TUTORIAL": [], "RECIPES": ["numpy", "pandas", "igraph"], "R": ["numpy", "pandas", "Rscript"]}
 MARK = "-- end of a command --"
 
 
@@ -48,8 +51,13 @@ def printed_by(commands: list[Command], program: str, folder: str) -> list[list[
     """What each command prints, on standard output and standard error."""
     for name in ("tools", "examples", "docs", "python"):
         (Path(folder) / name).symlink_to(ROOT / name)
+    # The Python of this test, since another one may have other packages.
+    (Path(folder) / ".bin").mkdir()
+    python = Path(folder) / ".bin" / "python3"
+    python.write_text(f'#!/bin/sh\nexec "{sys.executable}" "$@"\n')
+    python.chmod(0o755)
     script = "exec 2>&1\n" + "".join("\n".join(c.lines) + f"\necho '{MARK}'\n" for c in commands)
-    path = os.path.dirname(os.path.abspath(program)) + os.pathsep + os.environ.get("PATH", "")
+    path = os.pathsep.join([str(python.parent), os.path.dirname(os.path.abspath(program)), os.environ.get("PATH", "")])
     environment = {**os.environ, "PATH": path, "LC_ALL": "C.UTF-8", "TZ": "UTC", "PYTHONDONTWRITEBYTECODE": "1"}
     environment.pop("DELTAGRAPH", None)
     ran = subprocess.run(["bash"], input=script.encode(), stdout=subprocess.PIPE, cwd=folder, env=environment)
@@ -57,9 +65,27 @@ def printed_by(commands: list[Command], program: str, folder: str) -> list[list[
     return [output.split("\n")[:-1] for output in outputs[: len(commands)]]
 
 
+def is_there(package: str) -> bool:
+    """Whether a package of Python is installed, or R with igraph."""
+    if package != "Rscript":
+        return importlib.util.find_spec(package) is not None
+    asked = ["Rscript", "-e", "library(igraph)"]
+    return shutil.which("Rscript") is not None and subprocess.run(asked, capture_output=True).returncode == 0
+
+
 def differences(program: str, folder: str, write: bool = False) -> list[str]:
-    """What is printed otherwise than the document says; none where it is written anew."""
-    found = list(parts(TUTORIAL.read_text(encoding="utf-8")))
+    """What is printed otherwise than the documents say; none where they are written anew."""
+    told = []
+    for name, needed in DOCUMENTS.items():
+        if all(map(is_there, needed)):
+            own = Path(folder).resolve() / f"of_{name}"
+            own.mkdir()
+            told += differences_of(ROOT / "docs" / f"{name}.md", program, str(own), write)
+    return told
+
+
+def differences_of(document: Path, program: str, folder: str, write: bool) -> list[str]:
+    found = list(parts(document.read_text(encoding="utf-8")))
     commands = [part for part in found if isinstance(part, Command)]
     printed = dict(zip((command.line for command in commands), printed_by(commands, program, folder)))
     if write:
@@ -70,10 +96,10 @@ def differences(program: str, folder: str, write: bool = False) -> list[str]:
             else:
                 more = [("> " + line).rstrip() for line in part.lines[1:]]
                 lines += ["$ " + part.lines[0], *more, *printed.get(part.line, [])]
-        TUTORIAL.write_text("\n".join(lines), encoding="utf-8")
+        document.write_text("\n".join(lines), encoding="utf-8")
         return []
     return [
-        f"docs/TUTORIAL.md:{c.line}: `{c.lines[0]}` prints {printed.get(c.line)}"
+        f"docs/{document.name}:{c.line}: `{c.lines[0]}` prints {printed.get(c.line)}"
         for c in commands
         if printed.get(c.line) != c.printed
     ]
@@ -81,5 +107,5 @@ def differences(program: str, folder: str, write: bool = False) -> list[str]:
 
 if __name__ == "__main__":
     told = differences(sys.argv[1], sys.argv[2], "--write" in sys.argv[3:])
-    print("\n".join(told) or "docs/TUTORIAL.md: as written")
+    print("\n".join(told) or "the documents are as written")
     sys.exit(1 if told else 0)

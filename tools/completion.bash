@@ -21,7 +21,13 @@ _deltagraph_values() {
         --encoding) echo utf-8 utf-16 latin-1 cp1252 bytes ;;
         --every) echo hour day week month quarter year ;;
         --form) echo table snap konect network-repository sociopatterns jsonl graphml gexf ;;
-        --format) [ "$2" = timeline ] && echo html gexf || echo graphml gexf dot edges nodes ;;
+        --format)
+            case $2 in
+                timeline) echo html gexf ;;
+                spells) echo csv parquet ;;
+                *) echo graphml gexf dot edges nodes ;;
+            esac
+            ;;
         --from | --to | --at) echo first last ;;
         --ids) echo number name ;;
         --repeat) echo new ignore count ;;
@@ -39,6 +45,9 @@ _deltagraph_options() {
                 --no-quotes --join-lines --comments --encoding --nodes --node-columns --node-header --times --scale \
                 --shift --closed --contact --spread --no-clock --messages --repeat --directed --undirected --keep-ids \
                 --name --skip-untimed --after --create --batch --progress
+            ;;
+        spells)
+            echo --help --key --label --ids --dates --instants --verify --format --output --program --progress
             ;;
         snapshot) echo --help --format --columns --label --numbers --as --ids --output --program --progress ;;
         growth)
@@ -62,9 +71,11 @@ _deltagraph() {
         _deltagraph_offer "$current" "$(_deltagraph_options "$tool")"
     elif [ "$tool" = snapshot ] && [ "$COMP_CWORD" -eq 2 ]; then
         _deltagraph_offer "$current" first last
+    elif [ "$tool" = spells ] && [ "$COMP_CWORD" -eq 2 ]; then
+        _deltagraph_offer "$current" edges nodes edge-values node-values messages changes
     else
         _deltagraph_offer "$current"
     fi
 }
 
-complete -F _deltagraph deltagraph edges2script snapshot growth timeline
+complete -F _deltagraph deltagraph edges2script snapshot growth spells timeline

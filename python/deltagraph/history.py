@@ -223,12 +223,18 @@ class History:
         """A frame with `edge`, `key`, `value`, `start` and `end` of the spells of values at edges, as `node_values`."""
         return self._value_frame("edge", self._values[1], key, dates)
 
-    def messages(self, dates: Optional[bool] = None) -> Any:
-        """A frame with `source`, `target`, `time` and `value` of the messages, each of their lines a row."""
+    def messages(self, label: Optional[str] = None, dates: Optional[bool] = None) -> Any:
+        """A frame with `source`, `target`, `time` and `value` of the messages, each of their lines a row.
+
+        With a label, as "name", source and target are the last values of the nodes for that key.
+        """
         import pandas
 
         of = self._values[2]
-        columns = {"source": signed(of.owner), "target": signed(of.key), "time": self._moments(of.time, dates)}
+        ends = [signed(of.owner), signed(of.key)]
+        if label is not None:
+            ends = [self._named(label, ids) for ids in ends]
+        columns = {"source": ends[0], "target": ends[1], "time": self._moments(of.time, dates)}
         return pandas.DataFrame({**columns, "value": self._texts(of.new)})
 
     def changes(self, dates: Optional[bool] = None) -> Any:
