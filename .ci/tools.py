@@ -242,6 +242,9 @@ def noted(clock: str) -> list[str]:
     return [*A_TO_B[:2], f"nset 1 clock {clock}", *A_TO_B[2:]]
 
 
+IN_SECONDS = "seconds since 1970 times 1 and 0 more"
+
+
 def loop_of(name: str) -> list[str]:
     return ["5 +node 1", f"5 nset 1 name {name}", "5 +edge 1 1 1 dir"]
 
@@ -306,10 +309,12 @@ SCRIPTS: list[tuple[str, list[str], Union[str, bytes], list[str]]] = [
     ("real numbers", ["--scale", "1000"], "a b 1.0059\n", at(1005, A_TO_B)),
     ("a scale that is a fraction", ["--scale", "1/60"], "a b 3e2\n", at(5, A_TO_B)),
     ("a shift", ["--shift", "-1000"], "a b 1005\n", at(1005 - 1000, A_TO_B)),
-    ("a year", ["--times", "iso"], "a,b,1971\n", at(31536000, A_TO_B)),
-    ("a month", ["--times", "iso"], "a,b,1970-02\n", at(2678400, A_TO_B)),
-    ("a day", ["--times", "iso"], "a,b,1970-01-02\n", at(86400, A_TO_B)),
-    ("a moment in another zone", ["--times", "iso"], "a,b,1970-01-01T01:00:05+01:00\n", at(5, A_TO_B)),
+    ("a year", ["--times", "iso"], "a,b,1971\n", at(31536000, noted(IN_SECONDS))),
+    ("a month", ["--times", "iso"], "a,b,1970-02\n", at(2678400, noted(IN_SECONDS))),
+    ("a day", ["--times", "iso"], "a,b,1970-01-02\n", at(86400, noted(IN_SECONDS))),
+    ("a day in another form", ["--times", "%d/%m/%Y"], "a,b,02/01/1970\n", at(86400, noted(IN_SECONDS))),
+    ("a moment in another form", ["--times", "%d.%m.%y %H:%M"], "a,b,02.01.70 00:01\n", at(86460, noted(IN_SECONDS))),
+    ("a moment in another zone", ["--times", "iso"], "a,b,1970-01-01T01:00:05+01:00\n", at(5, noted(IN_SECONDS))),
     (
         "a moment in UTC",
         ["--times", "iso", "--scale", "10"],
@@ -349,7 +354,7 @@ SCRIPTS: list[tuple[str, list[str], Union[str, bytes], list[str]]] = [
         "a header with names of its own",
         ["--source", "from", "--target", "to", "--time", "date", "--times", "iso", "--weight", "edge weight"],
         "to,from,edge weight,date\nb,a,2.5,1970-01-02\n",
-        at(86400, A_TO_B + ["eset 1 weight 2.5"]),
+        at(86400, noted(IN_SECONDS) + ["eset 1 weight 2.5"]),
     ),
     (
         "a weight beside other values",
@@ -390,7 +395,7 @@ SCRIPTS: list[tuple[str, list[str], Union[str, bytes], list[str]]] = [
         "messages of a table with names of its own",
         ["--source", "from", "--target", "to", "--time", "on", "--times", "iso", "--messages", "what was said"],
         'from,to,on,what was said,size (KB)\na,b,1970-01-02,"Yes, no",4\n',
-        at(86400, A_TO_B[:4]) + sent(86400, "Yes, no"),
+        at(86400, noted(IN_SECONDS)[:5]) + sent(86400, "Yes, no"),
     ),
     (
         "a header that a message's column asks for",
@@ -525,6 +530,15 @@ WRONG: list[tuple[str, list[str], Union[str, bytes], str]] = [
         "a b\n",
         "edges:1: neither the edge nor its ends have a time",
     ),
+    (
+        "times in a column of another name",
+        ["--header"],
+        "source,target,start,end\na,b,1,2\n",
+        "edges:2: no column is named time: there are source, target, start, end (--time start)",
+    ),
+    ("a date that is no ISO 8601", ["--times", "iso"], "a,b,01/02/2015\n", "(--times '%d/%m/%Y', or '%m/%d/%Y'?)"),
+    ("a date and no word on it", [], "a,b,1.2.15\n", "'1.2.15' is no whole number (--times '%d.%m.%Y'"),
+    ("a date of another form", ["--times", "%Y"], "a,b,x\n", "edges:1: 'x' is no date of the form '%Y'"),
     ("a carriage return", [], "a\rb,b,5\n", "edges:1: a carriage return within a text"),
     (
         "a comment that is not asked for",
@@ -1435,7 +1449,7 @@ FORMS: list[tuple[str, str, list[str], str, list[str]]] = [
         "edges.gexf",
         [],
         GEXF_FILE,
-        at(DAY, ["+node 1", "nset 1 name Ada", "nset 1 size 1"])
+        at(DAY, ["+node 1", "nset 1 name Ada", f"nset 1 clock {IN_SECONDS}", "nset 1 size 1"])
         + at(2 * DAY, ["+node 2", "nset 2 name Bob", "+edge 1 1 2 dir", "eset 1 weight 2.0"])
         + [f"{3 * DAY} nset 1 size 2", f"{4 * DAY} edel 1 weight", f"{4 * DAY} -edge 1"]
         + [f"{5 * DAY} +edge 2 2 1 undir", f"{5 * DAY + 1} -edge 2"]

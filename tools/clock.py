@@ -6,6 +6,17 @@ from pathlib import Path
 
 sys.path.insert(0, str(Path(__file__).resolve().parent.parent / "python"))
 
-from deltagraph.calendar import DAY, EPOCH, Calendar as Clock, NoDate, noted, read_calendar, seconds_of, settled  # noqa: E402
+from deltagraph.calendar import (  # noqa: E402
+    DAY,
+    EPOCH,
+    Calendar as Clock,
+    NoDate,
+    Seconds,
+    noted,
+    read_calendar,
+    seconds_of,
+    seconds_to,
+    settled,
+)
 
-__all__ = ["DAY", "EPOCH", "Clock", "NoDate", "noted", "read_calendar", "seconds_of", "settled"]
+__all__ = ["DAY", "EPOCH", "Clock", "NoDate", "Seconds", "noted", "read_calendar", "seconds_of", "seconds_to", "settled"]

@@ -141,7 +141,7 @@ def written(plain: Plain, keys: list[str], names: Names, rows: Iterator[Any], ou
     clock = plain.clock(first_row[2])
     rows = in_order(chained(first_row, rows))
     rows = moved(rows, int(clock.shift)) if clock.shift else rows
-    ties = Ties(names, keys, plain.directed, plain.name, clock.note() if plain.noted and clock != Clock() else None)
+    ties = Ties(names, keys, plain.directed, plain.name, clock.note() if plain.noted else None)
     changes = batches = first = last = 0
     with open(out, "wb") as script:
         script.write(plain.head(clock).encode())
