@@ -21,7 +21,7 @@ from .words import NUMBER, bytes_of, lines_after, text_of
 HELP = """\
 The commands are those of the script language (docs/SCRIPT.md), as
   at TIME COLS    the graph as of an instant, as a handle; COLS is s, sn, se or sne, and with a t behind it, as st,
-                  the messages of the instant are there too
+                  the messages of the instant are there too; at a prompt it is sne where it is left out
   several COLS TIMES    list HANDLE    counts HANDLE    node HANDLE ID    neighbours HANDLE ID    release HANDLE
   load COUNT, append COUNT    with the changes in the COUNT lines that follow
 TIME is an instant, first or last of the history, or a date as 2015-03 or 2015-03-01. HANDLE may be last, which is the
@@ -36,6 +36,8 @@ OF_HANDLES = ("list", "counts", "node", "neighbours", "release")
 OF_TIMES = ("at", "plan", "certify")
 WITH_LAST = {"load": 4, "append": 4, "workload": 3}  # the word of a head line that is an instant
 
+ALL_COLUMNS = "sne"
+MOST_SHOWN = 10  # values that begin as one that was not found
 LONGEST_SHOWN = 200  # letters, of a line that is told
 
 STATUS_REFUSED = 1  # with --strict
@@ -186,6 +188,8 @@ class FrontEnd:
             words[1] = self._last
         elif words[0] in OF_TIMES:
             words[1:2] = map(self._instant, words[1:2])
+            if self.typed and len(words) == 2 and words[0] == "at":
+                words.append(ALL_COLUMNS)
         elif words[0] == "several":
             words[2:] = map(self._instant, words[2:])
         return " ".join(words)
@@ -236,16 +240,26 @@ class FrontEnd:
             name, time = rest, "last"
         if not name:
             raise Wrong("it is `find NAME` or `find NAME @TIME`")
+        begin = []
         with self.store.at(int(self._whole(time)), "sn") as graph:
-            found = [f"{node} {key} {value}" for node, key, value in graph.node_attributes() if value == name]
+            found = []
+            for node, key, value in graph.node_attributes():
+                if value == name:
+                    found.append(f"{node} {key} {value}")
+                elif value.startswith(name):
+                    begin.append(value)
         self._answer(f"ok find {len(found)}", found)
+        if self.typed and not found:
+            more = f", and {len(begin) - MOST_SHOWN} more" if len(begin) > MOST_SHOWN else ""
+            near = f"; so begin {', '.join(begin[:MOST_SHOWN])}{more}" if begin else ""
+            print(f"no value is exactly `{name}`{near}", file=sys.stderr)
 
     def diff(self, rest: str) -> None:
         """`diff TIME TIME [COLS]`: the elements that only the first graph has, and those that only the second has."""
         words = rest.split(" ")
         if len(words) not in (2, 3):
             raise Wrong("it is `diff TIME TIME` or `diff TIME TIME COLS`")
-        columns = words[2] if len(words) == 3 else "sne"
+        columns = words[2] if len(words) == 3 else ALL_COLUMNS
         times = [int(self._whole(word)) for word in words[:2]]
         with self.store.several(times, columns) as (before, after):
             gone = dict.fromkeys(before.lines())

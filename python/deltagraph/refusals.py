@@ -1,9 +1,11 @@
 """The refusals of docs/SCRIPT.md, each with an exception of its own, and what they say in words."""
 from __future__ import annotations
 
+import re
 from typing import TYPE_CHECKING, Optional, Sequence
 
 from .failures import DeltagraphError
+from .words import bytes_of
 
 if TYPE_CHECKING:
     from .calendar import Calendar
@@ -21,6 +23,8 @@ REASONS = {
     9: ("no-attribute", "there is no value for this key"),
     10: ("form", "the line is too long, or is no change"),
 }
+YEAR = re.compile("[12][0-9]{3}", re.ASCII)
+LAST_YEAR = 2999  # of these
 
 
 class Refused(DeltagraphError):
@@ -55,6 +59,9 @@ class Syntax(Refused):
         return int(self.rest[0])
 
     def words(self) -> str:
+        given = self.command.split(" ")
+        if len(given) == 2 and given[0] in ("at", "plan") and self.column == len(bytes_of(self.command)) + 1:
+            return f"columns are missing: it is `{given[0]} TIME COLS`, with s, sn, se or sne for COLS"
         return f"this is no command from column {self.column} on"
 
 
@@ -155,10 +162,13 @@ class OutOfRange(Refused):
         first, last, calendar = self.first, self.last, self.calendar
         if first is None or last is None:
             return "the history has no event yet"
-        if calendar is None:
-            return f"the history goes from {first} to {last}"
-        words = f"the history goes from {calendar.text(first)} to {calendar.text(last)}, the instants {first} to {last}"
-        return words if self.told else words + ", taken as seconds since 1970; a number is taken as an instant"
+        words = f"the history goes from {first} to {last}"
+        if calendar is not None:
+            words = f"the history goes from {calendar.text(first)} to {calendar.text(last)}, the instants {first} to {last}"
+            words += "" if self.told else ", taken as seconds since 1970; a number is taken as an instant"
+        # Who writes 2015 may have meant the year, but not where instants are years.
+        year = next((word for word in self.command.split(" ")[1:] if YEAR.fullmatch(word) and int(word) < first), None)
+        return f"{words}; for the year write {year}-01-01" if year and first > LAST_YEAR else words
 
 
 class UnknownHandle(Refused):

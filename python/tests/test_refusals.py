@@ -78,10 +78,24 @@ class Refusals(Case):
             self.assertEqual(self.refused(deltagraph.OutOfRange, store.several, [20, 51]).last, 50)
             self.assertEqual(self.refused(deltagraph.Syntax, store.ask, "at 20 ns").column, 7)
             self.assertEqual(self.refused(deltagraph.Syntax, store.ask, "lists 1").column, 5)
+            self.assertIn("columns are missing", str(self.refused(deltagraph.Syntax, store.ask, "at 20")))
+            self.assertNotIn("columns are missing", str(self.refused(deltagraph.Syntax, store.ask, "at 2x")))
             self.refused(deltagraph.LineLong, store.ask, "at " + "1" * 4096)
             self.refused(deltagraph.UnknownNode, store.materialise, "leaf 3")
             self.assertEqual(self.refused(deltagraph.UnknownHandle, store.ask, "list 9").handle, 9)
             self.assertEqual(self.refused(deltagraph.StoreRead, self.cut, store).number, 14)
+
+    def test_a_year_as_an_instant(self) -> None:
+        with self.open() as store:
+            store.create(2, 2)
+            store.load(["1262304000 +node 1", "1770940800 +node 2"])
+            told = str(self.refused(deltagraph.OutOfRange, store.at, 2015))
+            self.assertIn("from 1262304000 to 1770940800; for the year write 2015-01-01", told)
+        self.index.unlink()
+        with self.open() as store:
+            store.create(2, 2)
+            store.load(["1990 +node 1", "2010 +node 2"])
+            self.assertNotIn("for the year", str(self.refused(deltagraph.OutOfRange, store.at, 1985)))
 
     def cut(self, store: deltagraph.Store) -> None:
         os.truncate(self.index, 20)
