@@ -1,14 +1,17 @@
 """Graphs for networkx, igraph and pandas."""
 from __future__ import annotations
 
+import importlib.util
 import re
 from typing import TYPE_CHECKING, Any, Optional
 
 from .calendar import NOTE_KEY, noted
 from .replies import Edge, EdgeAttribute, Message, NodeAttribute
 from .snapshot import NAME
+from .tables import uncollected
 
 if TYPE_CHECKING:
+    from .arrays import Arrays
     from .snapshot import Snapshot
 
 WHOLE_NUMBER = re.compile(r"0|-?[1-9][0-9]{0,17}", re.ASCII)
@@ -48,6 +51,18 @@ def labels_of(nodes: AllValues, label: Optional[str]) -> dict[int, Any]:
 
 def networkx_of(snapshot: "Snapshot", label: Optional[str], numbers: bool) -> Any:
     """As `Snapshot.to_networkx`."""
+    with uncollected():  # it makes many dictionaries and no cycles
+        return made_networkx(snapshot, label, numbers)
+
+
+def made_networkx(snapshot: "Snapshot", label: Optional[str], numbers: bool) -> Any:
+    if not snapshot.columns.endswith("t") and snapshot.held is None and importlib.util.find_spec("numpy") is not None:
+        from .arrays import arrays_of
+
+        found = arrays_of(snapshot, numbers)
+        labels = found.node_values.get(label) if label is not None else None
+        if labels is None or labels.values.dtype == object:  # a name is a text, also where all are numbers
+            return networkx_from(found, label)
     import networkx
 
     nodes: AllValues = {}
@@ -82,6 +97,39 @@ def networkx_of(snapshot: "Snapshot", label: Optional[str], numbers: bool) -> An
     for number, (source, target, value) in enumerate(messages):
         graph.add_edge(names.get(source, source), names.get(target, target), f"msg {number}", message=value)
     return graph
+
+
+def networkx_from(found: "Arrays", label: Optional[str]) -> Any:
+    """The same graph as `made_networkx` makes from a listing, from arrays, which is faster."""
+    import networkx
+
+    nodes, edges = values_by_owner(found.nodes, found.node_values), values_by_owner(found.ids, found.edge_values)
+    names = labels_of(nodes, label)
+    directed = bool(found.directed.any())
+    graph = networkx.MultiDiGraph() if directed else networkx.MultiGraph()
+    graph.add_nodes_from((names.get(node, node), values) for node, values in nodes.items())
+    ends = [found.sources.tolist(), found.targets.tolist()]
+    if names:
+        ends = [list(map(names.__getitem__, column)) for column in ends]
+    arcs = list(zip(*ends, edges, edges.values()))
+    graph.add_edges_from(arcs)
+    if directed:
+        back = (arc for arc, is_arc in zip(arcs, found.directed.tolist()) if not is_arc)
+        graph.add_edges_from((target, source, number, values) for source, target, number, values in back)
+    return graph
+
+
+def values_by_owner(ids: Any, values: Any) -> AllValues:
+    """The values of each of some nodes or edges, by their keys."""
+    if len(values) == 1:
+        ((key, (owners, column)),) = values.items()
+        if len(owners) == len(ids):
+            return {owner: {key: value} for owner, value in zip(ids.tolist(), column.tolist())}
+    all_values: AllValues = {owner: {} for owner in ids.tolist()}
+    for key, (owners, column) in values.items():
+        for owner, value in zip(owners.tolist(), column.tolist()):
+            all_values[owner][key] = value
+    return all_values
 
 
 def pandas_of(snapshot: "Snapshot", label: Optional[str], numbers: bool) -> tuple[Any, Any]:
