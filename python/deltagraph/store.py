@@ -336,6 +336,16 @@ class Store:
         _, _, handle, read = self._ask_of(f"at {instant} {_known(columns)}", time).head()
         return Snapshot(self, int(handle), columns, int(read), instant)
 
+    def find(self, name: str, key: str = "name", time: Optional[Time] = None) -> list[int]:
+        """The ids of the nodes with this value for a key, as of a time, or of the last instant without one."""
+        if time is None:
+            span = self.span()
+            if span is None:
+                return []
+            time = span.last
+        with self.at(time, "sn") as graph:
+            return graph.find(name, key)
+
     def several(self, times: Iterable[Time], columns: str = "s") -> Snapshots:
         """The graphs as of some times, in their order, 32 together by a tree that reads each record once.
 

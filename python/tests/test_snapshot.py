@@ -53,6 +53,17 @@ class Snapshots(Case):
             snapshot.release()
         self.assertEqual(self.store.pool().live, 0)
 
+    def test_finding_by_a_value(self) -> None:
+        changes = ["10 +node 1", "10 nset 1 name Ada", "20 +node 2", "20 nset 2 name Ada", "30 nset 1 name Bob", "30 nset 1 age 7"]
+        with self.open(self.folder / "named.dg") as store:
+            store.create()
+            self.assertEqual(store.find("Ada"), [])
+            store.load(changes)
+            self.assertEqual((store.find("Ada"), store.find("Bob"), store.find("7", "age")), ([2], [1], [1]))
+            self.assertEqual((store.find("Ada", time=20), store.find("Eve"), store.find("Ada", "age")), ([1, 2], [], []))
+            with store.at(20) as graph, self.assertRaisesRegex(LookupError, "2 nodes are named"):
+                graph.node("Ada")
+
     def test_weights_of_several(self) -> None:
         snapshots = self.store.several([10, 20, 30], "sne")
         self.assertEqual(snapshots.bytes_singly, sum(snapshot.bytes_read for snapshot in snapshots))
