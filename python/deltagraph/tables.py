@@ -92,7 +92,7 @@ class Report(NamedTuple):
             (self.duplicates, "rows that repeat an earlier one, kept as ties of their own"),
             (self.empty, "rows that end when they begin, left out"),
         ):
-            told += f"; {count:,} {what}" if count else ""
+            told += f"; {what}: {count:,}" if count else ""
         return told
 
 

@@ -75,9 +75,9 @@ class Tables(Case):
         for part in (
             "4 rows, 4 nodes, 3 ties, ",
             "from 2019-01-01 to 2020-01-01",
-            "1 rows earlier than the row before them",
-            "1 rows that repeat an earlier one",
-            "1 rows that end when they begin, left out",
+            "rows earlier than the row before them, put in order: 1",
+            "rows that repeat an earlier one, kept as ties of their own: 1",
+            "rows that end when they begin, left out: 1",
         ):
             self.assertIn(part, text)
 
