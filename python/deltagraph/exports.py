@@ -56,7 +56,7 @@ def networkx_of(snapshot: "Snapshot", label: Optional[str], numbers: bool) -> An
 
 
 def made_networkx(snapshot: "Snapshot", label: Optional[str], numbers: bool) -> Any:
-    if not snapshot.columns.endswith("t") and snapshot.held is None and importlib.util.find_spec("numpy") is not None:
+    if not snapshot.columns.endswith("t") and snapshot.time is not None and importlib.util.find_spec("numpy") is not None:
         from .arrays import arrays_of
 
         found = arrays_of(snapshot, numbers)
