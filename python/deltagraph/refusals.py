@@ -194,7 +194,7 @@ class PoolFull(Refused):
         return int(self.rest[1])
 
     def words(self) -> str:
-        return f"{self.live} handles live, {self.asked} more are asked for, and there is room for 127; release some"
+        return f"{self.live} handles live, {self.asked} more are asked for, and there is room for 127; release some (`each` and `series` do)"
 
 
 class InUse(Refused):

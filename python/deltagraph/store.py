@@ -94,6 +94,9 @@ class Store:
 
     # The session.
 
+    def __repr__(self) -> str:
+        return f"<Store {self.index!r}{', ended' if self.ended else ''}>"
+
     @property
     def ended(self) -> bool:
         """Whether the store is closed, or its program has ended."""
@@ -291,6 +294,8 @@ class Store:
     def _add(
         self, word: str, changes: Iterable[AnyChange], progress: Optional[Progress], bar: Optional[bool], most: int
     ) -> Loaded:
+        if hasattr(changes, "columns"):
+            raise TypeError("a frame of ties is no list of changes: `deltagraph.from_pandas(path, frame)` makes an index of it")
         if not 1 <= most <= LARGEST_BATCH:
             raise ValueError(f"a batch has 1 to {LARGEST_BATCH} changes, and not {most}")
         total: Optional[int] = None

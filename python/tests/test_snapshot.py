@@ -53,6 +53,12 @@ class Snapshots(Case):
             snapshot.release()
         self.assertEqual(self.store.pool().live, 0)
 
+    def test_a_store_by_its_name(self) -> None:
+        self.assertEqual(repr(self.store), f"<Store {str(self.index)!r}>")
+        frame = type("Frame", (list,), {"columns": ["source"]})()
+        with self.assertRaisesRegex(TypeError, "from_pandas"):
+            self.store.append(frame)
+
     def test_finding_by_a_value(self) -> None:
         changes = ["10 +node 1", "10 nset 1 name Ada", "20 +node 2", "20 nset 2 name Ada", "30 nset 1 name Bob", "30 nset 1 age 7"]
         with self.open(self.folder / "named.dg") as store:
