@@ -5,10 +5,11 @@ import argparse
 import os
 import sys
 from io import TextIOWrapper
+from typing import Optional
 
 from . import open as open_store
 from .failures import DeltagraphError, ProgramEnded
-from .prompt import STATUS_SINK, FrontEnd, Lines, Script, SinkFailed, Typed, ended_status
+from .prompt import STATUS_SINK, FrontEnd, Lines, Script, SinkFailed, Typed, completions, ended_status
 
 HISTORY = "~/.deltagraph_history"
 KEPT = 1000  # lines of it
@@ -41,6 +42,13 @@ def edited() -> None:
         except OSError as error:
             print(f"{file}: {error.strerror}", file=sys.stderr)
 
+    def complete(begun: str, number: int) -> Optional[str]:
+        found = completions(readline.get_line_buffer()[: readline.get_begidx()], begun)
+        return found[number] + " " if number < len(found) else None
+
+    readline.set_completer_delims(" ")
+    readline.set_completer(complete)
+    readline.parse_and_bind("tab: complete")
     readline.set_history_length(KEPT)
     try:
         readline.read_history_file(file)

@@ -16,7 +16,7 @@ from .failures import DeltagraphError, ProgramEnded
 from .process import Reply
 from .refusals import BadChange, OutOfRange, Refused, refusal
 from .store import Store
-from .words import NUMBER, bytes_of, lines_after, text_of
+from .words import COLUMNS, NUMBER, bytes_of, lines_after, text_of
 
 HELP = """\
 The commands are those of the script language (docs/SCRIPT.md), as
@@ -32,6 +32,37 @@ last one that was given. And there are
   :dates ZERO UNIT         says which date instant 0 is, and the unit: seconds, days, ...; :dates alone tells it
   :help    :quit"""
 
+# What may stand at each place of a command; what stands last may stand again.
+HANDLES, TIMES, NOTHING = ("last",), ("first", "last"), ()
+WITH_MESSAGES = (*COLUMNS, *(columns + "t" for columns in COLUMNS))
+PLACES: dict[str, tuple[tuple[str, ...], ...]] = {
+    "append": (NOTHING,),
+    "at": (TIMES, WITH_MESSAGES, NOTHING),
+    "certify": (TIMES, COLUMNS, NOTHING),
+    "clean": (("all",), NOTHING),
+    "counts": (HANDLES, NOTHING),
+    "create": (NOTHING, NOTHING, ("balanced", "intersection", "skewed", "union"), NOTHING),
+    "diff": (TIMES, TIMES, WITH_MESSAGES, NOTHING),
+    "find": (NOTHING,),
+    "list": (HANDLES, NOTHING),
+    "load": (NOTHING,),
+    "materialise": (("inner", "leaf"), NOTHING, COLUMNS),
+    "neighbours": (HANDLES, NOTHING),
+    "node": (HANDLES, NOTHING),
+    "plan": (TIMES, COLUMNS, NOTHING),
+    "pool": (NOTHING,),
+    "release": (HANDLES, NOTHING),
+    "several": (WITH_MESSAGES, TIMES),
+    "top": (NOTHING, ("degree",), TIMES, NOTHING),
+    "tree": (NOTHING,),
+    "upgrade": (NOTHING,),
+    "verify": (NOTHING,),
+    "workload": (NOTHING,),
+    ":dates": (NOTHING,),
+    ":help": (NOTHING,),
+    ":quit": (NOTHING,),
+}
+
 OF_HANDLES = ("list", "counts", "node", "neighbours", "release")
 OF_TIMES = ("at", "plan", "certify")
 WITH_LAST = {"load": 4, "append": 4, "workload": 3}  # the word of a head line that is an instant
@@ -44,6 +75,15 @@ STATUS_REFUSED = 1  # with --strict
 STATUS_SINK = 4  # as of the program
 
 AN_INSTANT = re.compile(NUMBER, re.ASCII)
+
+
+def completions(before: str, begun: str) -> list[str]:
+    """The words that begin so and may stand behind what stands before them on a line."""
+    command, *words = before.split(" ")
+    if not words:
+        return [word for word in PLACES if word.startswith(begun)]
+    places = PLACES.get(command, (NOTHING,))
+    return [word for word in places[min(len(words), len(places)) - 1] if word.startswith(begun)]
 
 
 class SinkFailed(DeltagraphError):
@@ -112,7 +152,9 @@ class FrontEnd:
                     return 0
                 if not read or read.startswith(b"#"):
                     continue
-                wrong = self._obey(text_of(read), self._number)
+                text = text_of(read)
+                # What is completed ends with a space, which no command does.
+                wrong = self._obey(text.rstrip(" ") if self.typed else text, self._number)
             except KeyboardInterrupt:
                 if not self.typed:
                     raise

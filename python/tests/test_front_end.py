@@ -8,7 +8,10 @@ import signal
 import subprocess
 import sys
 import time
+import unittest
 from typing import Optional
+
+from deltagraph.prompt import completions
 
 from .support import FOLDER, Case, program
 
@@ -165,6 +168,22 @@ class Scripts(FrontEnd):
         self.assertEqual(self.run_script(b"at 5 s\n", "--program", str(killed))[0], 128 + signal.SIGKILL)
 
 
+class Completions(unittest.TestCase):
+    def test_words_at_their_places(self) -> None:
+        for before, begun, due in (
+            ("", "no", ["node"]),
+            ("", "n", ["neighbours", "node"]),
+            ("at ", "", ["first", "last"]),
+            ("at 2015-01-01 ", "sn", ["sn", "sne", "snt", "snet"]),
+            ("at 5 s ", "", []),
+            ("several se 5 6 7 ", "l", ["last"]),
+            ("list ", "", ["last"]),
+            ("top 5 ", "", ["degree"]),
+            ("what ", "", []),
+        ):
+            self.assertEqual(completions(before, begun), due, (before, begun))
+
+
 class Terminals(FrontEnd):
     def start(self, *options: str) -> None:
         process, self.terminal = pty.fork()
@@ -221,7 +240,7 @@ class Terminals(FrontEnd):
         self.start()
         self.until(b"deltagraph> ")
         self.assertTrue(self.say(b"at 40 sn").startswith(b"ok at 1 "))
-        self.assertEqual(self.say(b"node last 1"), b"ok node 1 1 yes 1\nattr name Ada L")
+        self.assertEqual(self.say(b"node last 1 "), b"ok node 1 1 yes 1\nattr name Ada L")
         self.assertEqual(self.say(b"foo"), b"`foo`: this is no command from column 1 on (refused 1 syntax 1)")
         self.assertEqual(self.say(b":dates 2020-01-01 days"), b"ok :dates 2020-01-01 days")
         self.assertIn(b"from 2020-01-11 to 2020-02-10", self.say(b"at 2019-12-31 s") + self.say(b"at 2021-01-01 s"))
