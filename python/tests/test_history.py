@@ -66,6 +66,7 @@ class HistoryTests(Case):
             self.assertEqual(rows(history.edge_values("weight")), weights)
             self.assertEqual(rows(history.edge_values("none")), [])
             self.assertEqual(rows(history.messages()), [(2, 1, 30, "Hello, you")])
+            self.assertEqual(rows(history.messages(label="name")), [("Bob", "Ada", 30, "Hello, you")])
             self.assertEqual(list(history.lines()), BY_HAND)
             changes = rows(store.changes())
             self.assertEqual(changes[3], (20, "+edge", 5, 1, 2, True, None, None))
