@@ -1,6 +1,6 @@
 //! A disk over another one. What ties the bytes that are kept to that disk is the ghost field `kept`, which may name its
 //! image, since the disk is a field beside it.
-ghost use Rattle.std.specs.Prelude.{◌≡◌, ◌≤◌, [], false, true};
+ghost use Rattle.std.specs.Prelude.{◌≡◌, [], false, true};
 ghost use Rattle.dg_disk.specs.Counts.{raised_by};
 ghost use Rattle.dg_cached_disk.specs.Standing.{stand};
 
@@ -44,7 +44,6 @@ impl<D: Disk + Drop> CachedDisk<D> {
     /// The disk of which it keeps what was read.
     pub fn disk(&self) -> &D
         ensures disk { result.now ≡ self.now.disk }
-        ensures no_more { raised_by 0 (D.taken result.now) ≤ ⟦<CachedDisk<D> as Disk>⟧.taken self.now }
     {
         &self.disk
     }
