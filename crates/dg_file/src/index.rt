@@ -494,15 +494,10 @@ impl Index {
 
     /// Reads a column of a record that the index keeps. `FetchFault::Disk` where the disk failed,
     /// `FetchFault::Memory` for want of memory.
-    pub fn fetch<D: Disk>(
-        &mut self,
-        disk: &mut D,
-        key: Key,
-        col: Column,
-    ) -> Result<Vec<u8>, FetchFault>
-        requires held { is_some (lookup (same_key key) self.old.opening.records) ≡ true }
-        requires image { IfSome (D.image disk.old) (λ image. IsOpenedAs image self.old.opening) }
-        ensures bytes { IfOk result (λ bytes. IfSome (D.image disk.old) (λ image. IfSome (lookup (same_key key) self.old.opening.records) (λ e. bytes.items ≡ column_at image e col))) }
+    pub fn fetch<D: Disk>(&self, disk: &mut D, key: Key, col: Column) -> Result<Vec<u8>, FetchFault>
+        requires held { is_some (lookup (same_key key) self.now.opening.records) ≡ true }
+        requires image { IfSome (D.image disk.old) (λ image. IsOpenedAs image self.now.opening) }
+        ensures bytes { IfOk result (λ bytes. IfSome (D.image disk.old) (λ image. IfSome (lookup (same_key key) self.now.opening.records) (λ e. bytes.items ≡ column_at image e col))) }
         ensures taken { IfOk result (λ bytes. D.taken disk.new ≡ taken_after (length bytes.items) (D.taken disk.old)) }
 
         // errors
@@ -510,7 +505,6 @@ impl Index {
         ensures none_taken { OnErr result (D.taken disk.new ≡ D.taken disk.old) }
 
         // frame
-        ensures same { self.new ≡ self.old }
         ensures frame { ReadsDisk D.Disk disk.old disk.new }
     {
         let entry = self.catalogue.entry(key).unwrap();
@@ -521,15 +515,15 @@ impl Index {
     /// Reads the first bytes of a column of a record that the index keeps: `most`, or all where it has no more.
     /// `FetchFault::Disk` where the disk failed, `FetchFault::Memory` for want of memory.
     pub fn fetch_front<D: Disk>(
-        &mut self,
+        &self,
         disk: &mut D,
         key: Key,
         col: Column,
         most: u64,
     ) -> Result<Vec<u8>, FetchFault>
-        requires held { is_some (lookup (same_key key) self.old.opening.records) ≡ true }
-        requires image { IfSome (D.image disk.old) (λ image. IsOpenedAs image self.old.opening) }
-        ensures bytes { IfOk result (λ bytes. IfSome (D.image disk.old) (λ image. IfSome (lookup (same_key key) self.old.opening.records) (λ e. bytes.items ≡ take most (column_at image e col)))) }
+        requires held { is_some (lookup (same_key key) self.now.opening.records) ≡ true }
+        requires image { IfSome (D.image disk.old) (λ image. IsOpenedAs image self.now.opening) }
+        ensures bytes { IfOk result (λ bytes. IfSome (D.image disk.old) (λ image. IfSome (lookup (same_key key) self.now.opening.records) (λ e. bytes.items ≡ take most (column_at image e col)))) }
         ensures taken { IfOk result (λ bytes. D.taken disk.new ≡ taken_after (length bytes.items) (D.taken disk.old)) }
 
         // errors
@@ -537,7 +531,6 @@ impl Index {
         ensures none_taken { OnErr result (D.taken disk.new ≡ D.taken disk.old) }
 
         // frame
-        ensures same { self.new ≡ self.old }
         ensures frame { ReadsDisk D.Disk disk.old disk.new }
     {
         let entry = self.catalogue.entry(key).unwrap();

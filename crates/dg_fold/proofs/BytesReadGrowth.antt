@@ -24,10 +24,6 @@ pub if_told : {X : Type 0} (o : Option X) (P : X → Type 0) → ForSome o P →
 if_told None P h = tt
 if_told (Some y) P h = h y refl
 
--- what is told of a value and an opening, of those that are the same
-at_start : (now image : Option (List ℕ)) (p o : Opening) (P : List ℕ → Opening → Type 0) → now ≡ image → p ≡ o → ForSome now (λ b. P b p) → ForSome image (λ b. P b o)
-at_start now image p o P same_image same h b is = subst (P b) same (h b (same_image ∙ is))
-
 -- ---- parts
 
 module _ (bytes : ColumnBytes) (cols : Columns) where
@@ -139,33 +135,31 @@ module _ (image : Option (List ℕ)) (o : Opening) (cols : Columns) (walk : List
           ∙ ap (sum_by (asked_length bytes (graph_columns cols))) (flat_map-append (λ (e : Edge). entered_by e.via) xs ys)
           ∙ sum_by-append (asked_length bytes (graph_columns cols)) (entered_along xs) (entered_along ys)
 
-  -- over a disk and an index that tell the same as at the start
-  module _ (now : Option (List ℕ)) (p : Opening) (same_image : now ≡ image) (same : p ≡ o) (parts : List Part) (a b c : ℕ) (s : SoFar image o cols walk i parts a b) where
+  -- over a disk that tells the same as at the start
+  module _ (now : Option (List ℕ)) (same_image : now ≡ image) (parts : List Part) (a b c : ℕ) (s : SoFar image o cols walk i parts a b) where
     pub so_far_more : (more : List Part)
         → named_in more ≡ named_in parts ++ named_by (get_or walk i d).via
-        → ForSome now (λ bytes. (named : List (Key × Way)) → AreParts (kept_in bytes p) cols named parts → AreParts (kept_in bytes p) cols (named ++ named_by (get_or walk i d).via) more)
-        → ForSome now (λ bytes. Takes (sum_by (asked_length (kept_in bytes p) (graph_columns cols)) (entered_by (get_or walk i d).via)) b c)
+        → ForSome now (λ bytes. (named : List (Key × Way)) → AreParts (kept_in bytes o) cols named parts → AreParts (kept_in bytes o) cols (named ++ named_by (get_or walk i d).via) more)
+        → ForSome now (λ bytes. Takes (sum_by (asked_length (kept_in bytes o) (graph_columns cols)) (entered_by (get_or walk i d).via)) b c)
         → SoFar image o cols walk (i + 1) more a c
     so_far_more more named are takes = record {
       named = named ∙ ap (λ l. l ++ named_by (get_or walk i d).via) s.named ∙ sym (along (λ (e : Edge). named_by e.via));
       are = λ bytes is.
           subst (λ l. AreParts (kept_in bytes o) cols l more) (sym (along (λ (e : Edge). named_by e.via)))
-          (at_start now image p o
-          (λ x q. (names : List (Key × Way)) → AreParts (kept_in x q) cols names parts → AreParts (kept_in x q) cols (names ++ named_by (get_or walk i d).via) more)
-          same_image same are bytes is (named_along (take i walk)) (s.are bytes is));
+          (are bytes (same_image ∙ is) (named_along (take i walk)) (s.are bytes is));
       takes = λ bytes is.
           subst (λ n. Takes n a c) (sym (next_length (kept_in bytes o)))
           (takes_both (entered_length (kept_in bytes o) cols (take i walk)) (sum_by (asked_length (kept_in bytes o) (graph_columns cols)) (entered_by (get_or walk i d).via)) a b c (s.takes bytes is)
-          (at_start now image p o (λ x q. Takes (sum_by (asked_length (kept_in x q) (graph_columns cols)) (entered_by (get_or walk i d).via)) b c) same_image same takes bytes is));
+          (takes bytes (same_image ∙ is)));
       rest = subst (λ l. HoldsWhatIsEntered l (drop (i + 1) walk)) (sym (along (λ (e : Edge). entered_by e.via))) (at_next parts a b s).1;
     }
 
     -- where the next edge was read in part
-    pub most_of_walk : ForSome now (λ bytes. TakesAtMost (sum_by (asked_length (kept_in bytes p) (graph_columns cols)) (entered_by (get_or walk i d).via)) b c)
+    pub most_of_walk : ForSome now (λ bytes. TakesAtMost (sum_by (asked_length (kept_in bytes o) (graph_columns cols)) (entered_by (get_or walk i d).via)) b c)
         → IfSome image (λ bytes. TakesAtMost (entered_length (kept_in bytes o) cols walk) a c)
     most_of_walk most =
         if_told image (λ bytes. TakesAtMost (entered_length (kept_in bytes o) cols walk) a c)
         (λ bytes is. takes_most (entered_length (kept_in bytes o) cols (take i walk)) (sum_by (asked_length (kept_in bytes o) (graph_columns cols)) (entered_by (get_or walk i d).via)) (entered_length (kept_in bytes o) cols walk) a b c
         (s.takes bytes is)
-        (at_start now image p o (λ x q. TakesAtMost (sum_by (asked_length (kept_in x q) (graph_columns cols)) (entered_by (get_or walk i d).via)) b c) same_image same most bytes is)
+        (most bytes (same_image ∙ is))
         (no_more (kept_in bytes o)))

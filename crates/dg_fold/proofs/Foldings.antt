@@ -72,30 +72,30 @@ module _ (image : Option (List ℕ)) (o : Opening) (cols : Columns) (walk left r
       ∙ ap (sum_by (asked_length bytes (graph_columns cols))) (flat_map-append (λ (e : Edge). entered_by e.via) left right)
       ∙ sum_by-append (asked_length bytes (graph_columns cols)) (entered_along left) (entered_along right)
 
-  -- over a disk and an index that tell the same as at the start
-  module _ (now : Option (List ℕ)) (p : Opening) (same_image : now ≡ image) (same : p ≡ o) where
-    at_start : (P : List ℕ → Opening → Type 0) → IfSome now (λ b. P b p) → IfSome image (λ b. P b o)
-    at_start P h = subst (λ (q : Opening). IfSome image (λ b. P b q)) same (subst (λ m. IfSome m (λ b. P b p)) same_image h)
+  -- over a disk that tells the same as at the start
+  module _ (now : Option (List ℕ)) (same_image : now ≡ image) where
+    at_start : (P : List ℕ → Type 0) → IfSome now P → IfSome image P
+    at_start P h = subst (λ m. IfSome m P) same_image h
 
-    pub takes_behind : (x y z : ℕ) → IfSome image (λ b. Takes (entered_length (kept_in b o) cols left) x y) → IfSome now (λ b. Takes (entered_length (kept_in b p) cols right) y z)
+    pub takes_behind : (x y z : ℕ) → IfSome image (λ b. Takes (entered_length (kept_in b o) cols left) x y) → IfSome now (λ b. Takes (entered_length (kept_in b o) cols right) y z)
         → IfSome image (λ b. Takes (entered_length (kept_in b o) cols walk) x z)
     takes_behind x y z first then =
         told_both image (λ b. Takes (entered_length (kept_in b o) cols left) x y) (λ b. Takes (entered_length (kept_in b o) cols right) y z) (λ b. Takes (entered_length (kept_in b o) cols walk) x z) first
-        (at_start (λ b q. Takes (entered_length (kept_in b q) cols right) y z) then)
+        (at_start (λ b. Takes (entered_length (kept_in b o) cols right) y z) then)
         (λ b f g. subst (λ n. Takes n x z) (sym (weighs (kept_in b o))) (takes_both (entered_length (kept_in b o) cols left) (entered_length (kept_in b o) cols right) x y z f g))
 
-    pub most_behind : (x y z : ℕ) → IfSome image (λ b. Takes (entered_length (kept_in b o) cols left) x y) → IfSome now (λ b. TakesAtMost (entered_length (kept_in b p) cols right) y z)
+    pub most_behind : (x y z : ℕ) → IfSome image (λ b. Takes (entered_length (kept_in b o) cols left) x y) → IfSome now (λ b. TakesAtMost (entered_length (kept_in b o) cols right) y z)
         → IfSome image (λ b. TakesAtMost (entered_length (kept_in b o) cols walk) x z)
     most_behind x y z first then =
         told_both image (λ b. Takes (entered_length (kept_in b o) cols left) x y) (λ b. TakesAtMost (entered_length (kept_in b o) cols right) y z) (λ b. TakesAtMost (entered_length (kept_in b o) cols walk) x z) first
-        (at_start (λ b q. TakesAtMost (entered_length (kept_in b q) cols right) y z) then)
+        (at_start (λ b. TakesAtMost (entered_length (kept_in b o) cols right) y z) then)
         (λ b f g. takes_most (entered_length (kept_in b o) cols left) (entered_length (kept_in b o) cols right) (entered_length (kept_in b o) cols walk) x y z f g (let e = weighs (kept_in b o) in omega arith))
 
-    pub parts_behind : (ps qs : List Part) → IfSome image (λ b. AreParts (kept_in b o) cols (named_along left) ps) → IfSome now (λ b. AreParts (kept_in b p) cols (named_along right) qs)
+    pub parts_behind : (ps qs : List Part) → IfSome image (λ b. AreParts (kept_in b o) cols (named_along left) ps) → IfSome now (λ b. AreParts (kept_in b o) cols (named_along right) qs)
         → IfSome image (λ b. AreParts (kept_in b o) cols (named_along walk) (ps ++ qs))
     parts_behind ps qs first then =
         told_both image (λ b. AreParts (kept_in b o) cols (named_along left) ps) (λ b. AreParts (kept_in b o) cols (named_along right) qs) (λ b. AreParts (kept_in b o) cols (named_along walk) (ps ++ qs)) first
-        (at_start (λ b q. AreParts (kept_in b q) cols (named_along right) qs) then)
+        (at_start (λ b. AreParts (kept_in b o) cols (named_along right) qs) then)
         (λ b f g. subst (λ names. AreParts (kept_in b o) cols names (ps ++ qs)) (sym (ap named_along cut ∙ flat_map-append (λ (e : Edge). named_by e.via) left right))
         (parts_both (kept_in b o) cols (named_along left) (named_along right) ps qs f g))
 

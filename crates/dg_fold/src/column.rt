@@ -54,8 +54,8 @@ fn fault_of(fault: ReadFault, key: Key, col: Column) -> FoldFault
     }
 }
 
-// The events without their positions.
-fn events_of(alloc: Global, placed: &[Placed]) -> Result<Vec<Event>, AllocError>
+/// The events without their positions.
+pub fn events_of(alloc: Global, placed: &[Placed]) -> Result<Vec<Event>, AllocError>
     ensures { IfOk result (λ v. v.items ≡ map (λ (p : Placed). p.event) placed.now) }
 {
     let mut events = Vec::with_capacity(alloc, placed.len())?;

@@ -4,7 +4,6 @@ ghost use Rattle.std.specs.Prelude.{◌≡◌, ◌++◌, [], ◌∷◌, List, ma
 ghost use Rattle.std.specs.List.{All, Contains};
 ghost use Rattle.std.specs.Option.{ForSome};
 ghost use Rattle.dg_disk.specs.Calls.{Fails, ReadsDisk};
-ghost use Rattle.dg_disk.specs.Calls.{ReadsDisk};
 ghost use Rattle.dg_file.specs.Images.{IsOpenedAs};
 ghost use Rattle.dg_graph.specs.declared.element.Column.{Column};
 ghost use Rattle.dg_history.specs.declared.node.Key.{Key};
@@ -73,26 +72,25 @@ fn add(parts: &mut Vec<Part>, key: Key, way: Way, bytes: Bytes) -> Result<(), Al
 // Reads the record that an edge enters, and adds the part of the record that it names.
 fn take_step<D: Disk>(
     alloc: Global,
-    index: &mut Index,
+    index: &Index,
     disk: &mut D,
     via: Via,
     cols: Columns,
     parts: &mut Vec<Part>,
 ) -> Result<(), FetchFault>
-    requires kept { IsKept index.old.opening via }
+    requires kept { IsKept index.now.opening via }
     requires entered { IsEntered (map (λ (p : Part). p.key) parts.old.items) via }
-    requires image { IfSome (D.image disk.old) (λ image. IsOpenedAs image index.old.opening) }
+    requires image { IfSome (D.image disk.old) (λ image. IsOpenedAs image index.now.opening) }
     ensures named { OnOk result (named_in parts.new.items ≡ named_in parts.old.items ++ named_by via) }
-    ensures parts { OnOk result (ForSome (D.image disk.old) (λ image. (named : List (Key × Way)) → AreParts (kept_in image index.old.opening) cols named parts.old.items
-        → AreParts (kept_in image index.old.opening) cols (named ++ named_by via) parts.new.items)) }
-    ensures takes { OnOk result (ForSome (D.image disk.old) (λ image. Takes (sum_by (asked_length (kept_in image index.old.opening) (graph_columns cols)) (entered_by via)) (D.taken disk.old) (D.taken disk.new))) }
-    ensures most { ForSome (D.image disk.old) (λ image. TakesAtMost (sum_by (asked_length (kept_in image index.old.opening) (graph_columns cols)) (entered_by via)) (D.taken disk.old) (D.taken disk.new)) }
+    ensures parts { OnOk result (ForSome (D.image disk.old) (λ image. (named : List (Key × Way)) → AreParts (kept_in image index.now.opening) cols named parts.old.items
+        → AreParts (kept_in image index.now.opening) cols (named ++ named_by via) parts.new.items)) }
+    ensures takes { OnOk result (ForSome (D.image disk.old) (λ image. Takes (sum_by (asked_length (kept_in image index.now.opening) (graph_columns cols)) (entered_by via)) (D.taken disk.old) (D.taken disk.new))) }
+    ensures most { ForSome (D.image disk.old) (λ image. TakesAtMost (sum_by (asked_length (kept_in image index.now.opening) (graph_columns cols)) (entered_by via)) (D.taken disk.old) (D.taken disk.new)) }
 
     // errors
     ensures cause { IsErrOf result FetchFault.Disk → Fails D.Disk disk.old disk.new }
 
     // frame
-    ensures same { index.new ≡ index.old }
     ensures frame { ReadsDisk D.Disk disk.old disk.new }
 {
     match via {
@@ -118,23 +116,22 @@ fn take_step<D: Disk>(
 /// want of memory.
 pub fn fetch_walk<D: Disk>(
     alloc: Global,
-    index: &mut Index,
+    index: &Index,
     disk: &mut D,
     walk: &[Edge],
     cols: Columns,
 ) -> Result<Vec<Part>, FetchFault>
-    requires kept { All (λ (e : Edge). IsKept index.old.opening e.via) walk.now }
+    requires kept { All (λ (e : Edge). IsKept index.now.opening e.via) walk.now }
     requires entered { HoldsWhatIsEntered [] walk.now }
-    requires image { IfSome (D.image disk.old) (λ image. IsOpenedAs image index.old.opening) }
-    ensures parts { IfOk result (λ parts. IfSome (D.image disk.old) (λ image. AreParts (kept_in image index.old.opening) cols (named_along walk.now) parts.items)) }
-    ensures takes { OnOk result (IfSome (D.image disk.old) (λ image. Takes (entered_length (kept_in image index.old.opening) cols walk.now) (D.taken disk.old) (D.taken disk.new))) }
-    ensures most { IfSome (D.image disk.old) (λ image. TakesAtMost (entered_length (kept_in image index.old.opening) cols walk.now) (D.taken disk.old) (D.taken disk.new)) }
+    requires image { IfSome (D.image disk.old) (λ image. IsOpenedAs image index.now.opening) }
+    ensures parts { IfOk result (λ parts. IfSome (D.image disk.old) (λ image. AreParts (kept_in image index.now.opening) cols (named_along walk.now) parts.items)) }
+    ensures takes { OnOk result (IfSome (D.image disk.old) (λ image. Takes (entered_length (kept_in image index.now.opening) cols walk.now) (D.taken disk.old) (D.taken disk.new))) }
+    ensures most { IfSome (D.image disk.old) (λ image. TakesAtMost (entered_length (kept_in image index.now.opening) cols walk.now) (D.taken disk.old) (D.taken disk.new)) }
 
     // errors
     ensures cause { IsErrOf result FetchFault.Disk → Fails D.Disk disk.old disk.new }
 
     // frame
-    ensures same { index.new ≡ index.old }
     ensures frame { ReadsDisk D.Disk disk.old disk.new }
 {
     let mut parts = Vec::new(alloc);

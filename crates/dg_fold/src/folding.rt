@@ -109,7 +109,7 @@ fn compose_both(
 fn push_walk<R: Threads, D: Disk>(
     rt: &R,
     alloc: Global,
-    index: &mut Index,
+    index: &Index,
     disk: &mut D,
     name_count: u32,
     walk: &[Edge],
@@ -117,18 +117,17 @@ fn push_walk<R: Threads, D: Disk>(
     stack: &mut DeltaStack,
     spare: &mut DeltaStack,
 ) -> Result<Result<(), FoldFault>, FetchFault>
-    requires kept { All (λ (e : Edge). IsKept index.old.opening e.via) walk.now }
+    requires kept { All (λ (e : Edge). IsKept index.now.opening e.via) walk.now }
     requires entered { HoldsWhatIsEntered [] walk.now }
-    requires image { IfSome (D.image disk.old) (λ image. IsOpenedAs image index.old.opening) }
-    ensures pushed { IfOk result (λ pushed. HasParts (D.image disk.old) index.old.opening cols walk.now (λ parts. StandsOrFails pushed (parts_in name_count parts) (stacked stack.old) (stacked stack.new))) }
-    ensures takes { OnOk result (IfSome (D.image disk.old) (λ image. Takes (entered_length (kept_in image index.old.opening) cols walk.now) (D.taken disk.old) (D.taken disk.new))) }
-    ensures most { IfSome (D.image disk.old) (λ image. TakesAtMost (entered_length (kept_in image index.old.opening) cols walk.now) (D.taken disk.old) (D.taken disk.new)) }
+    requires image { IfSome (D.image disk.old) (λ image. IsOpenedAs image index.now.opening) }
+    ensures pushed { IfOk result (λ pushed. HasParts (D.image disk.old) index.now.opening cols walk.now (λ parts. StandsOrFails pushed (parts_in name_count parts) (stacked stack.old) (stacked stack.new))) }
+    ensures takes { OnOk result (IfSome (D.image disk.old) (λ image. Takes (entered_length (kept_in image index.now.opening) cols walk.now) (D.taken disk.old) (D.taken disk.new))) }
+    ensures most { IfSome (D.image disk.old) (λ image. TakesAtMost (entered_length (kept_in image index.now.opening) cols walk.now) (D.taken disk.old) (D.taken disk.new)) }
 
     // errors
     ensures cause { IsErrOf result FetchFault.Disk → Fails D.Disk disk.old disk.new }
 
     // frame
-    ensures same { index.new ≡ index.old }
     ensures frame { ReadsDisk D.Disk disk.old disk.new }
 {
     let Some(middle) = cut_of(walk) else {
@@ -158,24 +157,23 @@ fn push_walk<R: Threads, D: Disk>(
 pub fn fold_walk<R: Threads, D: Disk>(
     rt: &R,
     alloc: Global,
-    index: &mut Index,
+    index: &Index,
     disk: &mut D,
     name_count: u32,
     walk: &[Edge],
     cols: Columns,
 ) -> Result<Result<Delta, FoldFault>, FetchFault>
-    requires kept { All (λ (e : Edge). IsKept index.old.opening e.via) walk.now }
+    requires kept { All (λ (e : Edge). IsKept index.now.opening e.via) walk.now }
     requires entered { HoldsWhatIsEntered [] walk.now }
-    requires image { IfSome (D.image disk.old) (λ image. IsOpenedAs image index.old.opening) }
-    ensures folded { IfOk result (λ folded. HasParts (D.image disk.old) index.old.opening cols walk.now (λ parts. Folds folded (parts_in name_count parts))) }
-    ensures takes { OnOk result (IfSome (D.image disk.old) (λ image. Takes (entered_length (kept_in image index.old.opening) cols walk.now) (D.taken disk.old) (D.taken disk.new))) }
-    ensures most { IfSome (D.image disk.old) (λ image. TakesAtMost (entered_length (kept_in image index.old.opening) cols walk.now) (D.taken disk.old) (D.taken disk.new)) }
+    requires image { IfSome (D.image disk.old) (λ image. IsOpenedAs image index.now.opening) }
+    ensures folded { IfOk result (λ folded. HasParts (D.image disk.old) index.now.opening cols walk.now (λ parts. Folds folded (parts_in name_count parts))) }
+    ensures takes { OnOk result (IfSome (D.image disk.old) (λ image. Takes (entered_length (kept_in image index.now.opening) cols walk.now) (D.taken disk.old) (D.taken disk.new))) }
+    ensures most { IfSome (D.image disk.old) (λ image. TakesAtMost (entered_length (kept_in image index.now.opening) cols walk.now) (D.taken disk.old) (D.taken disk.new)) }
 
     // errors
     ensures cause { IsErrOf result FetchFault.Disk → Fails D.Disk disk.old disk.new }
 
     // frame
-    ensures same { index.new ≡ index.old }
     ensures frame { ReadsDisk D.Disk disk.old disk.new }
 {
     let mut stack = DeltaStack::new(alloc);

@@ -19,7 +19,7 @@ mod tree;
 mod tree_step;
 mod writing;
 
-pub use column::{is_sound_part, part_delta_as};
+pub use column::{events_of, is_sound_part, part_delta_as};
 pub use composing::{compose_for, composed, is_for};
 pub use dg_delta::Delta;
 pub use fault::FoldFault;
@@ -34,5 +34,5 @@ pub use laws::{
 };
 pub use part::{Bytes, Part};
 pub use plan::compose_plan;
-pub use tree::Branch;
-pub use writing::{Writing, write_tree};
+pub use tree::{Branch, edges_of};
+pub use writing::{Writing, all_go_back, is_same_node, write_tree};

@@ -4,7 +4,6 @@ ghost use Rattle.std.specs.Prelude.{◌≡◌, true, length, is_some, IfOk, IfSo
 ghost use Rattle.std.specs.Map.{lookup};
 ghost use Rattle.std.specs.Option.{ForSome};
 ghost use Rattle.dg_disk.specs.Calls.{Fails, ReadsDisk};
-ghost use Rattle.dg_disk.specs.Calls.{ReadsDisk};
 ghost use Rattle.dg_file.specs.Images.{IsOpenedAs};
 ghost use Rattle.dg_graph.specs.declared.element.Column.{Column};
 ghost use Rattle.dg_history.specs.Keys.{same_key};
@@ -25,15 +24,15 @@ use std::alloc::Global;
 // front is read, which tells that it is damaged.
 fn read_column<D: Disk>(
     alloc: Global,
-    index: &mut Index,
+    index: &Index,
     disk: &mut D,
     key: Key,
     col: Column,
     cols: Columns,
 ) -> Result<Vec<u8>, FetchFault>
-    requires held { is_some (lookup (same_key key) index.old.opening.records) ≡ true }
-    requires image { IfSome (D.image disk.old) (λ image. IsOpenedAs image index.old.opening) }
-    ensures bytes { IfOk result (λ v. ForSome (D.image disk.old) (λ image. v.items ≡ asked_column (kept_in image index.old.opening) cols key col)) }
+    requires held { is_some (lookup (same_key key) index.now.opening.records) ≡ true }
+    requires image { IfSome (D.image disk.old) (λ image. IsOpenedAs image index.now.opening) }
+    ensures bytes { IfOk result (λ v. ForSome (D.image disk.old) (λ image. v.items ≡ asked_column (kept_in image index.now.opening) cols key col)) }
     ensures takes { IfOk result (λ v. Takes (length v.items) (D.taken disk.old) (D.taken disk.new)) }
 
     // errors
@@ -41,7 +40,6 @@ fn read_column<D: Disk>(
     ensures cause { IsErrOf result FetchFault.Disk → Fails D.Disk disk.old disk.new }
 
     // frame
-    ensures same { index.new ≡ index.old }
     ensures frame { ReadsDisk D.Disk disk.old disk.new }
 {
     if !asks(cols, col) {
@@ -57,22 +55,21 @@ fn read_column<D: Disk>(
 /// failed, `FetchFault::Memory` for want of memory.
 pub(crate) fn read_record<D: Disk>(
     alloc: Global,
-    index: &mut Index,
+    index: &Index,
     disk: &mut D,
     key: Key,
     cols: Columns,
 ) -> Result<Bytes, FetchFault>
-    requires held { is_some (lookup (same_key key) index.old.opening.records) ≡ true }
-    requires image { IfSome (D.image disk.old) (λ image. IsOpenedAs image index.old.opening) }
-    ensures bytes { IfOk result (λ b. ForSome (D.image disk.old) (λ image. (col : Column) → bytes_in b col ≡ asked_column (kept_in image index.old.opening) (graph_columns cols) key col)) }
-    ensures takes { OnOk result (ForSome (D.image disk.old) (λ image. Takes (asked_length (kept_in image index.old.opening) (graph_columns cols) key) (D.taken disk.old) (D.taken disk.new))) }
-    ensures most { ForSome (D.image disk.old) (λ image. TakesAtMost (asked_length (kept_in image index.old.opening) (graph_columns cols) key) (D.taken disk.old) (D.taken disk.new)) }
+    requires held { is_some (lookup (same_key key) index.now.opening.records) ≡ true }
+    requires image { IfSome (D.image disk.old) (λ image. IsOpenedAs image index.now.opening) }
+    ensures bytes { IfOk result (λ b. ForSome (D.image disk.old) (λ image. (col : Column) → bytes_in b col ≡ asked_column (kept_in image index.now.opening) (graph_columns cols) key col)) }
+    ensures takes { OnOk result (ForSome (D.image disk.old) (λ image. Takes (asked_length (kept_in image index.now.opening) (graph_columns cols) key) (D.taken disk.old) (D.taken disk.new))) }
+    ensures most { ForSome (D.image disk.old) (λ image. TakesAtMost (asked_length (kept_in image index.now.opening) (graph_columns cols) key) (D.taken disk.old) (D.taken disk.new)) }
 
     // errors
     ensures cause { IsErrOf result FetchFault.Disk → Fails D.Disk disk.old disk.new }
 
     // frame
-    ensures same { index.new ≡ index.old }
     ensures frame { ReadsDisk D.Disk disk.old disk.new }
 {
     let structure = read_column(alloc, index, disk, key, Column::Structure, cols)?;

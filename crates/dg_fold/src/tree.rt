@@ -22,8 +22,8 @@ pub struct Branch {
     pub to: NodeId,
 }
 
-// The edges of all branches, in order.
-fn edges_of(alloc: Global, branches: &[Branch]) -> Result<Vec<Edge>, AllocError>
+/// The edges of all branches, in order.
+pub fn edges_of(alloc: Global, branches: &[Branch]) -> Result<Vec<Edge>, AllocError>
     ensures { IfOk result (λ v. v.items ≡ all_edges branches.now) }
 {
     let mut edges = Vec::new(alloc);

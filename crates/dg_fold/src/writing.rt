@@ -44,8 +44,8 @@ fn ends_of(alloc: Global, branches: &[Branch]) -> Result<Vec<NodeId>, AllocError
     Ok(nodes)
 }
 
-// Whether the two are one node.
-fn is_same(left: NodeId, right: NodeId) -> bool
+/// Whether the two are one node.
+pub fn is_same_node(left: NodeId, right: NodeId) -> bool
     ensures same { IsTrue result → left ≡ right }
     ensures all { left ≡ right → IsTrue result }
 {
@@ -57,16 +57,18 @@ fn is_same(left: NodeId, right: NodeId) -> bool
 fn goes_back(at: &mut NodeId, edge: Edge) -> bool
     ensures { GoesBack edge at.old at.new result }
 {
-    if !is_same(*at, edge.to) {
+    if !is_same_node(*at, edge.to) {
         return false;
     }
     *at = edge.from;
     true
 }
 
-// Goes back by an edge with the path of each target. Answers which of them take it.
-fn all_go_back(alloc: Global, at: &mut [NodeId], edge: Edge) -> Result<Vec<bool>, AllocError>
+/// Goes back by an edge with the path to each node: a path that has still to reach the node behind the edge has then to
+/// reach the one before it. Answers which of the paths take the edge.
+pub fn all_go_back(alloc: Global, at: &mut [NodeId], edge: Edge) -> Result<Vec<bool>, AllocError>
     ensures len { length at.new ≡ length at.old }
+    ensures count { IfOk result (λ takes. length takes.items ≡ length at.old) }
     ensures back { IfOk result (λ takes. (n : ℕ) → n < length at.old → GoesBack edge (get_or at.old n Root) (get_or at.new n Root) (get_or takes.items n false)) }
 {
     let mut takes = Vec::with_capacity(alloc, at.len())?;

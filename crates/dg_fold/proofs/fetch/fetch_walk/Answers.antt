@@ -1,9 +1,8 @@
-use Rattle.std.proofs.Common.{sym, ap, subst, ◌∙◌}
+use Rattle.std.proofs.Common.{sym, subst}
 use Rattle.std.specs.Option.{IfSome}
 use Rattle.std.proofs.lemmas.List.{take_all}
 use Rattle.dg_disk.proofs.FrameLemmas.{reads_then}
 use Rattle.dg_file.specs.Images.{IsOpenedAs}
-use Rattle.dg_index.specs.OpenedIndex.{Opening}
 use Rattle.dg_fold.specs.BytesRead.{AreParts, kept_in, named_along}
 use Rattle.dg_fold.proofs.BytesReadGrowth.{if_told, is_entered, most_of_walk, so_far_more}
 use Rattle.dg_fold.proofs.fetch.fetch_walk.Goals as goal
@@ -15,23 +14,21 @@ take_step-requires-clause-entered g c =
 
 pub take_step-requires-clause-image : goal.take_step-requires-clause-image
 take_step-requires-clause-image g c =
-    subst (λ m. IfSome m (λ image. IsOpenedAs image c.loop-edge.index.opening)) (sym c.loop-edge.invariant.frame.same_image)
-    (subst (λ (o : Opening). IfSome (g.D.Disk.image c.args.disk.now) (λ image. IsOpenedAs image o)) (sym (ap (λ x. x.opening) c.loop-edge.invariant.same)) c.requires.image)
+    subst (λ m. IfSome m (λ image. IsOpenedAs image c.args.index.now.opening)) (sym c.loop-edge.invariant.frame.same_image) c.requires.image
 
 pub returns-in_err-take_step-clause-most : goal.returns-in_err-take_step-clause-most
 returns-in_err-take_step-clause-most g c =
     most_of_walk (g.D.Disk.image c.args.disk.now) c.args.index.now.opening c.args.cols c.args.walk.now c.loop-edge.edge-index _ c.loop-edge-test.true
-    (g.D.Disk.image c.loop-edge.disk) c.loop-edge.index.opening c.loop-edge.invariant.frame.same_image (ap (λ x. x.opening) c.loop-edge.invariant.same)
+    (g.D.Disk.image c.loop-edge.disk) c.loop-edge.invariant.frame.same_image
     c.loop-edge.parts.items (g.D.Disk.taken c.args.disk.now) (g.D.Disk.taken c.loop-edge.disk) (g.D.Disk.taken c.take_step.new.disk) c.loop-edge.invariant.so_far
     c.take_step.ensures.most
 
 pub loop-edge-preserved : goal.loop-edge-preserved
 loop-edge-preserved g c = record {
   so_far = so_far_more (g.D.Disk.image c.args.disk.now) c.args.index.now.opening c.args.cols c.args.walk.now c.loop-edge.edge-index _ c.loop-edge-test.true
-      (g.D.Disk.image c.loop-edge.disk) c.loop-edge.index.opening c.loop-edge.invariant.frame.same_image (ap (λ x. x.opening) c.loop-edge.invariant.same)
+      (g.D.Disk.image c.loop-edge.disk) c.loop-edge.invariant.frame.same_image
       c.loop-edge.parts.items (g.D.Disk.taken c.args.disk.now) (g.D.Disk.taken c.loop-edge.disk) (g.D.Disk.taken c.take_step.new.disk) c.loop-edge.invariant.so_far
       c.take_step.new.parts.items c.in_ok-take_step.ensures.named c.in_ok-take_step.ensures.parts c.in_ok-take_step.ensures.takes;
-  same = c.take_step.ensures.same ∙ c.loop-edge.invariant.same;
   frame = reads_then c.loop-edge.invariant.frame c.take_step.ensures.frame;
 }
 
