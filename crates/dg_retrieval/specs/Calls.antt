@@ -4,7 +4,6 @@ use Rattle.std.specs.Global.{Vec}
 use Rattle.std.specs.List.{All, sum}
 use Rattle.dg_disk.specs.Calls.{Fails, ReadsDisk}
 use Rattle.dg_disk.specs.declared.disk.Disk.{Ghosts}
-use Rattle.dg_file.specs.Index.{IndexState}
 use Rattle.dg_fold.specs.BytesRead.{AreParts, Takes, TakesAtMost, kept_in, named_along}
 use Rattle.dg_fold.specs.Trees.{Grow, LeadsToTarget}
 use Rattle.dg_graph.specs.Composition.{applied}
@@ -39,9 +38,8 @@ use Rattle.dg_retrieval.specs.TreeParts.{IsTreeWalk}
 
 -- ---- every call
 
--- The index and the image are as they were, and where the call says that a read failed, one did.
-pub record ReadsRecords {A D : Type 0} (g : Ghosts D) (before after : IndexState) (old new : D) (result : Result A RetrievalFault) : Type 0 where
-  pub same : after ≡ before
+-- The image is as it was, and where the call says that a read failed, one did.
+pub record ReadsRecords {A D : Type 0} (g : Ghosts D) (old new : D) (result : Result A RetrievalFault) : Type 0 where
   pub disk : ReadsDisk g old new
   pub cause : IsErrOf result fault.Disk → Fails g old new
 
@@ -109,6 +107,15 @@ pub record HasTreeParts (edges : List Edge) (o : Opening) (cols : Columns) (targ
   pub count : length r.branches.items ≡ length targets
   pub lead : All LeadsToTarget r.branches.items
   pub grow : Grow [] r.branches.items
+
+-- In this image the leads are those to which the records of a tree of the targets lead, and the weight that is given is
+-- that of this tree.
+pub record IsLedAlongTree (name_count : ℕ) (recent : List Event) (edges : List Edge) (o : Opening) (cols : Columns) (targets : List NodeId) (times : List ℕ) (image : List ℕ)
+    (r : Retrieved) : Type 0 where
+  pub grafts : List (Graft NodeId)
+  pub tree : IsTree (arcs_of edges) (Root ∷ []) targets grafts
+  pub weight : r.weight ≡ tree_weight (arcs_of edges) grafts
+  pub led : AreTreeLeads name_count recent edges o cols targets grafts times (leads_in r.leads) image
 
 -- With the image and the index of a history: as many bytes are read as the tree given weighs, and no more where the
 -- call fails, and never more than the single plans weigh together.

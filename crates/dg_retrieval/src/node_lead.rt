@@ -52,26 +52,26 @@ pub struct NodeLead {
 pub fn retrieve_node<R: Threads + Sync, D: Disk>(
     rt: &R,
     alloc: Global,
-    index: &mut Index,
+    index: &Index,
     disk: &mut D,
     name_count: u32,
     planner: &Planner,
     node: NodeId,
     cols: Columns,
 ) -> Result<NodeLead, RetrievalFault>
-    requires image { IfSome (D.image disk.old) (λ image. IsOpenedAs image index.old.opening) }
-    requires edges { planner.now.edges ≡ index_edges index.old.opening cols false [] }
-    requires nodes { planner.now.nodes ≡ nodes_of (index_ground index.old.opening cols false []) }
+    requires image { IfSome (D.image disk.old) (λ image. IsOpenedAs image index.now.opening) }
+    requires edges { planner.now.edges ≡ index_edges index.now.opening cols false [] }
+    requires nodes { planner.now.nodes ≡ nodes_of (index_ground index.now.opening cols false []) }
     requires node { Contains planner.now.nodes node }
     // what leads to the set, and the weight
-    ensures done { IfOk result (LeadsToNode name_count planner.now.edges index.old.opening cols node (D.image disk.old)) }
+    ensures done { IfOk result (LeadsToNode name_count planner.now.edges index.now.opening cols node (D.image disk.old)) }
     // over an image of a history: the set, and the bytes read
-    ensures over { IfSome (D.image disk.old) (λ image. (z : History) → IsIndexOver z image index.old.opening name_count
+    ensures over { IfSome (D.image disk.old) (λ image. (z : History) → IsIndexOver z image index.now.opening name_count
         → LeadsToNodeOver z planner.now.edges cols node (D.taken disk.old) (D.taken disk.new) result) }
     // over whatever image: where the records are damaged
-    ensures damage { IfSome (D.image disk.old) (λ image. TellsDamage name_count planner.now.edges index.old.opening cols (node ∷ []) image result) }
+    ensures damage { IfSome (D.image disk.old) (λ image. TellsDamage name_count planner.now.edges index.now.opening cols (node ∷ []) image result) }
     // what it leaves, and why a read failed
-    ensures reads { ReadsRecords D.Disk index.old index.new disk.old disk.new result }
+    ensures reads { ReadsRecords D.Disk disk.old disk.new result }
 {
     // Its clauses say which records the index keeps.
     index.facts();
@@ -98,25 +98,24 @@ pub fn retrieve_node<R: Threads + Sync, D: Disk>(
 fn fold<R: Threads + Sync, D: Disk>(
     rt: &R,
     alloc: Global,
-    index: &mut Index,
+    index: &Index,
     disk: &mut D,
     name_count: u32,
     walk: &[Edge],
     cols: Columns,
     weight: u64,
 ) -> Result<Result<Delta, FoldFault>, FetchFault>
-    requires kept { All (λ (e : Edge). IsKept index.old.opening e.via) walk.now }
+    requires kept { All (λ (e : Edge). IsKept index.now.opening e.via) walk.now }
     requires entered { HoldsWhatIsEntered [] walk.now }
-    requires image { IfSome (D.image disk.old) (λ image. IsOpenedAs image index.old.opening) }
-    ensures folded { IfOk result (λ folded. HasParts (D.image disk.old) index.old.opening cols walk.now (λ parts. Folds folded (parts_in name_count parts))) }
-    ensures takes { OnOk result (IfSome (D.image disk.old) (λ image. Takes (entered_length (kept_in image index.old.opening) cols walk.now) (D.taken disk.old) (D.taken disk.new))) }
-    ensures most { IfSome (D.image disk.old) (λ image. TakesAtMost (entered_length (kept_in image index.old.opening) cols walk.now) (D.taken disk.old) (D.taken disk.new)) }
+    requires image { IfSome (D.image disk.old) (λ image. IsOpenedAs image index.now.opening) }
+    ensures folded { IfOk result (λ folded. HasParts (D.image disk.old) index.now.opening cols walk.now (λ parts. Folds folded (parts_in name_count parts))) }
+    ensures takes { OnOk result (IfSome (D.image disk.old) (λ image. Takes (entered_length (kept_in image index.now.opening) cols walk.now) (D.taken disk.old) (D.taken disk.new))) }
+    ensures most { IfSome (D.image disk.old) (λ image. TakesAtMost (entered_length (kept_in image index.now.opening) cols walk.now) (D.taken disk.old) (D.taken disk.new)) }
 
     // errors
     ensures cause { IsErrOf result FetchFault.Disk → Fails D.Disk disk.old disk.new }
 
     // frame
-    ensures same { index.new ≡ index.old }
     ensures frame { ReadsDisk D.Disk disk.old disk.new }
 {
     if weight <= ALONE_BYTES_MAX {

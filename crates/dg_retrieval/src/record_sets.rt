@@ -42,25 +42,25 @@ pub const ALL_COLUMNS: Columns = Columns {
 pub fn plan_set<R: Threads + Sync, D: Disk>(
     rt: &R,
     alloc: Global,
-    index: &mut Index,
+    index: &Index,
     disk: &mut D,
     name_count: u32,
     planner: &Planner,
     node: NodeId,
 ) -> Result<Set, RetrievalFault>
-    requires image { IfSome (D.image disk.old) (λ image. IsOpenedAs image index.old.opening) }
-    requires edges { planner.now.edges ≡ record_edges index.old.opening }
-    requires nodes { planner.now.nodes ≡ record_nodes index.old.opening }
+    requires image { IfSome (D.image disk.old) (λ image. IsOpenedAs image index.now.opening) }
+    requires edges { planner.now.edges ≡ record_edges index.now.opening }
+    requires nodes { planner.now.nodes ≡ record_nodes index.now.opening }
     requires node { Contains planner.now.nodes node }
     // the set
     ensures named { IfOk result (NamesAreThere name_count) }
     // over an image of a history: which set it is, and the bytes read
-    ensures over { IfSome (D.image disk.old) (λ image. (z : History) → IsIndexOver z image index.old.opening name_count
+    ensures over { IfSome (D.image disk.old) (λ image. (z : History) → IsIndexOver z image index.now.opening name_count
         → GivesSetOver z planner.now.edges node (D.taken disk.old) (D.taken disk.new) result) }
     // over whatever image: what the records lead to, and where they are damaged
-    ensures led { IfSome (D.image disk.old) (λ image. TellsPlan name_count image index.old.opening node result) }
+    ensures led { IfSome (D.image disk.old) (λ image. TellsPlan name_count image index.now.opening node result) }
     // what it leaves, and why a read failed
-    ensures reads { ReadsRecords D.Disk index.old index.new disk.old disk.new result }
+    ensures reads { ReadsRecords D.Disk disk.old disk.new result }
 {
     let lead = retrieve_node(
         rt,
@@ -107,28 +107,28 @@ fn sets_led(alloc: Global, leads: &Leads) -> Result<Vec<Set>, AllocError>
 pub fn node_sets<R: Threads, D: Disk>(
     rt: &R,
     alloc: Global,
-    index: &mut Index,
+    index: &Index,
     disk: &mut D,
     name_count: u32,
     planner: &Planner,
     nodes: &[NodeId],
 ) -> Result<Vec<Set>, RetrievalFault>
-    requires image { IfSome (D.image disk.old) (λ image. IsOpenedAs image index.old.opening) }
-    requires edges { planner.now.edges ≡ record_edges index.old.opening }
-    requires graph { planner.now.nodes ≡ record_nodes index.old.opening }
+    requires image { IfSome (D.image disk.old) (λ image. IsOpenedAs image index.now.opening) }
+    requires edges { planner.now.edges ≡ record_edges index.now.opening }
+    requires graph { planner.now.nodes ≡ record_nodes index.now.opening }
     requires nodes { All (Contains planner.now.nodes) nodes.now }
     requires leaves { All HasNoEvents nodes.now }
     requires few { length nodes.now ≤ 32 }
     // the sets
     ensures done { IfOk result (λ sets. AreNodeSets name_count nodes.now sets.items) }
     // over an image of a history: which sets they are, and the bytes read
-    ensures over { IfSome (D.image disk.old) (λ image. (z : History) → IsIndexOver z image index.old.opening name_count
+    ensures over { IfSome (D.image disk.old) (λ image. (z : History) → IsIndexOver z image index.now.opening name_count
         → GivesSetsOver z planner.now.edges nodes.now (D.taken disk.old) (D.taken disk.new) result) }
     // over whatever image: which sets the records lead to, and where these are damaged
-    ensures led { IfSome (D.image disk.old) (λ image. IfOk result (λ sets. AreLedByTree name_count image index.old.opening nodes.now sets.items)) }
-    ensures damage { IfSome (D.image disk.old) (λ image. TellsDamage name_count planner.now.edges index.old.opening all_columns nodes.now image result) }
+    ensures led { IfSome (D.image disk.old) (λ image. IfOk result (λ sets. AreLedByTree name_count image index.now.opening nodes.now sets.items)) }
+    ensures damage { IfSome (D.image disk.old) (λ image. TellsDamage name_count planner.now.edges index.now.opening all_columns nodes.now image result) }
     // what it leaves, and why a read failed
-    ensures reads { ReadsRecords D.Disk index.old index.new disk.old disk.new result }
+    ensures reads { ReadsRecords D.Disk disk.old disk.new result }
 {
     let times = no_instants(alloc, nodes)?;
     let TreeWritings { leads, .. } = write_along_tree(

@@ -5,7 +5,7 @@ ghost use Rattle.dg_file.specs.Images.{IsOpenedAs};
 ghost use Rattle.dg_graph.specs.declared.element.Element.{Element};
 ghost use Rattle.dg_history.specs.History.{History};
 ghost use Rattle.dg_index.specs.OpenedIndex.{event_total};
-ghost use Rattle.dg_retrieval.specs.Calls.{IsRetrieval, ReadsRecords, RetrievesOver, TellsDamage};
+ghost use Rattle.dg_retrieval.specs.Calls.{IsLedAlongTree, IsRetrieval, ReadsRecords, RetrievesOver, TellsDamage};
 ghost use Rattle.dg_retrieval.specs.KeptGraph.{IsKeptGraph, kept_nodes};
 ghost use Rattle.dg_retrieval.specs.Retrieval.{IsOver};
 
@@ -45,7 +45,7 @@ pub struct Retrieved {
 pub fn retrieve<R: Threads, D: Disk>(
     rt: &R,
     alloc: Global,
-    index: &mut Index,
+    index: &Index,
     disk: &mut D,
     name_count: u32,
     recent: &[Event],
@@ -54,21 +54,23 @@ pub fn retrieve<R: Threads, D: Disk>(
     times: &[u64],
     cols: Columns,
 ) -> Result<Retrieved, RetrievalFault>
-    requires image { IfSome (D.image disk.old) (λ image. IsOpenedAs image index.old.opening) }
-    requires edges { IsKeptGraph index.old.opening cols planner.now.edges }
-    requires nodes { planner.now.nodes ≡ kept_nodes index.old.opening (event_total index.old.opening.batches) cols }
+    requires image { IfSome (D.image disk.old) (λ image. IsOpenedAs image index.now.opening) }
+    requires edges { IsKeptGraph index.now.opening cols planner.now.edges }
+    requires nodes { planner.now.nodes ≡ kept_nodes index.now.opening (event_total index.now.opening.batches) cols }
     requires targets { All (Contains planner.now.nodes) targets.now }
     requires few { length targets.now ≤ 32 }
     requires times { length times.now ≡ length targets.now }
     // what leads to the graphs, and the weights
     ensures done { IfOk result (IsRetrieval name_count recent.now planner.now.edges targets.now) }
+    // over whatever image: which records lead to them
+    ensures led { IfOk result (λ r. IfSome (D.image disk.old) (λ image. IsLedAlongTree name_count recent.now planner.now.edges index.now.opening cols targets.now times.now image r)) }
     // over an image of a history: the graphs, and the bytes read
-    ensures over { IfSome (D.image disk.old) (λ image. (z : History) (now : List Element) → IsOver z image index.old.opening name_count now recent.now
+    ensures over { IfSome (D.image disk.old) (λ image. (z : History) (now : List Element) → IsOver z image index.now.opening name_count now recent.now
         → RetrievesOver z now planner.now.edges cols targets.now times.now (D.taken disk.old) (D.taken disk.new) result) }
     // over whatever image: where the records are damaged
-    ensures damage { IfSome (D.image disk.old) (λ image. TellsDamage name_count planner.now.edges index.old.opening cols targets.now image result) }
+    ensures damage { IfSome (D.image disk.old) (λ image. TellsDamage name_count planner.now.edges index.now.opening cols targets.now image result) }
     // what it leaves, and why a read failed
-    ensures reads { ReadsRecords D.Disk index.old index.new disk.old disk.new result }
+    ensures reads { ReadsRecords D.Disk disk.old disk.new result }
 {
     let TreeWritings { tree, leads } = write_along_tree(
         rt, alloc, index, disk, name_count, recent, planner, targets, times, cols,

@@ -75,24 +75,24 @@ pub struct TreeParts {
 /// `Disk` where a read failed, and `Memory`.
 pub fn read_tree<D: Disk>(
     alloc: Global,
-    index: &mut Index,
+    index: &Index,
     disk: &mut D,
     planner: &Planner,
     targets: &[NodeId],
     cols: Columns,
 ) -> Result<TreeParts, RetrievalFault>
-    requires image { IfSome (D.image disk.old) (λ image. IsOpenedAs image index.old.opening) }
-    requires edges { AreIndexEdges index.old.opening cols planner.now.edges }
+    requires image { IfSome (D.image disk.old) (λ image. IsOpenedAs image index.now.opening) }
+    requires edges { AreIndexEdges index.now.opening cols planner.now.edges }
     requires targets { All (Contains planner.now.nodes) targets.now }
     requires few { length targets.now ≤ 32 }
     // the tree, and its parts
-    ensures done { IfOk result (HasTreeParts planner.now.edges index.old.opening cols targets.now (D.image disk.old)) }
+    ensures done { IfOk result (HasTreeParts planner.now.edges index.now.opening cols targets.now (D.image disk.old)) }
     // over an image of a history: the bytes read
-    ensures over { (name_count : ℕ) → IfSome (D.image disk.old) (λ image. (z : History) → IsIndexOver z image index.old.opening name_count
+    ensures over { (name_count : ℕ) → IfSome (D.image disk.old) (λ image. (z : History) → IsIndexOver z image index.now.opening name_count
         → TakesTree planner.now.edges targets.now (D.taken disk.old) (D.taken disk.new) (λ r. r.tree.weight) result) }
     // what it leaves, and why it fails
     ensures never { IfErr result IsNoDamage }
-    ensures reads { ReadsRecords D.Disk index.old index.new disk.old disk.new result }
+    ensures reads { ReadsRecords D.Disk disk.old disk.new result }
 {
     // Its clauses say which records the index keeps.
     index.facts();

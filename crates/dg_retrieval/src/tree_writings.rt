@@ -41,7 +41,7 @@ pub struct TreeWritings {
 pub fn write_along_tree<R: Threads, D: Disk>(
     rt: &R,
     alloc: Global,
-    index: &mut Index,
+    index: &Index,
     disk: &mut D,
     name_count: u32,
     recent: &[Event],
@@ -50,20 +50,20 @@ pub fn write_along_tree<R: Threads, D: Disk>(
     times: &[u64],
     cols: Columns,
 ) -> Result<TreeWritings, RetrievalFault>
-    requires image { IfSome (D.image disk.old) (λ image. IsOpenedAs image index.old.opening) }
-    requires edges { AreIndexEdges index.old.opening cols planner.now.edges }
+    requires image { IfSome (D.image disk.old) (λ image. IsOpenedAs image index.now.opening) }
+    requires edges { AreIndexEdges index.now.opening cols planner.now.edges }
     requires targets { All (Contains planner.now.nodes) targets.now }
     requires few { length targets.now ≤ 32 }
     requires times { length times.now ≡ length targets.now }
     // the tree, and what leads along it
-    ensures done { IfOk result (IsAlongTree name_count recent.now planner.now.edges index.old.opening cols targets.now times.now (D.image disk.old)) }
+    ensures done { IfOk result (IsAlongTree name_count recent.now planner.now.edges index.now.opening cols targets.now times.now (D.image disk.old)) }
     // over an image of a history: the bytes read
-    ensures over { IfSome (D.image disk.old) (λ image. (z : History) → IsIndexOver z image index.old.opening name_count
+    ensures over { IfSome (D.image disk.old) (λ image. (z : History) → IsIndexOver z image index.now.opening name_count
         → WritesOver planner.now.edges targets.now (D.taken disk.old) (D.taken disk.new) result) }
     // over whatever image: where the records are damaged
-    ensures damage { IfSome (D.image disk.old) (λ image. TellsDamage name_count planner.now.edges index.old.opening cols targets.now image result) }
+    ensures damage { IfSome (D.image disk.old) (λ image. TellsDamage name_count planner.now.edges index.now.opening cols targets.now image result) }
     // what it leaves, and why a read failed
-    ensures reads { ReadsRecords D.Disk index.old index.new disk.old disk.new result }
+    ensures reads { ReadsRecords D.Disk disk.old disk.new result }
 {
     let TreeParts {
         tree,

@@ -34,6 +34,12 @@ returns-clause-done g c =
       named = done.named;
     }
 
+pub returns-clause-led : goal.returns-clause-led
+returns-clause-led g c =
+    let done = c.in_ok-tree.ensures.done in
+    IfSome_then (g.D.Disk.image c.args.disk.now) done.leads.there
+    (λ im led. record { grafts = grafts_in c.in_ok-tree.field-0.tree; tree = done.tree; weight = done.weight; led = led })
+
 pub returns-clause-over : goal.returns-clause-over
 returns-clause-over g c =
     let o = c.args.index.now.opening in
