@@ -189,10 +189,6 @@ IsLast o times from = (k : ℕ) → from ≤ k → k < list_total o → is_heard
 abbrev pub HandsOn : {A E : Type 0} → Result A E → E → Type 0
 HandsOn r fault = IsErr r × IsErrAnd r (λ y. y ≡ fault)
 
--- what is said of an image and of an index that are as they were
-pub seen_before : (now told : Option (List ℕ)) (p o : Opening) (P : List ℕ → Opening → Type 0) → now ≡ told → p ≡ o → IfSome now (λ image. P image p) → IfSome told (λ image. P image o)
-seen_before now told p o P a b h = subst (λ (t : Option (List ℕ)). IfSome t (λ image. P image o)) a (subst (λ (q : Opening). IfSome now (λ image. P image q)) b h)
-
 pub takes_fails : {A : Type 0} (told : Option (List ℕ)) (o : Opening) (times : List ℕ) (before after : ℕ) (r : Result A RetrievalFault) → IsErr r
     → IfSome told (λ image. TakesAtMost (heard_bytes o times) before after) → IfSome told (λ image. TakesHeard o times before after r)
 takes_fails told o times before after r err most =

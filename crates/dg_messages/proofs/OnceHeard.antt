@@ -1,5 +1,5 @@
 -- Each instant once: the same lists are heard, and what the instants have is what the times have.
-use Rattle.std.proofs.Common.{arith, ◌≡◌, ℕ, ◌==◌, Bool, true, false, cond, List, [], ◌∷◌, ◌++◌, Option, Some, None, Result, Ok, Err, filter, get_or, length, map, refl, sym, ap, subst, ◌∙◌}
+use Rattle.std.proofs.Common.{arith, ◌≡◌, ℕ, ◌==◌, Bool, true, false, cond, List, [], ◌∷◌, ◌++◌, Option, Result, Ok, Err, filter, get_or, map, refl, sym, ap, subst, ◌∙◌}
 use Rattle.std.specs.Prelude.{◌||◌, IfSome, IsErr, IsErrAnd}
 use Rattle.std.specs.List.{All, list_any, sum}
 use Rattle.std.proofs.lemmas.Bool.{eqb-false, eqb-true, false≢true, or_parts, or_right}

@@ -145,20 +145,20 @@ fn with_messages(
     })
 }
 
-/// What was retrieved for these instants, with the messages of exactly each of them, which are read from the lists: to
-/// each weight comes what is read for it. The history has so many names, and its recent events are in memory.
+/// Puts the messages of exactly its instant behind each lead, and adds to each weight what is read for them. The messages
+/// are read from the lists; the recent events are in memory. The history has `name_count` names.
 ///
 /// `Disk` where a read failed, `Damaged` with the first list whose column of messages is in no spelling, and `Memory`.
 pub fn hear<D: Disk>(
     alloc: Global,
-    index: &mut Index,
+    index: &Index,
     disk: &mut D,
     name_count: u32,
     recent: &[Event],
     times: &[u64],
     retrieved: Retrieved,
 ) -> Result<Retrieved, RetrievalFault>
-    requires image { IfSome (D.image disk.old) (λ image. IsOpenedAs image index.old.opening) }
+    requires image { IfSome (D.image disk.old) (λ image. IsOpenedAs image index.now.opening) }
     requires few { length times.now ≤ 32 }
     requires count { length (leads_in retrieved.leads) ≡ length times.now }
     requires singles { length retrieved.singles.items ≡ length times.now }
@@ -167,15 +167,15 @@ pub fn hear<D: Disk>(
     requires light_sum { retrieved.sum ≤ TREE_WEIGHT_MAX }
 
     // what it gives, of which the second holds over an image of a history
-    ensures done { IfOk result (HasMessages name_count index.old.opening (D.image disk.old) recent.now times.now retrieved) }
-    ensures over { IfSome (D.image disk.old) (λ image. (z : History) (now : List Element) → IsOver z image index.old.opening name_count now recent.now → HearsOver z times.now retrieved result) }
+    ensures done { IfOk result (HasMessages name_count index.now.opening (D.image disk.old) recent.now times.now retrieved) }
+    ensures over { IfSome (D.image disk.old) (λ image. (z : History) (now : List Element) → IsOver z image index.now.opening name_count now recent.now → HearsOver z times.now retrieved result) }
 
     // what it reads, and where a column is damaged
-    ensures takes { IfSome (D.image disk.old) (λ image. TakesHeard index.old.opening times.now (D.taken disk.old) (D.taken disk.new) result) }
-    ensures damage { IfSome (D.image disk.old) (λ image. TellsMessageDamage name_count index.old.opening times.now image result) }
+    ensures takes { IfSome (D.image disk.old) (λ image. TakesHeard index.now.opening times.now (D.taken disk.old) (D.taken disk.new) result) }
+    ensures damage { IfSome (D.image disk.old) (λ image. TellsMessageDamage name_count index.now.opening times.now image result) }
 
     // what it leaves, and why a read failed
-    ensures reads { ReadsRecords D.Disk index.old index.new disk.old disk.new result }
+    ensures reads { ReadsRecords D.Disk disk.old disk.new result }
 {
     law_histories_are_heard();
     let heard = messages_once(alloc, index, disk, name_count, recent, times)?;

@@ -1,7 +1,6 @@
 //! The messages of one list.
-ghost use Rattle.std.specs.Prelude.{◌<◌, ◌≡◌, IfOk, IfSome, map};
+ghost use Rattle.std.specs.Prelude.{◌<◌, IfOk, IfSome};
 ghost use Rattle.dg_file.specs.Images.{IsOpenedAs};
-ghost use Rattle.dg_graph.specs.declared.placed.Placed.{Placed};
 ghost use Rattle.dg_heard.specs.Heard.{list_total};
 ghost use Rattle.dg_messages.specs.Collected.{IsListRead, TakesList};
 ghost use Rattle.dg_retrieval.specs.Calls.{ReadsRecords};
@@ -10,21 +9,11 @@ ghost use Rattle.dg_retrieval.specs.NamesThere.{EventNamesAreThere};
 use dg_columns::{EVENTS_FRONT, ReadFault, read_events};
 use dg_disk::Disk;
 use dg_file::Index;
-use dg_graph::{Column, Event, Placed};
+use dg_fold::events_of;
+use dg_graph::{Column, Event};
 use dg_history::Key;
 use dg_retrieval::RetrievalFault;
-use std::alloc::{AllocError, Global};
-
-// The events without their positions.
-fn events_of(alloc: Global, placed: &[Placed]) -> Result<Vec<Event>, AllocError>
-    ensures { IfOk result (λ v. v.items ≡ map (λ (p : Placed). p.event) placed.now) }
-{
-    let mut events = Vec::with_capacity(alloc, placed.len())?;
-    for p in placed {
-        events.push(p.event)?;
-    }
-    Ok(events)
-}
+use std::alloc::Global;
 
 /// The messages of a list of the index, in a history with so many names: its column of messages is read once, where it
 /// has a byte, and of a column that is longer than events can be the front, which tells that it is damaged.
@@ -32,21 +21,21 @@ fn events_of(alloc: Global, placed: &[Placed]) -> Result<Vec<Event>, AllocError>
 /// `Disk` where the read failed, `Damaged` where the column is in no spelling, and `Memory`.
 pub(crate) fn read_list<D: Disk>(
     alloc: Global,
-    index: &mut Index,
+    index: &Index,
     disk: &mut D,
     name_count: u32,
     list: u32,
 ) -> Result<Vec<Event>, RetrievalFault>
-    requires there { list < list_total index.old.opening }
-    requires image { IfSome (D.image disk.old) (λ image. IsOpenedAs image index.old.opening) }
+    requires there { list < list_total index.now.opening }
+    requires image { IfSome (D.image disk.old) (λ image. IsOpenedAs image index.now.opening) }
 
     // what it gives, and how many bytes it reads
-    ensures read { IfSome (D.image disk.old) (λ image. IsListRead name_count image index.old.opening list result) }
+    ensures read { IfSome (D.image disk.old) (λ image. IsListRead name_count image index.now.opening list result) }
     ensures named { IfOk result (λ events. EventNamesAreThere name_count events.items) }
-    ensures takes { IfSome (D.image disk.old) (λ image. TakesList index.old.opening list (D.taken disk.old) (D.taken disk.new) result) }
+    ensures takes { IfSome (D.image disk.old) (λ image. TakesList index.now.opening list (D.taken disk.old) (D.taken disk.new) result) }
 
     // what it leaves, and why the read failed
-    ensures reads { ReadsRecords D.Disk index.old index.new disk.old disk.new result }
+    ensures reads { ReadsRecords D.Disk disk.old disk.new result }
 {
     index.facts();
     let key = Key::List(list);

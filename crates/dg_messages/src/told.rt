@@ -37,24 +37,24 @@ fn empty_lists(alloc: Global, times: &[u64]) -> Result<Vec<Vec<Element>>, AllocE
 // `Disk` where a read failed, `Damaged` with the first list whose column is in no spelling, and `Memory`.
 fn push_heard<D: Disk>(
     alloc: Global,
-    index: &mut Index,
+    index: &Index,
     disk: &mut D,
     name_count: u32,
     times: &[u64],
     lists: &mut [Vec<Element>],
 ) -> Result<(), RetrievalFault>
-    requires image { IfSome (D.image disk.old) (λ image. IsOpenedAs image index.old.opening) }
+    requires image { IfSome (D.image disk.old) (λ image. IsOpenedAs image index.now.opening) }
     requires empty { AreCollected [] times.now lists.old }
 
     // what it collects
-    ensures heard { OnOk result (AreHeardIn name_count (D.image disk.old) index.old.opening times.now lists.new) }
+    ensures heard { OnOk result (AreHeardIn name_count (D.image disk.old) index.now.opening times.now lists.new) }
 
     // what it reads, and where a column is damaged
-    ensures takes { IfSome (D.image disk.old) (λ image. TakesHeard index.old.opening times.now (D.taken disk.old) (D.taken disk.new) result) }
-    ensures damage { IfSome (D.image disk.old) (λ image. TellsMessageDamage name_count index.old.opening times.now image result) }
+    ensures takes { IfSome (D.image disk.old) (λ image. TakesHeard index.now.opening times.now (D.taken disk.old) (D.taken disk.new) result) }
+    ensures damage { IfSome (D.image disk.old) (λ image. TellsMessageDamage name_count index.now.opening times.now image result) }
 
     // what it leaves, and why a read failed
-    ensures reads { ReadsRecords D.Disk index.old index.new disk.old disk.new result }
+    ensures reads { ReadsRecords D.Disk disk.old disk.new result }
 {
     index.facts();
     let mut from = 0;
@@ -74,25 +74,25 @@ fn push_heard<D: Disk>(
 /// `Disk` where a read failed, `Damaged` with the first list whose column is in no spelling, and `Memory`.
 pub fn messages<D: Disk>(
     alloc: Global,
-    index: &mut Index,
+    index: &Index,
     disk: &mut D,
     name_count: u32,
     recent: &[Event],
     times: &[u64],
 ) -> Result<Vec<Set>, RetrievalFault>
-    requires image { IfSome (D.image disk.old) (λ image. IsOpenedAs image index.old.opening) }
+    requires image { IfSome (D.image disk.old) (λ image. IsOpenedAs image index.now.opening) }
 
     // what it gives
-    ensures told { IfOk result (λ sets. IfSome (D.image disk.old) (λ image. AreToldIn name_count image index.old.opening recent.now times.now sets.items)) }
+    ensures told { IfOk result (λ sets. IfSome (D.image disk.old) (λ image. AreToldIn name_count image index.now.opening recent.now times.now sets.items)) }
     ensures count { IfOk result (λ sets. length sets.items ≡ length times.now) }
     ensures named { IfOk result (λ sets. EventNamesAreThere name_count recent.now → All (NamesAreThere name_count) sets.items) }
 
     // what it reads, and where a column is damaged
-    ensures takes { IfSome (D.image disk.old) (λ image. TakesHeard index.old.opening times.now (D.taken disk.old) (D.taken disk.new) result) }
-    ensures damage { IfSome (D.image disk.old) (λ image. TellsMessageDamage name_count index.old.opening times.now image result) }
+    ensures takes { IfSome (D.image disk.old) (λ image. TakesHeard index.now.opening times.now (D.taken disk.old) (D.taken disk.new) result) }
+    ensures damage { IfSome (D.image disk.old) (λ image. TellsMessageDamage name_count index.now.opening times.now image result) }
 
     // what it leaves, and why a read failed
-    ensures reads { ReadsRecords D.Disk index.old index.new disk.old disk.new result }
+    ensures reads { ReadsRecords D.Disk disk.old disk.new result }
 {
     let mut lists = empty_lists(alloc, times)?;
     push_heard(alloc, index, disk, name_count, times, &mut lists)?;
@@ -112,26 +112,26 @@ pub(crate) struct Heard {
 /// `Disk` where a read failed, `Damaged` with the first list whose column is in no spelling, and `Memory`.
 pub(crate) fn messages_once<D: Disk>(
     alloc: Global,
-    index: &mut Index,
+    index: &Index,
     disk: &mut D,
     name_count: u32,
     recent: &[Event],
     times: &[u64],
 ) -> Result<Heard, RetrievalFault>
-    requires image { IfSome (D.image disk.old) (λ image. IsOpenedAs image index.old.opening) }
+    requires image { IfSome (D.image disk.old) (λ image. IsOpenedAs image index.now.opening) }
 
     // what it gives
     ensures instants { IfOk result (λ h. h.instants.items ≡ each_once times.now) }
     ensures count { IfOk result (λ h. length h.sets.items ≡ length h.instants.items) }
-    ensures told { IfOk result (λ h. IfSome (D.image disk.old) (λ image. AreToldIn name_count image index.old.opening recent.now times.now (sets_for h.instants.items h.sets.items times.now))) }
+    ensures told { IfOk result (λ h. IfSome (D.image disk.old) (λ image. AreToldIn name_count image index.now.opening recent.now times.now (sets_for h.instants.items h.sets.items times.now))) }
     ensures named { IfOk result (λ h. EventNamesAreThere name_count recent.now → All (NamesAreThere name_count) (sets_for h.instants.items h.sets.items times.now)) }
 
     // what it reads, and where a column is damaged
-    ensures takes { IfSome (D.image disk.old) (λ image. TakesHeard index.old.opening times.now (D.taken disk.old) (D.taken disk.new) result) }
-    ensures damage { IfSome (D.image disk.old) (λ image. TellsMessageDamage name_count index.old.opening times.now image result) }
+    ensures takes { IfSome (D.image disk.old) (λ image. TakesHeard index.now.opening times.now (D.taken disk.old) (D.taken disk.new) result) }
+    ensures damage { IfSome (D.image disk.old) (λ image. TellsMessageDamage name_count index.now.opening times.now image result) }
 
     // what it leaves, and why a read failed
-    ensures reads { ReadsRecords D.Disk index.old index.new disk.old disk.new result }
+    ensures reads { ReadsRecords D.Disk disk.old disk.new result }
 {
     let instants = each_once(alloc, times)?;
     let sets = messages(alloc, index, disk, name_count, recent, &instants)?;

@@ -29,31 +29,31 @@ use std::thread::Threads;
 pub fn node_steps<R: Threads, D: Disk>(
     rt: &R,
     alloc: Global,
-    index: &mut Index,
+    index: &Index,
     disk: &mut D,
     name_count: u32,
     planner: &Planner,
     targets: &[NodeId],
     nodes: &[NodeId],
 ) -> Result<Vec<Delta>, RetrievalFault>
-    requires image { IfSome (D.image disk.old) (λ image. IsOpenedAs image index.old.opening) }
-    requires edges { planner.now.edges ≡ record_edges index.old.opening }
-    requires graph { planner.now.nodes ≡ record_nodes index.old.opening }
+    requires image { IfSome (D.image disk.old) (λ image. IsOpenedAs image index.now.opening) }
+    requires edges { planner.now.edges ≡ record_edges index.now.opening }
+    requires graph { planner.now.nodes ≡ record_nodes index.now.opening }
     requires targets { All (Contains planner.now.nodes) targets.now }
     requires few { length targets.now ≤ 32 }
     requires nodes { All (Contains targets.now) nodes.now }
 
     // the steps, and over an image of a history which they are and the bytes read
     ensures count { IfOk result (λ steps. length steps.items ≡ length nodes.now - 1) }
-    ensures over { IfSome (D.image disk.old) (λ image. (z : History) → IsIndexOver z image index.old.opening name_count
+    ensures over { IfSome (D.image disk.old) (λ image. (z : History) → IsIndexOver z image index.now.opening name_count
         → GivesStepsOver z planner.now.edges targets.now nodes.now (D.taken disk.old) (D.taken disk.new) result) }
 
     // over whatever image: by which records they lead, and where these are damaged
-    ensures led { IfSome (D.image disk.old) (λ image. IfOk result (λ steps. AreLedSteps name_count image index.old.opening targets.now nodes.now steps.items)) }
-    ensures damage { IfSome (D.image disk.old) (λ image. TellsDamage name_count planner.now.edges index.old.opening all_columns targets.now image result) }
+    ensures led { IfSome (D.image disk.old) (λ image. IfOk result (λ steps. AreLedSteps name_count image index.now.opening targets.now nodes.now steps.items)) }
+    ensures damage { IfSome (D.image disk.old) (λ image. TellsDamage name_count planner.now.edges index.now.opening all_columns targets.now image result) }
 
     // what it leaves, and why a read failed
-    ensures reads { ReadsRecords D.Disk index.old index.new disk.old disk.new result }
+    ensures reads { ReadsRecords D.Disk disk.old disk.new result }
 {
     let TreeParts {
         branches,

@@ -13,22 +13,10 @@ use crate::between::steps_over;
 use crate::crossing::crossings_of;
 use crate::paths::paths_to;
 use dg_delta::Delta;
-use dg_fold::{Branch, FoldFault, Part};
+use dg_fold::{Branch, FoldFault, Part, edges_of};
 use dg_history::NodeId;
-use dg_plan::Edge;
 use std::alloc::{AllocError, Global};
 use std::thread::Threads;
-
-// The edges of all branches, in order.
-fn edges_of(alloc: Global, branches: &[Branch]) -> Result<Vec<Edge>, AllocError>
-    ensures { IfOk result (λ v. v.items ≡ all_edges branches.now) }
-{
-    let mut edges = Vec::new(alloc);
-    for branch in branches {
-        edges.extend_from_slice(&branch.edges)?;
-    }
-    Ok(edges)
-}
 
 /// The exact steps from each of the nodes to the next one, by the paths of a tree to them. The parts are those that
 /// `fetch_walk` gives for the edges of all branches in order, over records alone. Each record is decoded; one that is on

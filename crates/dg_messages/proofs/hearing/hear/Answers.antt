@@ -1,7 +1,6 @@
 -- The sets are the messages of the instants, and the rest is as their columns are read.
-use Rattle.std.proofs.Common.{◌+◌, sym, ◌∙◌}
+use Rattle.std.proofs.Common.{sym, ◌∙◌}
 use Rattle.std.proofs.lemmas.Option.{IfSome_then}
-use Rattle.dg_heard.specs.Heard.{heard_bytes, with_heard_bytes}
 use Rattle.dg_messages.specs.Once.{sets_for}
 use Rattle.dg_retrieval.specs.Beginnings.{leads_in}
 use Rattle.dg_messages.proofs.HeardGraphs.{hears_graphs, hears_nothing, none_damaged}
@@ -26,14 +25,13 @@ returns-clause-done g c =
     let new = leads_in c.in_ok-told.told.leads in
     let sets = sets_for c.in_ok-heard.heard.instants.items c.in_ok-heard.heard.sets.items c.args.times.now in
     let told = c.in_ok-told.ensures in
-    let same = c.in_ok-heard.ensures.reads.same in
     record {
       sets = sets;
       told = c.in_ok-heard.ensures.told;
       behind = told.behind;
       count = told_many old new sets told.behind ∙ c.requires.count;
-      weight = told.weight ∙ (λ i. c.args.retrieved.weight + heard_bytes (same i).opening c.args.times.now);
-      singles = told.singles ∙ (λ i. with_heard_bytes (same i).opening c.args.times.now c.args.retrieved.singles.items);
+      weight = told.weight;
+      singles = told.singles;
       sum = told.sum;
       named = λ recent there. all_there c.args.name_count old new sets told.behind (c.in_ok-heard.ensures.named recent) there;
     }

@@ -1,4 +1,4 @@
-use Rattle.std.proofs.Common.{arith, ◌≡◌, ◌+◌, ◌≤◌, ap, drop, get_or, length, sym, ◌∙◌}
+use Rattle.std.proofs.Common.{arith, ◌+◌, ◌≤◌, ap, drop, length, sym, ◌∙◌}
 use Rattle.std.proofs.lemmas.List.{drop_all, drop_more}
 use Rattle.dg_messages.specs.Once.{once_behind}
 use Rattle.dg_messages.proofs.once.each_once.Goals as goal

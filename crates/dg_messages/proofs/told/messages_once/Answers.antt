@@ -1,6 +1,5 @@
-use Rattle.std.proofs.Common.{◌≡◌, ◌∙◌, List, Ok, Err, ℕ, ap, length, subst, sym}
+use Rattle.std.proofs.Common.{◌∙◌, List, ℕ, ap, length, subst}
 use Rattle.std.specs.Prelude.{IfSome}
-use Rattle.dg_messages.specs.Calls.{TakesHeard, TellsMessageDamage}
 use Rattle.dg_messages.specs.Told.{AreToldIn}
 use Rattle.dg_messages.proofs.HeardLists.{takes_fails}
 use Rattle.dg_messages.proofs.OnceHeard.{damage_once, most_once, named_for, sound_once, taken_once, told_for}

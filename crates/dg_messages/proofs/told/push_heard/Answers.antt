@@ -1,14 +1,13 @@
-use Rattle.std.proofs.Common.{◌≡◌, ℕ, [], ◌∙◌, List, Ok, Err, refl, ap, subst}
+use Rattle.std.proofs.Common.{◌≡◌, ℕ, List, Option, Ok, Err, subst}
 use Rattle.std.specs.Prelude.{IfSome}
 use Rattle.dg_disk.proofs.FrameLemmas.{reads_none, reads_then}
-use Rattle.dg_file.specs.Index.{IndexState}
 use Rattle.dg_fold.specs.BytesRead.{Takes, TakesAtMost}
 use Rattle.dg_graph.specs.declared.event.Event.{Event}
 use Rattle.dg_heard.specs.Heard.{heard_bytes, heard_events, messages_in}
 use Rattle.dg_index.specs.OpenedIndex.{Opening}
 use Rattle.dg_messages.specs.Calls.{AreHeard}
 use Rattle.dg_messages.specs.Collected.{AreAdded, IsListRead, TakesList, message_bytes}
-use Rattle.dg_messages.proofs.HeardLists.{IsLast, IsNext, all_heard, all_taken, damage_fails, heard_more, heard_none, most_heard, rest_end, rest_from, rest_is, seen_before, takes_done, takes_fails}
+use Rattle.dg_messages.proofs.HeardLists.{IsLast, all_heard, all_taken, damage_fails, heard_more, heard_none, most_heard, rest_end, rest_is, takes_done, takes_fails}
 use Rattle.dg_messages.proofs.ListColumns.{told_so}
 use Rattle.dg_messages.proofs.told.push_heard.Given.{Over}
 use Rattle.dg_messages.proofs.told.push_heard.Goals as goal
@@ -16,24 +15,15 @@ use Rattle.dg_messages.proofs.told.push_heard.Goals.{After-next_heard, After-rea
 
 pub loop-list-init : goal.loop-list-init
 loop-list-init g c = record {
-  same = refl;
   frame = reads_none;
   so_far = heard_none c.args.name_count (g.D.Disk.image c.args.disk.now) c.args.index.now.opening c.args.times.now c.args.lists.now (g.D.Disk.taken c.args.disk.now) c.requires.empty;
 }
 
 -- ---- a list that is heard
 
-same_opening : (g : Over) (c : After-next_heard g) → c.loop-list.index.opening ≡ c.args.index.now.opening
-same_opening g c = ap (λ (x : IndexState). x.opening) c.loop-list.invariant.same
-
-next_list : (g : Over) (c : After-read_list g) → IsNext c.args.index.now.opening c.args.times.now c.loop-list.from c.in-Some.list
-next_list g c = subst (λ (o : Opening). IsNext o c.args.times.now c.loop-list.from c.in-Some.list) (ap (λ (x : IndexState). x.opening) c.loop-list.invariant.same) c.in-Some.ensures.some
-
--- what is said of the image and the index as the loop has them
-said : (g : Over) (c : After-read_list g) (P : List ℕ → Opening → Type 0) → IfSome (g.D.Disk.image c.loop-list.disk) (λ image. P image c.loop-list.index.opening) → IfSome (g.D.Disk.image c.args.disk.now) (λ image. P image c.args.index.now.opening)
-said g c P =
-    seen_before (g.D.Disk.image c.loop-list.disk) (g.D.Disk.image c.args.disk.now) c.loop-list.index.opening c.args.index.now.opening P c.loop-list.invariant.frame.same_image
-    (ap (λ (x : IndexState). x.opening) c.loop-list.invariant.same)
+-- what is said of the image as the loop has it
+said : (g : Over) (c : After-read_list g) (P : List ℕ → Type 0) → IfSome (g.D.Disk.image c.loop-list.disk) P → IfSome (g.D.Disk.image c.args.disk.now) P
+said g c P = subst (λ (told : Option (List ℕ)). IfSome told P) c.loop-list.invariant.frame.same_image
 
 pub loop-list-preserved : goal.loop-list-preserved
 loop-list-preserved g c =
@@ -46,15 +36,14 @@ loop-list-preserved g c =
     let more = c.in_ok-events.events.items in
     let here = (goal.at.loop-list-preserved g c).After-read_list in
     record {
-      same = c.read_list.ensures.reads.same ∙ c.loop-list.invariant.same;
       frame = reads_then c.loop-list.invariant.frame c.read_list.ensures.reads.disk;
       so_far =
-          heard_more c.args.name_count told o times c.loop-list.from i c.loop-list.lists (g.D.Disk.taken c.args.disk.now) now c.loop-list.invariant.so_far (rest_is o times c.loop-list.from i (next_list g here))
+          heard_more c.args.name_count told o times c.loop-list.from i c.loop-list.lists (g.D.Disk.taken c.args.disk.now) now c.loop-list.invariant.so_far (rest_is o times c.loop-list.from i c.in-Some.ensures.some)
           after more c.push_all.new.lists
-          (said g here (λ image p. messages_in c.args.name_count image p i ≡ Ok more) c.in_ok-events.ensures.read) c.in_ok-events.ensures.named
+          (said g here (λ image. messages_in c.args.name_count image o i ≡ Ok more) c.in_ok-events.ensures.read) c.in_ok-events.ensures.named
           (subst (λ (events : List Event). AreAdded events times c.loop-list.lists c.push_all.new.lists) c.deref.ensures.value c.in_ok-push_all.ensures)
-          (said g here (λ image p. Takes (message_bytes p i) now after)
-          (told_so (g.D.Disk.image c.loop-list.disk) (λ image. TakesList c.loop-list.index.opening i now after (Ok c.in_ok-events.events)) (λ image. Takes (message_bytes c.loop-list.index.opening i) now after)
+          (said g here (λ image. Takes (message_bytes o i) now after)
+          (told_so (g.D.Disk.image c.loop-list.disk) (λ image. TakesList o i now after (Ok c.in_ok-events.events)) (λ image. Takes (message_bytes o i) now after)
           (λ image h. h.takes) c.in_ok-events.ensures.takes));
     }
 
@@ -66,9 +55,9 @@ most g c =
     let after = g.D.Disk.taken c.read_list.new.disk in
     let i = c.in-Some.list in
     most_heard c.args.name_count (g.D.Disk.image c.args.disk.now) o c.args.times.now c.loop-list.from i c.loop-list.lists (g.D.Disk.taken c.args.disk.now) now c.loop-list.invariant.so_far
-    (rest_is o c.args.times.now c.loop-list.from i (next_list g c)) after
-    (said g c (λ image p. TakesAtMost (message_bytes p i) now after)
-    (told_so (g.D.Disk.image c.loop-list.disk) (λ image. TakesList c.loop-list.index.opening i now after c.read_list.result) (λ image. TakesAtMost (message_bytes c.loop-list.index.opening i) now after)
+    (rest_is o c.args.times.now c.loop-list.from i c.in-Some.ensures.some) after
+    (said g c (λ image. TakesAtMost (message_bytes o i) now after)
+    (told_so (g.D.Disk.image c.loop-list.disk) (λ image. TakesList o i now after c.read_list.result) (λ image. TakesAtMost (message_bytes o i) now after)
     (λ image h. h.most) c.read_list.ensures.takes))
 
 pub returns-in_err-events-clause-takes : goal.returns-in_err-events-clause-takes
@@ -87,20 +76,16 @@ returns-in_err-events-clause-damage g c =
     let i = c.in-Some.list in
     let here = (goal.at.returns-in_err-events-clause-damage g c).After-read_list in
     damage_fails (Unit {0}) c.args.name_count (g.D.Disk.image c.args.disk.now) o c.args.times.now c.loop-list.from i c.loop-list.lists (g.D.Disk.taken c.args.disk.now) (g.D.Disk.taken c.loop-list.disk)
-    c.loop-list.invariant.so_far (rest_is o c.args.times.now c.loop-list.from i (next_list g here)) c.from_residual.result c.in_err-events.field-0.0 c.from_residual.ensures
-    (said g here (λ image p. IsListRead c.args.name_count image p i (Err c.in_err-events.field-0.0)) c.in_err-events.ensures.read)
+    c.loop-list.invariant.so_far (rest_is o c.args.times.now c.loop-list.from i c.in-Some.ensures.some) c.from_residual.result c.in_err-events.field-0.0 c.from_residual.ensures
+    (said g here (λ image. IsListRead c.args.name_count image o i (Err c.in_err-events.field-0.0)) c.in_err-events.ensures.read)
 
 -- ---- the end
 
-ended : (g : Over) (c : After-next_heard g) → IsLast c.loop-list.index.opening c.args.times.now c.loop-list.from → rest_from c.args.index.now.opening c.args.times.now c.loop-list.from ≡ []
-ended g c none =
-    rest_end c.args.index.now.opening c.args.times.now c.loop-list.from (subst (λ (o : Opening). IsLast o c.args.times.now c.loop-list.from) (same_opening g c) none)
-
-all : (g : Over) (c : After-next_heard g) → IsLast c.loop-list.index.opening c.args.times.now c.loop-list.from
+all : (g : Over) (c : After-next_heard g) → IsLast c.args.index.now.opening c.args.times.now c.loop-list.from
     → IfSome (g.D.Disk.image c.args.disk.now) (λ image. heard_events c.args.name_count image c.args.index.now.opening c.args.times.now ≡ Ok c.loop-list.invariant.so_far.events)
 all g c none =
     all_heard c.args.name_count (g.D.Disk.image c.args.disk.now) c.args.index.now.opening c.args.times.now c.loop-list.from c.loop-list.lists (g.D.Disk.taken c.args.disk.now) (g.D.Disk.taken c.loop-list.disk)
-    c.loop-list.invariant.so_far (ended g c none)
+    c.loop-list.invariant.so_far (rest_end c.args.index.now.opening c.args.times.now c.loop-list.from none)
 
 pub returns-clause-heard : goal.returns-clause-heard
 returns-clause-heard g c =
@@ -126,4 +111,4 @@ returns-clause-takes g c =
     let now = g.D.Disk.taken c.loop-list.disk in
     takes_done told o c.args.times.now before now tt
     (all_taken c.args.name_count told o c.args.times.now c.loop-list.from c.loop-list.lists before now c.loop-list.invariant.so_far
-    (ended g (goal.at.returns-clause-takes g c).After-next_heard c.in_default.ensures.none))
+    (rest_end o c.args.times.now c.loop-list.from c.in_default.ensures.none))
