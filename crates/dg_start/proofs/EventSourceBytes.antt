@@ -1,6 +1,6 @@
 -- How many bytes a start reads, over an image of a history.
-use Rattle.std.proofs.Common.{◌≡◌, ℕ, ◌+◌, ◌≤◌, ◌==◌, Bool, true, false, if◌then◌else◌, List, [], ◌∷◌, Option, Some, None, Result, Ok, Err, length, is_some, refl, sym, ◌∙◌, ap, subst, arith}
-use Rattle.std.specs.Prelude.{IfSome, IsErr, IsErrAnd, sum_by}
+use Rattle.std.proofs.Common.{◌≡◌, ℕ, ◌+◌, ◌≤◌, ◌==◌, Bool, true, false, if◌then◌else◌, List, [], ◌∷◌, Option, Some, None, Result, Ok, Err, length, is_some, refl, sym, ◌∙◌, ap, arith}
+use Rattle.std.specs.Prelude.{IsErr, IsErrAnd, sum_by}
 use Rattle.std.specs.List.{All}
 use Rattle.std.specs.Map.{lookup}
 use Rattle.std.proofs.lemmas.Bool.{eqb-true, false≢true}
@@ -24,7 +24,7 @@ use Rattle.dg_index.proofs.IndexRecordColumns.{columns_are_kept}
 use Rattle.dg_plan.specs.HistoryGraph.{all_columns}
 use Rattle.dg_start.specs.declared.event_source.EventSource.{EventSource}
 use Rattle.dg_start.specs.Calls.{TakesOrFails}
-use Rattle.dg_start.specs.EventSources.{CanBeRead, WhereTold, bytes_in_sources, source_of, sources_in}
+use Rattle.dg_start.specs.EventSources.{CanBeRead, bytes_in_sources, source_of, sources_in}
 use Rattle.dg_start.specs.RecentEvents.{Source, recent_sources}
 use Rattle.dg_start.specs.SessionStart.{recent_bytes}
 

@@ -1,7 +1,6 @@
 -- What is said of an image that a disk tells, and of what a call hands on.
 use Rattle.std.proofs.Common.{◌≡◌, ℕ, List, Option, Some, None, Result, Ok, Err, refl, sym, ◌∙◌, subst}
 use Rattle.std.specs.Prelude.{IfErr, IfSome, IsErr, IsErrAnd, OnOk}
-use Rattle.dg_index.specs.OpenedIndex.{Opening}
 use Rattle.dg_start.specs.EventSources.{WhereTold}
 
 pub of_told : {A : Type 0} (o : Option A) (P : A → Type 0) (x : A) → IfSome o P → o ≡ Some x → P x
@@ -29,15 +28,10 @@ told_weaker old new P Q same weaker h = subst (λ (o : Option (List ℕ)). IfSom
     weak None h = tt
     weak (Some x) h = weaker x h
 
--- what is said of a record of an index that was not changed, in an image that was not changed
-abbrev pub SaysOf : Option (List ℕ) → Opening → (List ℕ → Opening → Type 0) → Type 0
-SaysOf told o P = WhereTold told (λ image. P image o)
+-- what is said of an image that was not changed
+pub said_before : (now told : Option (List ℕ)) (P : List ℕ → Type 0) → now ≡ told → WhereTold now P → WhereTold told P
+said_before now told P same_image h image is = h image (same_image ∙ is)
 
-pub said_before : (now told : Option (List ℕ)) (p o : Opening) (P : List ℕ → Opening → Type 0) → now ≡ told → p ≡ o → SaysOf now p P → SaysOf told o P
-said_before now told p o P same_image same h image is = subst (P image) same (h image (same_image ∙ is))
-
--- what is said of an image, an index and a number of names that are the same
-pub seen_before : (now told : Option (List ℕ)) (p o : Opening) (n m : ℕ) (P : List ℕ → Opening → ℕ → Type 0) → now ≡ told → p ≡ o → n ≡ m → IfSome now (λ image. P image p n) → IfSome told (λ image. P image o m)
-seen_before now told p o n m P a b d h =
-    subst (λ (t : Option (List ℕ)). IfSome t (λ image. P image o m)) a
-    (subst (λ (q : Opening). IfSome now (λ image. P image q m)) b (subst (λ (k : ℕ). IfSome now (λ image. P image p k)) d h))
+-- the same of an image and a number of names that are the same
+pub seen_before : (now told : Option (List ℕ)) (n m : ℕ) (P : List ℕ → ℕ → Type 0) → now ≡ told → n ≡ m → IfSome now (λ image. P image n) → IfSome told (λ image. P image m)
+seen_before now told n m P a b h = subst (λ (t : Option (List ℕ)). IfSome t (λ image. P image m)) a (subst (λ (k : ℕ). IfSome now (λ image. P image k)) b h)

@@ -24,7 +24,7 @@ use Rattle.dg_index.specs.OpenedIndex.{Opening, earliest_in, event_total, first_
 use Rattle.dg_index.specs.RecentEvents.{RecentPiece, pieces_ahead}
 use Rattle.dg_index.proofs.HierarchyStability.{leaves_more}
 use Rattle.dg_start.specs.RecentEvents.{Source, first_wrong_event, is_right, piece_source, recent_sources}
-use Rattle.dg_start.specs.StoredHistory.{MayGoOn, floor_of, recent_count}
+use Rattle.dg_stored.specs.StoredHistory.{MayGoOn, floor_of, recent_count}
 use Rattle.dg_start.proofs.EventSourceTimes.{AreOf, counts, tagged, untag, untagged}
 
 -- ---- events that are right

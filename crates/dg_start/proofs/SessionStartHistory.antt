@@ -25,10 +25,10 @@ use Rattle.dg_index.proofs.OpenedLegalHistories.{behind}
 use Rattle.dg_net.proofs.NetLaws.{changes_keep_graphs}
 use Rattle.dg_plan.specs.IndexGraph.{leaf}
 use Rattle.dg_retrieval.specs.NodeSets.{IsLedByPlan}
+use Rattle.dg_start.specs.Calls.{StartsAsItStands}
 use Rattle.dg_start.specs.declared.fault.StartFault.{StartFault}
 use Rattle.dg_start.specs.RecentEvents.{events_read, first_wrong_event, recent_in_image}
 use Rattle.dg_start.specs.SessionStart.{Bad_event, Bad_piece, Bad_plan, Good, Not_graph, Started, Starts, StartsBy, StartsIndex, first_recent, last_leaf}
-use Rattle.dg_start.specs.StoredHistory.{StartsAsItStands}
 use Rattle.dg_start.proofs.KeptGraphPlans.{plan_leads}
 use Rattle.dg_start.proofs.RecentEventHistory.{all_read, all_recent, none_is_wrong, recent_pairs}
 

@@ -23,9 +23,9 @@ use Rattle.dg_retrieval.specs.NodeSets.{IsIndexOver}
 use Rattle.dg_retrieval.specs.ValueRange.{ValuesFit}
 use Rattle.dg_start.specs.declared.fault.StartFault.{StartFault}
 use Rattle.dg_start.specs.declared.fault.StartFault.TheVariants as fault
-use Rattle.dg_start.specs.Calls.{TakesAlongPlan, TakesOrFails, TakesStart, current_bytes, plan_bytes}
-use Rattle.dg_start.specs.SessionStart.{PlansLastLeaf, RefusesStart, Started, Starts, StartsBy, recent_bytes, start_bytes}
-use Rattle.dg_start.specs.StoredHistory.{AreCounted, IsSoundHistory, KeepsHistory, MayGoOn, StartsAsItStands, started_with}
+use Rattle.dg_start.specs.Calls.{StartsAsItStands, TakesAlongPlan, TakesOrFails, TakesStart, current_bytes, plan_bytes}
+use Rattle.dg_start.specs.SessionStart.{PlansLastLeaf, RefusesStart, Started, Starts, StartsBy, recent_bytes, start_bytes, started_with}
+use Rattle.dg_stored.specs.StoredHistory.{AreCounted, IsSoundHistory, KeepsHistory, MayGoOn}
 use Rattle.dg_start.proofs.EventSourceBytes.{HandsOn, call_then, fails_with, takes_after, takes_part, takes_raised}
 use Rattle.dg_start.proofs.SessionStartSets.{at_most}
 use Rattle.dg_index.proofs.OpenedLegalHistories.{behind}

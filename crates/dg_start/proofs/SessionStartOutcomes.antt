@@ -20,8 +20,8 @@ use Rattle.dg_start.specs.Calls.{TakesAlongPlan, current_bytes, plan_bytes}
 use Rattle.dg_start.specs.RecentEvents.{events_in_sources, events_read, first_wrong_event, recent_in_image, recent_sources}
 use Rattle.dg_start.specs.EventSources.{ArePartedBy, CanBeRead, WhereTold, bounded, bytes_in_sources, source_of, sources_in}
 use Rattle.dg_start.specs.Refusals.{IsReason, RefusesEvents, RefusesPlan}
-use Rattle.dg_start.specs.SessionStart.{Bad_event, Bad_piece, Bad_plan, Good, Not_graph, RefusesStart, Started, Starts, StartsBy, StartsIndex, first_recent, last_leaf, recent_bytes}
-use Rattle.dg_start.specs.StoredHistory.{MayGoOn, recent_count, started_with}
+use Rattle.dg_start.specs.SessionStart.{Bad_event, Bad_piece, Bad_plan, Good, Not_graph, RefusesStart, Started, Starts, StartsBy, StartsIndex, first_recent, last_leaf, recent_bytes, started_with}
+use Rattle.dg_stored.specs.StoredHistory.{MayGoOn, recent_count}
 use Rattle.dg_start.proofs.EventSourceTimes.{are_of, parted_length, untag_bounded}
 use Rattle.dg_start.proofs.EventSourceBytes.{HandsOn, call_then, fails_with, recent_taken, takes_part}
 use Rattle.dg_start.proofs.RecentEventTimes.{are_within, may_go_on, recent_counts}

@@ -6,7 +6,6 @@ use Rattle.dg_file.specs.OpeningBytes.{blank_bytes}
 use Rattle.dg_fold.specs.BytesRead.{Takes, TakesAtMost}
 use Rattle.dg_graph.specs.declared.element.Element.{Element}
 use Rattle.dg_graph.specs.declared.event.Event.{Event}
-use Rattle.dg_graph.specs.Replay.{replay_from}
 use Rattle.dg_history.specs.EventTimes.{RisesFrom}
 use Rattle.dg_history.specs.History.{History}
 use Rattle.dg_index.specs.ImageOfHistory.{IsImageOf, StandsAs, is_blank}
@@ -20,8 +19,9 @@ use Rattle.dg_retrieval.specs.NodeSets.{IsIndexOver}
 use Rattle.dg_retrieval.specs.ValueRange.{ValuesFit}
 use Rattle.dg_start.specs.EventSources.{ArePartedBy, WhereTold, bounded}
 use Rattle.dg_start.specs.RecentEvents.{Source, events_in_source, events_in_sources}
-use Rattle.dg_start.specs.SessionStart.{PlansLastLeaf, Starts, recent_bytes, start_bytes}
-use Rattle.dg_start.specs.StoredHistory.{IsHeldBy, IsSoundHistory, KeepsHistory, MayGoOn, recent_count, started_with}
+use Rattle.dg_start.specs.declared.fault.StartFault.{StartFault}
+use Rattle.dg_start.specs.SessionStart.{PlansLastLeaf, Started, Starts, recent_bytes, start_bytes, started_with}
+use Rattle.dg_stored.specs.StoredHistory.{IsHeldBy, IsSoundHistory, KeepsHistory, MayGoOn, recent_count}
 
 -- ---- the bytes read
 
@@ -85,3 +85,12 @@ pub record IsOpenedFile (before after : Option (List ℕ)) (index : Option Openi
   pub stands : IfSome before (λ image. (z : Option History) → StandsAs z image → KeepsHistory z index names now.graph recent)
   pub sound : IsSoundHistory index names now recent
   pub held : IfSome after (λ image. IsHeldBy index names image)
+
+-- ---- a law
+
+-- an image that stands for a history, or for none, starts as that history
+abbrev pub StartsAsItStands : Type 0
+StartsAsItStands =
+    (z : Option History) (image : List ℕ) → StandsAs z image → (due : Result (Option Started) StartFault) → Starts image due
+    → (index : Option Opening) × (names : List (List ℕ)) × (graph : List Element) × (recent : List Event)
+    × (due ≡ Ok (started_with index names graph recent)) × KeepsHistory z index names graph recent

@@ -3,5 +3,4 @@ pub mod EventSources
 pub mod SessionStart
 pub mod Refusals
 pub mod Faults
-pub mod StoredHistory
 pub mod Calls

@@ -27,6 +27,11 @@ pub record Started : Type 0 where
   pub graph : List Element
   pub recent : List Event
 
+-- what a start comes to, as the parts of a stored history
+abbrev pub started_with : Option Opening → List (List ℕ) → List Element → List Event → Option Started
+started_with None names graph recent = None
+started_with (Some o) names graph recent = Some (record { opened = record { index = o; names = names }; graph = graph; recent = recent })
+
 -- the number of closed lists
 abbrev pub lists_in : Opening → ℕ
 lists_in o = leaves o.params (event_total o.batches)

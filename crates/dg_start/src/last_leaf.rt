@@ -68,27 +68,26 @@ fn planner_of(alloc: Global, index: &Index) -> Result<Planner, AllocError>
 pub fn last_set<R: Threads + Sync, D: Disk>(
     rt: &R,
     alloc: Global,
-    index: &mut Index,
+    index: &Index,
     disk: &mut D,
     names: u32,
 ) -> Result<Set, StartFault>
-    requires image { IfSome (D.image disk.old) (λ image. IsOpenedAs image index.old.opening) }
+    requires image { IfSome (D.image disk.old) (λ image. IsOpenedAs image index.now.opening) }
 
     // the set
     ensures led { IfOk result (λ set. IfSome (D.image disk.old) (λ image.
-        IsLedByPlan names image index.old.opening (last_leaf index.old.opening) (Ok set))) }
+        IsLedByPlan names image index.now.opening (last_leaf index.now.opening) (Ok set))) }
     ensures named { IfOk result (NamesAreThere names) }
 
     // the bytes read, over an image of a history
     ensures takes { IfSome (D.image disk.old) (λ image.
-        TakesAlongPlan result (plan_bytes index.old.opening) image index.old.opening names (D.taken disk.old) (D.taken disk.new)) }
+        TakesAlongPlan result (plan_bytes index.now.opening) image index.now.opening names (D.taken disk.old) (D.taken disk.new)) }
 
     // why there is none
-    ensures refused { IfErr result (λ fault. IfSome (D.image disk.old) (λ image. RefusesPlan names image index.old.opening fault)) }
+    ensures refused { IfErr result (λ fault. IfSome (D.image disk.old) (λ image. RefusesPlan names image index.now.opening fault)) }
     ensures cause { IsErrOf result StartFault.Disk → Fails D.Disk disk.old disk.new }
 
     // what it leaves
-    ensures same { index.new ≡ index.old }
     ensures disk { ReadsDisk D.Disk disk.old disk.new }
 {
     let planner = planner_of(alloc, index)?;

@@ -1,7 +1,7 @@
 //! The laws of starting. The functions do nothing: their clauses are the laws.
 
+ghost use Rattle.dg_start.specs.Calls.{StartsAsItStands};
 ghost use Rattle.dg_start.specs.SessionStart.{StartsAreDetermined};
-ghost use Rattle.dg_start.specs.StoredHistory.{StartsAsItStands};
 
 use dg_columns::{law_events_are_merged_back, law_events_are_read_back};
 

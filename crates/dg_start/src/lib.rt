@@ -11,7 +11,6 @@ mod laws;
 mod opening;
 mod record;
 mod source_events;
-mod stored_history;
 
 pub use event_source::EventSource;
 pub use fault::{RecordColumn, RecordFault, StartFault};
@@ -19,4 +18,3 @@ pub use keys::has_key;
 pub use laws::{law_images_start_as_they_stand, law_starts_are_determined};
 pub use opening::open;
 pub use record::read_record;
-pub use stored_history::StoredHistory;

@@ -12,7 +12,7 @@ ghost use Rattle.dg_index.specs.IndexGrowth.{name_total};
 ghost use Rattle.dg_index.specs.OpenedIndex.{No_index, opening};
 ghost use Rattle.dg_start.specs.Calls.{IsCurrent, IsOpenedFile, TakesAlongPlan, TakesStart, current_bytes};
 ghost use Rattle.dg_start.specs.SessionStart.{RefusesStart};
-ghost use Rattle.dg_start.specs.StoredHistory.{index_opening};
+ghost use Rattle.dg_stored.specs.StoredHistory.{index_opening};
 
 use crate::current_graph::current_graph;
 use crate::event_source::recent_sources;
@@ -20,13 +20,13 @@ use crate::fault::StartFault;
 use crate::last_leaf::{first_recent, last_set};
 use crate::laws::law_images_start_as_they_stand;
 use crate::source_events::read_sources;
-use crate::stored_history::StoredHistory;
 use dg_current::Now;
 use dg_disk::Disk;
 use dg_file::{Index, ReopenFault};
 use dg_graph::Event;
 use dg_names::Names;
 use dg_seed::Seed;
+use dg_stored::StoredHistory;
 use std::alloc::Global;
 use std::thread::Threads;
 
@@ -41,24 +41,23 @@ struct Current {
 fn read_current<R: Threads + Sync, D: Disk>(
     rt: &R,
     alloc: Global,
-    index: &mut Index,
+    index: &Index,
     disk: &mut D,
     names: &Names,
 ) -> Result<Current, StartFault>
-    requires image { IfSome (D.image disk.old) (λ image. opening image ≡ Ok (record { index = index.old.opening; names = names.now })) }
+    requires image { IfSome (D.image disk.old) (λ image. opening image ≡ Ok (record { index = index.now.opening; names = names.now })) }
 
     // the graph and the events, and over an image of a history the bytes read
-    ensures done { IfOk result (λ current. IsCurrent (D.image disk.old) index.old.opening names.now
+    ensures done { IfOk result (λ current. IsCurrent (D.image disk.old) index.now.opening names.now
         current.now current.recent.items) }
     ensures takes { IfSome (D.image disk.old) (λ image.
-        TakesAlongPlan result (current_bytes index.old.opening) image index.old.opening (length names.now) (D.taken disk.old) (D.taken disk.new)) }
+        TakesAlongPlan result (current_bytes index.now.opening) image index.now.opening (length names.now) (D.taken disk.old) (D.taken disk.new)) }
 
     // why there are none
     ensures refused { IfErr result (λ fault. IfSome (D.image disk.old) (λ image. RefusesStart fault image)) }
     ensures cause { IsErrOf result StartFault.Disk → Fails D.Disk disk.old disk.new }
 
     // what it leaves
-    ensures same { index.new ≡ index.old }
     ensures disk { ReadsDisk D.Disk disk.old disk.new }
 {
     index.facts();
@@ -108,7 +107,7 @@ fn open_index<R: Threads + Sync, D: Disk>(
     rt: &R,
     alloc: Global,
     disk: &mut D,
-    mut index: Index,
+    index: Index,
     names: Names,
 ) -> Result<StoredHistory, StartFault>
     requires image { IfSome (D.image disk.old) (λ image. opening image ≡ Ok (record { index = index.opening; names = names })) }
@@ -128,7 +127,7 @@ fn open_index<R: Threads + Sync, D: Disk>(
     ensures disk { ReadsDisk D.Disk disk.old disk.new }
 {
     law_images_start_as_they_stand();
-    let Current { now, recent } = read_current(rt, alloc, &mut index, disk, &names)?;
+    let Current { now, recent } = read_current(rt, alloc, &index, disk, &names)?;
     Ok(StoredHistory {
         index: Some(index),
         names,

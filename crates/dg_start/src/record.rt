@@ -30,23 +30,22 @@ use std::alloc::Global;
 // which tells that it is damaged.
 fn read_column<D: Disk>(
     alloc: Global,
-    index: &mut Index,
+    index: &Index,
     disk: &mut D,
     names: u32,
     key: Key,
     col: Column,
 ) -> Result<Vec<Placed>, RecordFault>
-    requires held { is_some (lookup (same_key key) index.old.opening.records) ≡ true }
+    requires held { is_some (lookup (same_key key) index.now.opening.records) ≡ true }
     requires names { names ≤ NAMES_MAX }
-    requires image { IfSome (D.image disk.old) (λ image. IsOpenedAs image index.old.opening) }
+    requires image { IfSome (D.image disk.old) (λ image. IsOpenedAs image index.now.opening) }
     ensures read { IfOk result (λ placed. WhereTold (D.image disk.old)
-        (λ image. placed_in_record image names index.old.opening key col ≡ Ok placed.items)) }
+        (λ image. placed_in_record image names index.now.opening key col ≡ Ok placed.items)) }
     ensures fit { IfOk result (λ placed. All (λ (p : Placed). BodyFits names p.event.body) placed.items) }
     ensures refused { IfErr result (λ fault. WhereTold (D.image disk.old)
-        (λ image. IsReason (start_fault_of_record fault) (placed_in_record image names index.old.opening key col))) }
+        (λ image. IsReason (start_fault_of_record fault) (placed_in_record image names index.now.opening key col))) }
     ensures takes { WhereTold (D.image disk.old)
-        (λ image. TakesOrFails result (length (kept_in image index.old.opening key col)) (D.taken disk.old) (D.taken disk.new)) }
-    ensures same { index.new ≡ index.old }
+        (λ image. TakesOrFails result (length (kept_in image index.now.opening key col)) (D.taken disk.old) (D.taken disk.new)) }
     ensures cause { IsErrOf result RecordFault.Disk → Fails D.Disk disk.old disk.new }
 
     // what it leaves
@@ -67,20 +66,19 @@ fn read_column<D: Disk>(
 /// `RecordFault::Memory` for want of memory.
 pub fn read_record<D: Disk>(
     alloc: Global,
-    index: &mut Index,
+    index: &Index,
     disk: &mut D,
     names: u32,
     source: EventSource,
 ) -> Result<Vec<Event>, RecordFault>
-    requires readable { CanBeRead index.old.opening (source_of source) }
+    requires readable { CanBeRead index.now.opening (source_of source) }
     requires names { names ≤ NAMES_MAX }
-    requires image { IfSome (D.image disk.old) (λ image. IsOpenedAs image index.old.opening) }
-    ensures done { IfOk result (λ events. IsReadRecord (D.image disk.old) names index.old.opening (source_of source) events.items) }
+    requires image { IfSome (D.image disk.old) (λ image. IsOpenedAs image index.now.opening) }
+    ensures done { IfOk result (λ events. IsReadRecord (D.image disk.old) names index.now.opening (source_of source) events.items) }
     ensures refused { IfErr result (λ fault. WhereTold (D.image disk.old)
-        (λ image. IsReason (start_fault_of_record fault) (events_in_source image names index.old.opening (source_of source)))) }
+        (λ image. IsReason (start_fault_of_record fault) (events_in_source image names index.now.opening (source_of source)))) }
     ensures takes { WhereTold (D.image disk.old)
-        (λ image. TakesOrFails result (asked_length (kept_in image index.old.opening) all_columns source.key) (D.taken disk.old) (D.taken disk.new)) }
-    ensures same { index.new ≡ index.old }
+        (λ image. TakesOrFails result (asked_length (kept_in image index.now.opening) all_columns source.key) (D.taken disk.old) (D.taken disk.new)) }
     ensures cause { IsErrOf result RecordFault.Disk → Fails D.Disk disk.old disk.new }
 
     // what it leaves

@@ -25,27 +25,26 @@ use std::alloc::Global;
 /// `StartFault::Memory` for want of memory.
 pub fn read_sources<D: Disk>(
     alloc: Global,
-    index: &mut Index,
+    index: &Index,
     disk: &mut D,
     names: u32,
     sources: &[EventSource],
 ) -> Result<Vec<Event>, StartFault>
-    requires readable { All (λ s. CanBeRead index.old.opening (source_of s)) sources.now }
+    requires readable { All (λ s. CanBeRead index.now.opening (source_of s)) sources.now }
     requires names { names ≤ NAMES_MAX }
-    requires image { IfSome (D.image disk.old) (λ image. IsOpenedAs image index.old.opening) }
+    requires image { IfSome (D.image disk.old) (λ image. IsOpenedAs image index.now.opening) }
 
     // the events, and the bytes read
-    ensures done { IfOk result (λ events. AreReadEvents (D.image disk.old) names index.old.opening (sources_in sources.now) events.items) }
+    ensures done { IfOk result (λ events. AreReadEvents (D.image disk.old) names index.now.opening (sources_in sources.now) events.items) }
     ensures takes { WhereTold (D.image disk.old)
-        (λ image. TakesOrFails result (bytes_in_sources image index.old.opening (sources_in sources.now)) (D.taken disk.old) (D.taken disk.new)) }
+        (λ image. TakesOrFails result (bytes_in_sources image index.now.opening (sources_in sources.now)) (D.taken disk.old) (D.taken disk.new)) }
 
     // why there are none
     ensures refused { IfErr result (λ fault. WhereTold (D.image disk.old)
-        (λ image. IsReason fault (events_in_sources image names index.old.opening (sources_in sources.now)))) }
+        (λ image. IsReason fault (events_in_sources image names index.now.opening (sources_in sources.now)))) }
     ensures cause { IsErrOf result StartFault.Disk → Fails D.Disk disk.old disk.new }
 
     // what it leaves
-    ensures same { index.new ≡ index.old }
     ensures disk { ReadsDisk D.Disk disk.old disk.new }
 {
     let mut events = Vec::new(alloc);

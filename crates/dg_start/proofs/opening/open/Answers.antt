@@ -1,4 +1,4 @@
-use Rattle.std.proofs.Common.{◌≡◌, ◌⊎◌, ℕ, true, List, [], Ok, Err, None, Option, length, refl, ap, subst, sym, ◌∙◌}
+use Rattle.std.proofs.Common.{◌≡◌, ◌⊎◌, ℕ, true, List, Ok, Err, None, Option, length, refl, ap, subst, sym}
 use Rattle.std.specs.Prelude.{IfSome}
 use Rattle.dg_disk.specs.Counts.{raised_by}
 use Rattle.dg_disk.proofs.CrashTold.{settled_on}
@@ -6,7 +6,6 @@ use Rattle.dg_disk.proofs.FrameLemmas.{syncs_then_reads}
 use Rattle.dg_file.specs.Index.{IndexState, opening_bytes}
 use Rattle.dg_file.proofs.OpenedBytes.{blank_is}
 use Rattle.dg_graph.specs.declared.event.Event.{Event}
-use Rattle.dg_graph.specs.Replay.{replay_from}
 use Rattle.dg_history.specs.History.{History}
 use Rattle.dg_index.specs.ImageOfHistory.{StandsAs, is_blank}
 use Rattle.dg_index.specs.OpenedIndex.{No_index, Opening, opening}
@@ -14,8 +13,8 @@ use Rattle.dg_current.specs.Now.{NowState}
 use Rattle.dg_start.specs.declared.fault.StartFault.{StartFault}
 use Rattle.dg_start.specs.declared.fault.StartFault.TheVariants as fault
 use Rattle.dg_start.specs.Calls.{TakesAlongPlan, current_bytes}
-use Rattle.dg_start.specs.SessionStart.{RefusesStart, Starts}
-use Rattle.dg_start.specs.StoredHistory.{AreCounted, IsHeldBy, KeepsHistory, index_opening, started_with}
+use Rattle.dg_start.specs.SessionStart.{RefusesStart, Starts, started_with}
+use Rattle.dg_stored.specs.StoredHistory.{AreCounted, IsHeldBy, KeepsHistory, index_opening}
 use Rattle.dg_start.proofs.SessionStartOpenings.{blank_starts, empty_sound, gives, index_found, keeps_history, never_refused, none_found, none_taken, of_index, open_takes, opening_fails, start_handed}
 use Rattle.dg_start.proofs.EventSourceOutcomes.{err_is, told_weaker}
 use Rattle.dg_start.proofs.opening.open.Goals as goal

@@ -1,12 +1,11 @@
 use Rattle.std.proofs.Common.{◌≡◌, ℕ, List, Ok, Some, Option, subst, sym}
 use Rattle.std.specs.Prelude.{IfSome, length}
-use Rattle.dg_file.specs.Index.{IndexState}
 use Rattle.dg_graph.specs.declared.event.Event.{Event}
 use Rattle.dg_index.specs.OpenedIndex.{Opening, opening}
 use Rattle.dg_current.specs.Now.{NowState}
 use Rattle.dg_start.specs.Calls.{current_bytes}
-use Rattle.dg_start.specs.SessionStart.{Starts}
-use Rattle.dg_start.specs.StoredHistory.{IsSoundHistory, started_with}
+use Rattle.dg_start.specs.SessionStart.{Starts, started_with}
+use Rattle.dg_stored.specs.StoredHistory.{IsSoundHistory}
 use Rattle.dg_start.proofs.SessionStartOpenings.{keeps_sound}
 use Rattle.dg_start.proofs.SessionStartSets.{plan_handed}
 use Rattle.dg_start.proofs.opening.open_index.Goals as goal
@@ -17,13 +16,10 @@ returns-clause-done g c =
     let now : NowState = c.in_ok-now.field-0.now in
     let recent : List Event = c.in_ok-now.field-0.recent.items in
     let told : Option (List ℕ) = g.D.Disk.image c.args.disk.now in
-    let same : c.read_current.new.index ≡ c.args.index = c.read_current.ensures.same in
-    let started : IfSome told (λ image. Starts image (Ok (started_with (Some c.read_current.new.index.opening) names now.graph recent))) =
-    subst (λ (i : IndexState). IfSome told (λ image. Starts image (Ok (started_with (Some i.opening) names now.graph recent)))) {x = c.args.index} {y = c.read_current.new.index}
-    (sym {a = c.read_current.new.index} {b = c.args.index} same) c.in_ok-now.ensures.done.started in
-    let sound : IsSoundHistory (Some c.read_current.new.index.opening) names now recent =
-    subst (λ (i : IndexState). IsSoundHistory (Some i.opening) names now recent) {x = c.args.index} {y = c.read_current.new.index} (sym {a = c.read_current.new.index} {b = c.args.index} same)
-    (record {
+    let started : IfSome told (λ image. Starts image (Ok (started_with (Some c.args.index.opening) names now.graph recent))) =
+    c.in_ok-now.ensures.done.started in
+    let sound : IsSoundHistory (Some c.args.index.opening) names now recent =
+    record {
       pending = c.in_ok-now.ensures.done.none;
       counted = (c.requires.counted_names, c.in_ok-now.ensures.done.many);
       values = c.in_ok-now.ensures.done.values;
@@ -31,16 +27,14 @@ returns-clause-done g c =
       recent_named = c.in_ok-now.ensures.done.recent_named;
       fit = c.in_ok-now.ensures.done.fit;
       goes_on = c.in_ok-now.ensures.done.goes_on;
-    }) in
+    } in
     record {
       started = started;
-      stands = keeps_sound c.law_images_start_as_they_stand.ensures told (Some c.read_current.new.index.opening) names now recent started sound;
+      stands = keeps_sound c.law_images_start_as_they_stand.ensures told (Some c.args.index.opening) names now recent started sound;
       sound = sound;
       held =
-          subst (λ (told : Option (List ℕ)). IfSome told (λ image. opening image ≡ Ok (record { index = c.read_current.new.index.opening; names = names })))
-          {x = g.D.Disk.image c.args.disk.now} {y = g.D.Disk.image c.read_current.new.disk} (sym {a = g.D.Disk.image c.read_current.new.disk} {b = g.D.Disk.image c.args.disk.now} c.read_current.ensures.disk.same_image)
-          (subst (λ (i : IndexState). IfSome (g.D.Disk.image c.args.disk.now) (λ image. opening image ≡ Ok (record { index = i.opening; names = names })))
-          {x = c.args.index} {y = c.read_current.new.index} (sym {a = c.read_current.new.index} {b = c.args.index} same) c.requires.image);
+          subst (λ (told : Option (List ℕ)). IfSome told (λ image. opening image ≡ Ok (record { index = c.args.index.opening; names = names })))
+          {x = g.D.Disk.image c.args.disk.now} {y = g.D.Disk.image c.read_current.new.disk} (sym {a = g.D.Disk.image c.read_current.new.disk} {b = g.D.Disk.image c.args.disk.now} c.read_current.ensures.disk.same_image) c.requires.image;
     }
 
 pub returns-in_err-now-clause-takes : goal.returns-in_err-now-clause-takes

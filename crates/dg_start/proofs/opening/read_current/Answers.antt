@@ -1,7 +1,6 @@
 use Rattle.std.proofs.Common.{◌≡◌, ℕ, List, Result, Ok, Err, None, refl, sym, ◌∙◌, ap, subst, arith}
 use Rattle.std.specs.Prelude.{IfSome, length}
 use Rattle.dg_disk.proofs.FrameLemmas.{reads_then}
-use Rattle.dg_file.specs.Index.{IndexState}
 use Rattle.dg_graph.specs.declared.element.Element.{Element}
 use Rattle.dg_graph.specs.declared.event.Event.{Event}
 use Rattle.dg_fold.specs.BytesRead.{Takes, TakesAtMost}
@@ -48,8 +47,8 @@ returns-in_err-set-clause-refused g c =
     (subst (λ (l : List EventSource). events_in_sources image c.len.result o (sources_in l) ≡ Ok (bounded (sources_in l) recent)) c.deref.ensures.value (c.in_ok-recent.ensures.done.read image h)))
     (subst (λ (l : List EventSource). ArePartedBy (sources_in l) recent) c.deref.ensures.value c.in_ok-recent.ensures.done.parted)
     f
-    (seen_before (g.D.Disk.image c.read_sources.new.disk) told c.read_sources.new.index.opening o c.len-2.result (length c.args.names.now) (λ image p n. RefusesPlan n image p f)
-    c.read_sources.ensures.disk.same_image (ap (λ (x : IndexState). x.opening) c.read_sources.ensures.same) c.len-2.ensures.len c.in_err-set.ensures.refused))
+    (seen_before (g.D.Disk.image c.read_sources.new.disk) told c.len-2.result (length c.args.names.now) (λ image n. RefusesPlan n image o f)
+    c.read_sources.ensures.disk.same_image c.len-2.ensures.len c.in_err-set.ensures.refused))
 
 pub returns-in_err-now-clause-refused : goal.returns-in_err-now-clause-refused
 returns-in_err-now-clause-refused g c =
@@ -59,18 +58,17 @@ returns-in_err-now-clause-refused g c =
     let told = g.D.Disk.image c.args.disk.now in
     let f : StartFault = c.in_err-now.field-0.0 in
     let set : List Element = c.in_ok-set.set in
-    let same : c.last_set.new.index.opening ≡ o = ap (λ (x : IndexState). x.opening) (c.last_set.ensures.same ∙ c.read_sources.ensures.same) in
     err_is c.from_residual-in_err-now.result f (λ (f : StartFault). IfSome told (λ image. RefusesStart f image)) c.from_residual-in_err-now.ensures
     (event_refused c.args.names.now o told c.requires.image found c.in_ok-sources.ensures.are recent
     (λ image h. subst (λ (n : ℕ). events_in_sources image n o (sources_in found) ≡ Ok (bounded (sources_in found) recent)) c.len.ensures.len
     (subst (λ (l : List EventSource). events_in_sources image c.len.result o (sources_in l) ≡ Ok (bounded (sources_in l) recent)) c.deref.ensures.value (c.in_ok-recent.ensures.done.read image h)))
     (subst (λ (l : List EventSource). ArePartedBy (sources_in l) recent) c.deref.ensures.value c.in_ok-recent.ensures.done.parted)
     set
-    (seen_before (g.D.Disk.image c.read_sources.new.disk) told c.read_sources.new.index.opening o c.len-2.result (length c.args.names.now) (λ image p n. IsLedByPlan n image p (last_leaf p) (Ok set))
-    c.read_sources.ensures.disk.same_image (ap (λ (x : IndexState). x.opening) c.read_sources.ensures.same) c.len-2.ensures.len c.in_ok-set.ensures.led)
+    (seen_before (g.D.Disk.image c.read_sources.new.disk) told c.len-2.result (length c.args.names.now) (λ image n. IsLedByPlan n image o (last_leaf o) (Ok set))
+    c.read_sources.ensures.disk.same_image c.len-2.ensures.len c.in_ok-set.ensures.led)
     f
     (tested_before (λ n l es. RefusesEvents c.args.names.now n set (bounded (sources_in l) es) f) (first_recent o) c.first_recent.result found c.deref-2.result.now recent c.deref-3.result.now
-    (c.first_recent.ensures.number ∙ ap first_recent same) c.deref-2.ensures.value c.deref-3.ensures.value c.in_err-now.ensures.refused))
+    c.first_recent.ensures.number c.deref-2.ensures.value c.deref-3.ensures.value c.in_err-now.ensures.refused))
 
 pub returns-clause-done : goal.returns-clause-done
 returns-clause-done g c =
@@ -80,7 +78,6 @@ returns-clause-done g c =
     let told = g.D.Disk.image c.args.disk.now in
     let set : List Element = c.in_ok-set.set in
     let names : List (List ℕ) = c.args.names.now in
-    let same : c.last_set.new.index.opening ≡ o = ap (λ (x : IndexState). x.opening) (c.last_set.ensures.same ∙ c.read_sources.ensures.same) in
     let led : c.in_ok-now.now.graph ≡ replay_from set recent = c.in_ok-now.ensures.led ∙ ap (replay_from set) c.deref-3.ensures.value in
     let there : EventNamesAreThere (length names) recent = subst (λ n. EventNamesAreThere n recent) c.len.ensures.len c.in_ok-recent.ensures.done.named in
     let named : NamesAreThere (length names) c.in_ok-now.now.graph =
@@ -92,11 +89,11 @@ returns-clause-done g c =
           (subst (λ (l : List EventSource). events_in_sources image c.len.result o (sources_in l) ≡ Ok (bounded (sources_in l) recent)) c.deref.ensures.value (c.in_ok-recent.ensures.done.read image h)))
           (subst (λ (l : List EventSource). ArePartedBy (sources_in l) recent) c.deref.ensures.value c.in_ok-recent.ensures.done.parted)
           set
-          (seen_before (g.D.Disk.image c.read_sources.new.disk) told c.read_sources.new.index.opening o c.len-2.result (length c.args.names.now) (λ image p n. IsLedByPlan n image p (last_leaf p) (Ok set))
-          c.read_sources.ensures.disk.same_image (ap (λ (x : IndexState). x.opening) c.read_sources.ensures.same) c.len-2.ensures.len c.in_ok-set.ensures.led)
+          (seen_before (g.D.Disk.image c.read_sources.new.disk) told c.len-2.result (length c.args.names.now) (λ image n. IsLedByPlan n image o (last_leaf o) (Ok set))
+          c.read_sources.ensures.disk.same_image c.len-2.ensures.len c.in_ok-set.ensures.led)
           c.in_ok-now.ensures.from
           (tested_before (λ n l es. first_wrong_event c.args.names.now n set (bounded (sources_in l) es) ≡ None) (first_recent o) c.first_recent.result found c.deref-2.result.now recent c.deref-3.result.now
-          (c.first_recent.ensures.number ∙ ap first_recent same) c.deref-2.ensures.value c.deref-3.ensures.value c.in_ok-now.ensures.right)
+          c.first_recent.ensures.number c.deref-2.ensures.value c.deref-3.ensures.value c.in_ok-now.ensures.right)
           c.in_ok-now.now.graph
           (c.in_ok-now.ensures.led ∙ ap (replay_from set) c.deref-3.ensures.value);
       none = c.in_ok-now.ensures.none;
@@ -136,7 +133,6 @@ returns-in_err-set-clause-takes g c =
     let found : List EventSource = c.in_ok-sources.sources.items in
     let told = g.D.Disk.image c.args.disk.now in
     let n : ℕ = length c.args.names.now in
-    let same : c.read_sources.new.index.opening ≡ o = ap (λ (x : IndexState). x.opening) c.read_sources.ensures.same in
     let before : ℕ = g.D.Disk.taken c.args.disk.now in
     let now : ℕ = g.D.Disk.taken c.read_sources.new.disk in
     let after : ℕ = g.D.Disk.taken c.last_set.new.disk in
@@ -145,8 +141,8 @@ returns-in_err-set-clause-takes g c =
     let set : Result (List Element) StartFault = Err c.in_err-set.field-0.0 in
     let along : IfSome told (λ image. TakesAlongPlan set (current_bytes o) image o n before after) =
     current_takes told o n found c.in_ok-sources.ensures.are c.in_ok-sources.ensures.readable set before now after first
-    (seen_before (g.D.Disk.image c.read_sources.new.disk) told c.read_sources.new.index.opening o c.len-2.result n (λ image p m. TakesAlongPlan set (plan_bytes p) image p m now after)
-    c.read_sources.ensures.disk.same_image same c.len-2.ensures.len c.in_err-set.ensures.takes) in
+    (seen_before (g.D.Disk.image c.read_sources.new.disk) told c.len-2.result n (λ image m. TakesAlongPlan set (plan_bytes o) image o m now after)
+    c.read_sources.ensures.disk.same_image c.len-2.ensures.len c.in_err-set.ensures.takes) in
     plan_handed told c.from_residual-in_err-set.result c.in_err-set.field-0.0 set (current_bytes o) o n before after c.from_residual-in_err-set.ensures along
 
 pub returns-in_err-now-clause-takes : goal.returns-in_err-now-clause-takes
@@ -155,7 +151,6 @@ returns-in_err-now-clause-takes g c =
     let found : List EventSource = c.in_ok-sources.sources.items in
     let told = g.D.Disk.image c.args.disk.now in
     let n : ℕ = length c.args.names.now in
-    let same : c.read_sources.new.index.opening ≡ o = ap (λ (x : IndexState). x.opening) c.read_sources.ensures.same in
     let before : ℕ = g.D.Disk.taken c.args.disk.now in
     let now : ℕ = g.D.Disk.taken c.read_sources.new.disk in
     let after : ℕ = g.D.Disk.taken c.last_set.new.disk in
@@ -164,8 +159,8 @@ returns-in_err-now-clause-takes g c =
     let set : Result (List Element) StartFault = Ok c.in_ok-set.set in
     let along : IfSome told (λ image. TakesAlongPlan set (current_bytes o) image o n before after) =
     current_takes told o n found c.in_ok-sources.ensures.are c.in_ok-sources.ensures.readable set before now after first
-    (seen_before (g.D.Disk.image c.read_sources.new.disk) told c.read_sources.new.index.opening o c.len-2.result n (λ image p m. TakesAlongPlan set (plan_bytes p) image p m now after)
-    c.read_sources.ensures.disk.same_image same c.len-2.ensures.len c.in_ok-set.ensures.takes) in
+    (seen_before (g.D.Disk.image c.read_sources.new.disk) told c.len-2.result n (λ image m. TakesAlongPlan set (plan_bytes o) image o m now after)
+    c.read_sources.ensures.disk.same_image c.len-2.ensures.len c.in_ok-set.ensures.takes) in
     plan_handed told c.from_residual-in_err-now.result c.in_err-now.field-0.0 set (current_bytes o) o n before after c.from_residual-in_err-now.ensures along
 
 pub returns-clause-takes : goal.returns-clause-takes
@@ -174,7 +169,6 @@ returns-clause-takes g c =
     let found : List EventSource = c.in_ok-sources.sources.items in
     let told = g.D.Disk.image c.args.disk.now in
     let n : ℕ = length c.args.names.now in
-    let same : c.read_sources.new.index.opening ≡ o = ap (λ (x : IndexState). x.opening) c.read_sources.ensures.same in
     let before : ℕ = g.D.Disk.taken c.args.disk.now in
     let now : ℕ = g.D.Disk.taken c.read_sources.new.disk in
     let after : ℕ = g.D.Disk.taken c.last_set.new.disk in
@@ -183,8 +177,8 @@ returns-clause-takes g c =
     let set : Result (List Element) StartFault = Ok c.in_ok-set.set in
     let along : IfSome told (λ image. TakesAlongPlan set (current_bytes o) image o n before after) =
     current_takes told o n found c.in_ok-sources.ensures.are c.in_ok-sources.ensures.readable set before now after first
-    (seen_before (g.D.Disk.image c.read_sources.new.disk) told c.read_sources.new.index.opening o c.len-2.result n (λ image p m. TakesAlongPlan set (plan_bytes p) image p m now after)
-    c.read_sources.ensures.disk.same_image same c.len-2.ensures.len c.in_ok-set.ensures.takes) in
+    (seen_before (g.D.Disk.image c.read_sources.new.disk) told c.len-2.result n (λ image m. TakesAlongPlan set (plan_bytes o) image o m now after)
+    c.read_sources.ensures.disk.same_image c.len-2.ensures.len c.in_ok-set.ensures.takes) in
     along
 
 pub returns-clause-disk : goal.returns-clause-disk

@@ -1,6 +1,5 @@
 use Rattle.std.proofs.Common.{◌≡◌, List, Ok, length, subst, sym, ap, ◌∙◌}
 use Rattle.std.specs.List.{All}
-use Rattle.dg_file.specs.Index.{IndexState}
 use Rattle.dg_fold.specs.BytesRead.{Takes, TakesAtMost, asked_length, kept_in}
 use Rattle.dg_graph.specs.declared.element.Column.TheVariants.{NodeAttr, EdgeAttr, Transient}
 use Rattle.dg_graph.specs.declared.placed.Placed.{Placed}
@@ -31,8 +30,8 @@ returns-in_err-node_attrs-clause-takes g c image is =
     let d = g.D.Disk.taken c.read_column-2.new.disk in
     fails_with c.from_residual-in_err-node_attrs.result c.in_err-node_attrs.field-0.0 (asked_length (kept_in image o) all_columns c.args.source.key) a d c.from_residual-in_err-node_attrs.ensures
     (second_fails image o c.args.source.key a b d (c.in_ok-structure.ensures.takes image is)
-    (said_before (g.D.Disk.image c.read_column.new.disk) told c.read_column.new.index.opening o (λ image p. TakesAtMost (length (kept_in image p c.args.source.key NodeAttr)) b d)
-    c.read_column.ensures.disk.same_image (ap (λ (x : IndexState). x.opening) c.read_column.ensures.same) c.in_err-node_attrs.ensures.takes image is))
+    (said_before (g.D.Disk.image c.read_column.new.disk) told (λ image. TakesAtMost (length (kept_in image o c.args.source.key NodeAttr)) b d)
+    c.read_column.ensures.disk.same_image c.in_err-node_attrs.ensures.takes image is))
 
 pub returns-in_err-edge_attrs-clause-takes : goal.returns-in_err-edge_attrs-clause-takes
 returns-in_err-edge_attrs-clause-takes g c image is =
@@ -44,10 +43,10 @@ returns-in_err-edge_attrs-clause-takes g c image is =
     let e = g.D.Disk.taken c.read_column-3.new.disk in
     fails_with c.from_residual-in_err-edge_attrs.result c.in_err-edge_attrs.field-0.0 (asked_length (kept_in image o) all_columns c.args.source.key) a e c.from_residual-in_err-edge_attrs.ensures
     (third_fails image o c.args.source.key a b d e (c.in_ok-structure.ensures.takes image is)
-    (said_before (g.D.Disk.image c.read_column.new.disk) told c.read_column.new.index.opening o (λ image p. Takes (length (kept_in image p c.args.source.key NodeAttr)) b d)
-    c.read_column.ensures.disk.same_image (ap (λ (x : IndexState). x.opening) c.read_column.ensures.same) c.in_ok-node_attrs.ensures.takes image is)
-    (said_before (g.D.Disk.image c.read_column-2.new.disk) told c.read_column-2.new.index.opening o (λ image p. TakesAtMost (length (kept_in image p c.args.source.key EdgeAttr)) d e)
-    (c.read_column-2.ensures.disk.same_image ∙ c.read_column.ensures.disk.same_image) (ap (λ (x : IndexState). x.opening) (c.read_column-2.ensures.same ∙ c.read_column.ensures.same)) c.in_err-edge_attrs.ensures.takes image is))
+    (said_before (g.D.Disk.image c.read_column.new.disk) told (λ image. Takes (length (kept_in image o c.args.source.key NodeAttr)) b d)
+    c.read_column.ensures.disk.same_image c.in_ok-node_attrs.ensures.takes image is)
+    (said_before (g.D.Disk.image c.read_column-2.new.disk) told (λ image. TakesAtMost (length (kept_in image o c.args.source.key EdgeAttr)) d e)
+    (c.read_column-2.ensures.disk.same_image ∙ c.read_column.ensures.disk.same_image) c.in_err-edge_attrs.ensures.takes image is))
 
 pub returns-in_err-transient-clause-takes : goal.returns-in_err-transient-clause-takes
 returns-in_err-transient-clause-takes g c image is =
@@ -60,12 +59,12 @@ returns-in_err-transient-clause-takes g c image is =
     let f = g.D.Disk.taken c.read_column-4.new.disk in
     fails_with c.from_residual-in_err-transient.result c.in_err-transient.field-0.0 (asked_length (kept_in image o) all_columns c.args.source.key) a f c.from_residual-in_err-transient.ensures
     (fourth_fails image o c.args.source.key a b d e f (c.in_ok-structure.ensures.takes image is)
-    (said_before (g.D.Disk.image c.read_column.new.disk) told c.read_column.new.index.opening o (λ image p. Takes (length (kept_in image p c.args.source.key NodeAttr)) b d)
-    c.read_column.ensures.disk.same_image (ap (λ (x : IndexState). x.opening) c.read_column.ensures.same) c.in_ok-node_attrs.ensures.takes image is)
-    (said_before (g.D.Disk.image c.read_column-2.new.disk) told c.read_column-2.new.index.opening o (λ image p. Takes (length (kept_in image p c.args.source.key EdgeAttr)) d e)
-    (c.read_column-2.ensures.disk.same_image ∙ c.read_column.ensures.disk.same_image) (ap (λ (x : IndexState). x.opening) (c.read_column-2.ensures.same ∙ c.read_column.ensures.same)) c.in_ok-edge_attrs.ensures.takes image is)
-    (said_before (g.D.Disk.image c.read_column-3.new.disk) told c.read_column-3.new.index.opening o (λ image p. TakesAtMost (length (kept_in image p c.args.source.key Transient)) e f)
-    (c.read_column-3.ensures.disk.same_image ∙ c.read_column-2.ensures.disk.same_image ∙ c.read_column.ensures.disk.same_image) (ap (λ (x : IndexState). x.opening) (c.read_column-3.ensures.same ∙ c.read_column-2.ensures.same ∙ c.read_column.ensures.same)) c.in_err-transient.ensures.takes image is))
+    (said_before (g.D.Disk.image c.read_column.new.disk) told (λ image. Takes (length (kept_in image o c.args.source.key NodeAttr)) b d)
+    c.read_column.ensures.disk.same_image c.in_ok-node_attrs.ensures.takes image is)
+    (said_before (g.D.Disk.image c.read_column-2.new.disk) told (λ image. Takes (length (kept_in image o c.args.source.key EdgeAttr)) d e)
+    (c.read_column-2.ensures.disk.same_image ∙ c.read_column.ensures.disk.same_image) c.in_ok-edge_attrs.ensures.takes image is)
+    (said_before (g.D.Disk.image c.read_column-3.new.disk) told (λ image. TakesAtMost (length (kept_in image o c.args.source.key Transient)) e f)
+    (c.read_column-3.ensures.disk.same_image ∙ c.read_column-2.ensures.disk.same_image ∙ c.read_column.ensures.disk.same_image) c.in_err-transient.ensures.takes image is))
 
 pub returns-in-Ok-clause-takes : goal.returns-in-Ok-clause-takes
 returns-in-Ok-clause-takes g c image is =
@@ -77,12 +76,12 @@ returns-in-Ok-clause-takes g c image is =
     let e = g.D.Disk.taken c.read_column-3.new.disk in
     let f = g.D.Disk.taken c.read_column-4.new.disk in
     takes_record image o c.args.source.key a b d e f (c.in_ok-structure.ensures.takes image is)
-    (said_before (g.D.Disk.image c.read_column.new.disk) told c.read_column.new.index.opening o (λ image p. Takes (length (kept_in image p c.args.source.key NodeAttr)) b d)
-    c.read_column.ensures.disk.same_image (ap (λ (x : IndexState). x.opening) c.read_column.ensures.same) c.in_ok-node_attrs.ensures.takes image is)
-    (said_before (g.D.Disk.image c.read_column-2.new.disk) told c.read_column-2.new.index.opening o (λ image p. Takes (length (kept_in image p c.args.source.key EdgeAttr)) d e)
-    (c.read_column-2.ensures.disk.same_image ∙ c.read_column.ensures.disk.same_image) (ap (λ (x : IndexState). x.opening) (c.read_column-2.ensures.same ∙ c.read_column.ensures.same)) c.in_ok-edge_attrs.ensures.takes image is)
-    (said_before (g.D.Disk.image c.read_column-3.new.disk) told c.read_column-3.new.index.opening o (λ image p. Takes (length (kept_in image p c.args.source.key Transient)) e f)
-    (c.read_column-3.ensures.disk.same_image ∙ c.read_column-2.ensures.disk.same_image ∙ c.read_column.ensures.disk.same_image) (ap (λ (x : IndexState). x.opening) (c.read_column-3.ensures.same ∙ c.read_column-2.ensures.same ∙ c.read_column.ensures.same)) c.in_ok-transient.ensures.takes image is)
+    (said_before (g.D.Disk.image c.read_column.new.disk) told (λ image. Takes (length (kept_in image o c.args.source.key NodeAttr)) b d)
+    c.read_column.ensures.disk.same_image c.in_ok-node_attrs.ensures.takes image is)
+    (said_before (g.D.Disk.image c.read_column-2.new.disk) told (λ image. Takes (length (kept_in image o c.args.source.key EdgeAttr)) d e)
+    (c.read_column-2.ensures.disk.same_image ∙ c.read_column.ensures.disk.same_image) c.in_ok-edge_attrs.ensures.takes image is)
+    (said_before (g.D.Disk.image c.read_column-3.new.disk) told (λ image. Takes (length (kept_in image o c.args.source.key Transient)) e f)
+    (c.read_column-3.ensures.disk.same_image ∙ c.read_column-2.ensures.disk.same_image ∙ c.read_column.ensures.disk.same_image) c.in_ok-transient.ensures.takes image is)
 
 pub returns-in-Err-Positions-clause-takes : goal.returns-in-Err-Positions-clause-takes
 returns-in-Err-Positions-clause-takes g c image is =
@@ -95,12 +94,12 @@ returns-in-Err-Positions-clause-takes g c image is =
     let f = g.D.Disk.taken c.read_column-4.new.disk in
     takes_less (asked_length (kept_in image o) all_columns c.args.source.key) a f
     (takes_record image o c.args.source.key a b d e f (c.in_ok-structure.ensures.takes image is)
-    (said_before (g.D.Disk.image c.read_column.new.disk) told c.read_column.new.index.opening o (λ image p. Takes (length (kept_in image p c.args.source.key NodeAttr)) b d)
-    c.read_column.ensures.disk.same_image (ap (λ (x : IndexState). x.opening) c.read_column.ensures.same) c.in_ok-node_attrs.ensures.takes image is)
-    (said_before (g.D.Disk.image c.read_column-2.new.disk) told c.read_column-2.new.index.opening o (λ image p. Takes (length (kept_in image p c.args.source.key EdgeAttr)) d e)
-    (c.read_column-2.ensures.disk.same_image ∙ c.read_column.ensures.disk.same_image) (ap (λ (x : IndexState). x.opening) (c.read_column-2.ensures.same ∙ c.read_column.ensures.same)) c.in_ok-edge_attrs.ensures.takes image is)
-    (said_before (g.D.Disk.image c.read_column-3.new.disk) told c.read_column-3.new.index.opening o (λ image p. Takes (length (kept_in image p c.args.source.key Transient)) e f)
-    (c.read_column-3.ensures.disk.same_image ∙ c.read_column-2.ensures.disk.same_image ∙ c.read_column.ensures.disk.same_image) (ap (λ (x : IndexState). x.opening) (c.read_column-3.ensures.same ∙ c.read_column-2.ensures.same ∙ c.read_column.ensures.same)) c.in_ok-transient.ensures.takes image is))
+    (said_before (g.D.Disk.image c.read_column.new.disk) told (λ image. Takes (length (kept_in image o c.args.source.key NodeAttr)) b d)
+    c.read_column.ensures.disk.same_image c.in_ok-node_attrs.ensures.takes image is)
+    (said_before (g.D.Disk.image c.read_column-2.new.disk) told (λ image. Takes (length (kept_in image o c.args.source.key EdgeAttr)) d e)
+    (c.read_column-2.ensures.disk.same_image ∙ c.read_column.ensures.disk.same_image) c.in_ok-edge_attrs.ensures.takes image is)
+    (said_before (g.D.Disk.image c.read_column-3.new.disk) told (λ image. Takes (length (kept_in image o c.args.source.key Transient)) e f)
+    (c.read_column-3.ensures.disk.same_image ∙ c.read_column-2.ensures.disk.same_image ∙ c.read_column.ensures.disk.same_image) c.in_ok-transient.ensures.takes image is))
 
 pub returns-clause-takes : goal.returns-clause-takes
 returns-clause-takes g c image is =
@@ -113,12 +112,12 @@ returns-clause-takes g c image is =
     let f = g.D.Disk.taken c.read_column-4.new.disk in
     takes_less (asked_length (kept_in image o) all_columns c.args.source.key) a f
     (takes_record image o c.args.source.key a b d e f (c.in_ok-structure.ensures.takes image is)
-    (said_before (g.D.Disk.image c.read_column.new.disk) told c.read_column.new.index.opening o (λ image p. Takes (length (kept_in image p c.args.source.key NodeAttr)) b d)
-    c.read_column.ensures.disk.same_image (ap (λ (x : IndexState). x.opening) c.read_column.ensures.same) c.in_ok-node_attrs.ensures.takes image is)
-    (said_before (g.D.Disk.image c.read_column-2.new.disk) told c.read_column-2.new.index.opening o (λ image p. Takes (length (kept_in image p c.args.source.key EdgeAttr)) d e)
-    (c.read_column-2.ensures.disk.same_image ∙ c.read_column.ensures.disk.same_image) (ap (λ (x : IndexState). x.opening) (c.read_column-2.ensures.same ∙ c.read_column.ensures.same)) c.in_ok-edge_attrs.ensures.takes image is)
-    (said_before (g.D.Disk.image c.read_column-3.new.disk) told c.read_column-3.new.index.opening o (λ image p. Takes (length (kept_in image p c.args.source.key Transient)) e f)
-    (c.read_column-3.ensures.disk.same_image ∙ c.read_column-2.ensures.disk.same_image ∙ c.read_column.ensures.disk.same_image) (ap (λ (x : IndexState). x.opening) (c.read_column-3.ensures.same ∙ c.read_column-2.ensures.same ∙ c.read_column.ensures.same)) c.in_ok-transient.ensures.takes image is))
+    (said_before (g.D.Disk.image c.read_column.new.disk) told (λ image. Takes (length (kept_in image o c.args.source.key NodeAttr)) b d)
+    c.read_column.ensures.disk.same_image c.in_ok-node_attrs.ensures.takes image is)
+    (said_before (g.D.Disk.image c.read_column-2.new.disk) told (λ image. Takes (length (kept_in image o c.args.source.key EdgeAttr)) d e)
+    (c.read_column-2.ensures.disk.same_image ∙ c.read_column.ensures.disk.same_image) c.in_ok-edge_attrs.ensures.takes image is)
+    (said_before (g.D.Disk.image c.read_column-3.new.disk) told (λ image. Takes (length (kept_in image o c.args.source.key Transient)) e f)
+    (c.read_column-3.ensures.disk.same_image ∙ c.read_column-2.ensures.disk.same_image ∙ c.read_column.ensures.disk.same_image) c.in_ok-transient.ensures.takes image is))
 
 pub returns-in-Ok-clause-done : goal.returns-in-Ok-clause-done
 returns-in-Ok-clause-done g c =
@@ -141,13 +140,13 @@ returns-in-Ok-clause-done g c =
       read = λ image is.
           record_read image names o (source_of c.args.source) c.deref.result.now c.deref-2.result.now c.deref-3.result.now c.deref-4.result.now c.in-Ok.events.items
           (c.in_ok-structure.ensures.read image is ∙ ap (λ (ps : List Placed). Ok ps) (sym structure))
-          (said_before (g.D.Disk.image c.read_column.new.disk) told c.read_column.new.index.opening o (λ image p. placed_in_record image names p key NodeAttr ≡ Ok c.in_ok-node_attrs.node_attrs.items)
-          c.read_column.ensures.disk.same_image (ap (λ (x : IndexState). x.opening) c.read_column.ensures.same) c.in_ok-node_attrs.ensures.read image is ∙ ap (λ (ps : List Placed). Ok ps) (sym node_attrs))
-          (said_before (g.D.Disk.image c.read_column-2.new.disk) told c.read_column-2.new.index.opening o (λ image p. placed_in_record image names p key EdgeAttr ≡ Ok c.in_ok-edge_attrs.edge_attrs.items)
-          (c.read_column-2.ensures.disk.same_image ∙ c.read_column.ensures.disk.same_image) (ap (λ (x : IndexState). x.opening) (c.read_column-2.ensures.same ∙ c.read_column.ensures.same)) c.in_ok-edge_attrs.ensures.read image is
+          (said_before (g.D.Disk.image c.read_column.new.disk) told (λ image. placed_in_record image names o key NodeAttr ≡ Ok c.in_ok-node_attrs.node_attrs.items)
+          c.read_column.ensures.disk.same_image c.in_ok-node_attrs.ensures.read image is ∙ ap (λ (ps : List Placed). Ok ps) (sym node_attrs))
+          (said_before (g.D.Disk.image c.read_column-2.new.disk) told (λ image. placed_in_record image names o key EdgeAttr ≡ Ok c.in_ok-edge_attrs.edge_attrs.items)
+          (c.read_column-2.ensures.disk.same_image ∙ c.read_column.ensures.disk.same_image) c.in_ok-edge_attrs.ensures.read image is
           ∙ ap (λ (ps : List Placed). Ok ps) (sym edge_attrs))
-          (said_before (g.D.Disk.image c.read_column-3.new.disk) told c.read_column-3.new.index.opening o (λ image p. placed_in_record image names p key Transient ≡ Ok c.in_ok-transient.transient.items)
-          (c.read_column-3.ensures.disk.same_image ∙ c.read_column-2.ensures.disk.same_image ∙ c.read_column.ensures.disk.same_image) (ap (λ (x : IndexState). x.opening) (c.read_column-3.ensures.same ∙ c.read_column-2.ensures.same ∙ c.read_column.ensures.same)) c.in_ok-transient.ensures.read image is
+          (said_before (g.D.Disk.image c.read_column-3.new.disk) told (λ image. placed_in_record image names o key Transient ≡ Ok c.in_ok-transient.transient.items)
+          (c.read_column-3.ensures.disk.same_image ∙ c.read_column-2.ensures.disk.same_image ∙ c.read_column.ensures.disk.same_image) c.in_ok-transient.ensures.read image is
           ∙ ap (λ (ps : List Placed). Ok ps) (sym transient))
           c.in-Ok.ensures.ok;
       fit = spelled names c.in-Ok.events.items c.requires.names together.fit;

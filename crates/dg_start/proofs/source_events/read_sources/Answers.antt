@@ -1,10 +1,9 @@
-use Rattle.std.proofs.Common.{◌≡◌, ◌≤◌, ◌++◌, List, Ok, length, get_or, sym, ◌∙◌, ap, subst}
+use Rattle.std.proofs.Common.{◌≡◌, ◌≤◌, ◌++◌, List, Ok, length, get_or, sym, subst}
 use Rattle.std.specs.List.{All}
 use Rattle.std.proofs.lemmas.List.Elements.{All-append}
 use Rattle.dg_disk.proofs.FrameLemmas.{reads_then}
 use Rattle.dg_columns.specs.NamesInRange.{NamesFit}
 use Rattle.dg_file.specs.Images.{IsOpenedAs}
-use Rattle.dg_file.specs.Index.{IndexState}
 use Rattle.dg_fold.specs.BytesRead.{Takes, TakesAtMost, asked_length, kept_in}
 use Rattle.dg_graph.specs.declared.event.Event.{Event}
 use Rattle.dg_index.specs.OpenedIndex.{Opening}
@@ -24,10 +23,8 @@ use Rattle.dg_start.proofs.source_events.read_sources.Goals as goal
 
 pub read_record-requires-clause-image : goal.read_record-requires-clause-image
 read_record-requires-clause-image g c =
-    told_weaker (g.D.Disk.image c.args.disk.now) (g.D.Disk.image c.loop-source.disk) (λ image. IsOpenedAs image c.args.index.now.opening) (λ image. IsOpenedAs image c.loop-source.index.opening)
-    c.loop-source.invariant.frame.same_image
-    (λ image h. subst (λ (x : IndexState). IsOpenedAs image x.opening) (sym c.loop-source.invariant.same) h)
-    c.requires.image
+    told_weaker (g.D.Disk.image c.args.disk.now) (g.D.Disk.image c.loop-source.disk) (λ image. IsOpenedAs image c.args.index.now.opening) (λ image. IsOpenedAs image c.args.index.now.opening)
+    c.loop-source.invariant.frame.same_image (λ image h. h) c.requires.image
 
 pub returns-in_err-more-clause-refused : goal.returns-in_err-more-clause-refused
 returns-in_err-more-clause-refused g c =
@@ -39,8 +36,8 @@ returns-in_err-more-clause-refused g c =
     err_is c.from_residual.result (start_fault_of_record c.in_err-more.field-0.0) (λ (f : StartFault). WhereTold told (λ image. IsReason f (events_in_sources image c.args.names o all))) c.from_residual.ensures
     (source_refused told c.args.names o all c.loop-source.source-index (source_of item) next c.loop-source.events.items (g.D.Disk.taken c.args.disk.now) (g.D.Disk.taken c.loop-source.disk)
     (start_fault_of_record c.in_err-more.field-0.0) c.loop-source.invariant.so_far
-    (said_before (g.D.Disk.image c.loop-source.disk) told c.loop-source.index.opening o (λ image p. IsReason (start_fault_of_record c.in_err-more.field-0.0) (events_in_source image c.args.names p (source_of item)))
-    c.loop-source.invariant.frame.same_image (ap (λ (x : IndexState). x.opening) c.loop-source.invariant.same) c.in_err-more.ensures.refused))
+    (said_before (g.D.Disk.image c.loop-source.disk) told (λ image. IsReason (start_fault_of_record c.in_err-more.field-0.0) (events_in_source image c.args.names o (source_of item)))
+    c.loop-source.invariant.frame.same_image c.in_err-more.ensures.refused))
 
 pub loop-source-preserved : goal.loop-source-preserved
 loop-source-preserved g c =
@@ -49,21 +46,19 @@ loop-source-preserved g c =
     let item : EventSource = get_or c.args.sources.now c.loop-source.source-index no_source in
     let next : IsNextSource all c.loop-source.source-index (source_of item) = next_source c.args.sources.now c.loop-source.source-index no_source c.loop-source-test.true in
     let told = g.D.Disk.image c.args.disk.now in
-    let same_opening : c.loop-source.index.opening ≡ o = ap (λ (x : IndexState). x.opening) c.loop-source.invariant.same in
     let added : c.extend_from_slice.new.self.items ≡ c.loop-source.events.items ++ c.in_ok-more.more.items =
     added_so c.loop-source.events.items c.in_ok-more.more.items c.extend_from_slice.new.self.items c.deref.result.now c.in_ok-extend_from_slice.ensures.items c.deref.ensures.value in
     record {
-      same = c.read_record.ensures.same ∙ c.loop-source.invariant.same;
       frame = reads_then c.loop-source.invariant.frame c.read_record.ensures.disk;
       so_far =
           source_read told c.args.names o all c.loop-source.source-index (source_of item) next c.loop-source.events.items c.in_ok-more.more.items c.extend_from_slice.new.self.items
           (g.D.Disk.taken c.args.disk.now) (g.D.Disk.taken c.loop-source.disk) (g.D.Disk.taken c.read_record.new.disk) c.loop-source.invariant.so_far
-          (said_before (g.D.Disk.image c.loop-source.disk) told c.loop-source.index.opening o (λ image p. events_in_source image c.args.names p (source_of item) ≡ Ok c.in_ok-more.more.items)
-          c.loop-source.invariant.frame.same_image same_opening c.in_ok-more.ensures.done.read)
+          (said_before (g.D.Disk.image c.loop-source.disk) told (λ image. events_in_source image c.args.names o (source_of item) ≡ Ok c.in_ok-more.more.items)
+          c.loop-source.invariant.frame.same_image c.in_ok-more.ensures.done.read)
           c.in_ok-more.ensures.done.many c.in_ok-more.ensures.done.rises
-          (said_before (g.D.Disk.image c.loop-source.disk) told c.loop-source.index.opening o
-          (λ image p. Takes (asked_length (kept_in image p) all_columns item.key) (g.D.Disk.taken c.loop-source.disk) (g.D.Disk.taken c.read_record.new.disk))
-          c.loop-source.invariant.frame.same_image same_opening c.in_ok-more.ensures.takes)
+          (said_before (g.D.Disk.image c.loop-source.disk) told
+          (λ image. Takes (asked_length (kept_in image o) all_columns item.key) (g.D.Disk.taken c.loop-source.disk) (g.D.Disk.taken c.read_record.new.disk))
+          c.loop-source.invariant.frame.same_image c.in_ok-more.ensures.takes)
           added;
       fit = subst (λ (es : List Event). All (λ (e : Event). NamesFit e.body) es) (sym added)
           (All-append (λ (e : Event). NamesFit e.body) c.loop-source.events.items c.in_ok-more.more.items c.loop-source.invariant.fit c.in_ok-more.ensures.done.fit);
@@ -82,8 +77,8 @@ returns-in_err-more-clause-takes g c =
     let after = g.D.Disk.taken c.read_record.new.disk in
     next_fails told c.args.names o all c.loop-source.source-index (source_of item) next c.from_residual.result (start_fault_of_record c.in_err-more.field-0.0) c.loop-source.events.items
     (g.D.Disk.taken c.args.disk.now) now after c.from_residual.ensures c.loop-source.invariant.so_far
-    (said_before (g.D.Disk.image c.loop-source.disk) told c.loop-source.index.opening o (λ image p. TakesAtMost (asked_length (kept_in image p) all_columns item.key) now after)
-    c.loop-source.invariant.frame.same_image (ap (λ (x : IndexState). x.opening) c.loop-source.invariant.same) c.in_err-more.ensures.takes)
+    (said_before (g.D.Disk.image c.loop-source.disk) told (λ image. TakesAtMost (asked_length (kept_in image o) all_columns item.key) now after)
+    c.loop-source.invariant.frame.same_image c.in_err-more.ensures.takes)
 
 pub returns-in_err-extend_from_slice-clause-takes : goal.returns-in_err-extend_from_slice-clause-takes
 returns-in_err-extend_from_slice-clause-takes g c =
@@ -96,9 +91,9 @@ returns-in_err-extend_from_slice-clause-takes g c =
     let after = g.D.Disk.taken c.read_record.new.disk in
     next_fails told c.args.names o all c.loop-source.source-index (source_of item) next c.from_residual-in_err-extend_from_slice.result fault.Memory c.loop-source.events.items
     (g.D.Disk.taken c.args.disk.now) now after c.from_residual-in_err-extend_from_slice.ensures c.loop-source.invariant.so_far
-    (said_before (g.D.Disk.image c.loop-source.disk) told c.loop-source.index.opening o (λ image p. TakesAtMost (asked_length (kept_in image p) all_columns item.key) now after)
-    c.loop-source.invariant.frame.same_image (ap (λ (x : IndexState). x.opening) c.loop-source.invariant.same)
-    (λ image is. takes_less (asked_length (kept_in image c.loop-source.index.opening) all_columns item.key) now after (c.in_ok-more.ensures.takes image is)))
+    (said_before (g.D.Disk.image c.loop-source.disk) told (λ image. TakesAtMost (asked_length (kept_in image o) all_columns item.key) now after)
+    c.loop-source.invariant.frame.same_image
+    (λ image is. takes_less (asked_length (kept_in image o) all_columns item.key) now after (c.in_ok-more.ensures.takes image is)))
 
 pub returns-clause-done : goal.returns-clause-done
 returns-clause-done g c =

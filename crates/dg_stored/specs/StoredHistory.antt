@@ -1,5 +1,5 @@
 -- A history that is kept beside its index: the names, the current graph and the recent events.
-use Rattle.std.specs.Prelude.{◌≡◌, ℕ, ◌-◌, ◌*◌, ◌≤◌, true, List, [], Option, Some, None, Result, Ok, length}
+use Rattle.std.specs.Prelude.{◌≡◌, ℕ, ◌-◌, ◌*◌, ◌≤◌, true, List, [], Option, Some, None, Ok, length}
 use Rattle.std.specs.List.{All}
 use Rattle.std.specs.Option.{option_map}
 use Rattle.dg_columns.specs.NamesInRange.{NamesFit}
@@ -10,24 +10,17 @@ use Rattle.dg_graph.specs.Replay.{replay}
 use Rattle.dg_history.specs.EventTimes.{RisesFrom}
 use Rattle.dg_history.specs.History.{History, events_of, last_time_from, names_of}
 use Rattle.dg_index.specs.Hierarchy.{leaves}
-use Rattle.dg_index.specs.ImageOfHistory.{StandsAs, is_blank}
+use Rattle.dg_index.specs.ImageOfHistory.{is_blank}
 use Rattle.dg_index.specs.IndexGrowth.{name_total}
 use Rattle.dg_index.specs.IndexRecords.{recent_of}
 use Rattle.dg_index.specs.OpenedIndex.{Opening, earliest_in, event_total, first_in, last_list, opened_of, opening}
 use Rattle.dg_current.specs.Now.{NowState}
 use Rattle.dg_retrieval.specs.NamesThere.{EventNamesAreThere, NamesAreThere}
 use Rattle.dg_retrieval.specs.ValueRange.{ValuesFit}
-use Rattle.dg_start.specs.declared.fault.StartFault.{StartFault}
-use Rattle.dg_start.specs.SessionStart.{Started, Starts}
 
 -- what the image of an index is opened as, where there is an index
 abbrev pub index_opening : Option IndexState → Option Opening
 index_opening index = option_map (λ (i : IndexState). i.opening) index
-
--- what a start comes to, as the parts that are kept
-abbrev pub started_with : Option Opening → List (List ℕ) → List Element → List Event → Option Started
-started_with None names graph recent = None
-started_with (Some o) names graph recent = Some (record { opened = record { index = o; names = names }; graph = graph; recent = recent })
 
 -- ---- what holds over any image
 
@@ -83,10 +76,3 @@ KeepsHistory (Some z) index names graph recent = IsKeptOf z index names graph re
 abbrev pub IsHeldBy : Option Opening → List (List ℕ) → List ℕ → Type 0
 IsHeldBy None names image = is_blank image ≡ true
 IsHeldBy (Some o) names image = opening image ≡ Ok (record { index = o; names = names })
-
--- an image that stands for a history, or for none, starts as that history
-abbrev pub StartsAsItStands : Type 0
-StartsAsItStands =
-    (z : Option History) (image : List ℕ) → StandsAs z image → (due : Result (Option Started) StartFault) → Starts image due
-    → (index : Option Opening) × (names : List (List ℕ)) × (graph : List Element) × (recent : List Event)
-    × (due ≡ Ok (started_with index names graph recent)) × KeepsHistory z index names graph recent
