@@ -1,5 +1,5 @@
 -- How many bytes are read, one record after another.
-use Rattle.std.proofs.Common.{◌≡◌, ℕ, ◌+◌, ◌-◌, ◌*◌, ◌/◌, ◌^◌, ◌<◌, ◌≤◌, Bool, true, false, cond, List, [], ◌∷◌, ◌++◌, Option, Some, Result, Ok, Err, drop, filter, get_or, length, map, take, sym, ◌∙◌, ap, subst, arith}
+use Rattle.std.proofs.Common.{◌≡◌, ℕ, ◌+◌, ◌-◌, ◌*◌, ◌/◌, ◌^◌, ◌<◌, ◌≤◌, Bool, true, false, cond, List, [], ◌∷◌, ◌++◌, Option, Result, Ok, Err, drop, filter, get_or, length, map, take, sym, ◌∙◌, ap, subst, arith}
 use Rattle.std.specs.Prelude.{IfSome, is_some}
 use Rattle.std.specs.List.{flat_map}
 use Rattle.std.specs.Map.{lookup}
@@ -37,11 +37,10 @@ use Rattle.dg_verify.proofs.DeltaKeys.{downs_are, tops_are}
 pub read_both : (m n a b c : ℕ) → TakesAtMost m a b → TakesAtMost n b c → TakesAtMost (m + n) a c
 read_both m n a b c f g = omega (arith, f, g)
 
--- the same of a disk that tells its image, where index and image are as they were
-pub told_then : (told mid : Option (List ℕ)) (p o : Opening) (f : Opening → ℕ) (m a b c : ℕ) → mid ≡ told → p ≡ o → WhereTold told (λ image. TakesAtMost m a b) → WhereTold mid (λ image. TakesAtMost (f p) b c)
-    → WhereTold told (λ image. TakesAtMost (m + f o) a c)
-told_then told mid p o f m a b c same_image same first then image h =
-    read_both m (f o) a b c (first image h) (said_before mid told p o (λ image p. TakesAtMost (f p) b c) same_image same then image h)
+-- the same of a disk that tells its image, which is as it was
+pub told_then : (told mid : Option (List ℕ)) (n m a b c : ℕ) → mid ≡ told → WhereTold told (λ image. TakesAtMost m a b) → WhereTold mid (λ image. TakesAtMost n b c)
+    → WhereTold told (λ image. TakesAtMost (m + n) a c)
+told_then told mid n m a b c same_image first then image h = read_both m n a b c (first image h) (said_before mid told (λ image. TakesAtMost n b c) same_image then image h)
 
 pub told_part : (told : Option (List ℕ)) (m n a b : ℕ) → m ≤ n → WhereTold told (λ image. TakesAtMost m a b) → WhereTold told (λ image. TakesAtMost n a b)
 told_part told m n a b le reads image h = takes_part m n a b le (reads image h)

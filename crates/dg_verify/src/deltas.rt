@@ -40,22 +40,21 @@ fn has_kind(kind: DeltaKind, key: Key) -> bool
 
 // Compares the columns of the record with these, where it is such a delta.
 fn compare_delta<D: Disk>(
-    index: &mut Index,
+    index: &Index,
     disk: &mut D,
     kind: DeltaKind,
     key: Key,
     due: PerColumn<&[u8]>,
 ) -> Result<(), Stop>
-    requires image { IfSome (D.image disk.old) (λ image. IsOpenedAs image index.old.opening) }
+    requires image { IfSome (D.image disk.old) (λ image. IsOpenedAs image index.now.opening) }
     ensures alike { OnOk result (WhereTold (D.image disk.old)
-        (λ image. unlike_of image index.old.opening kind key (lent due.entry) ≡ None)) }
+        (λ image. unlike_of image index.now.opening kind key (lent due.entry) ≡ None)) }
     ensures stopped { IfErr result (λ stop. WhereTold (D.image disk.old)
-        (λ image. IsWrong stop (keyed_column key (unlike_of image index.old.opening kind key (lent due.entry))))) }
+        (λ image. IsWrong stop (keyed_column key (unlike_of image index.now.opening kind key (lent due.entry))))) }
     ensures cause { IsErrOf result Stop.Disk → Fails D.Disk disk.old disk.new }
 
     // what it reads, and what it leaves
-    ensures takes { WhereTold (D.image disk.old) (λ image. TakesAtMost (if has_kind kind key then total (entry_at index.old.opening key).lengths else 0) (D.taken disk.old) (D.taken disk.new)) }
-    ensures same { index.new ≡ index.old }
+    ensures takes { WhereTold (D.image disk.old) (λ image. TakesAtMost (if has_kind kind key then total (entry_at index.now.opening key).lengths else 0) (D.taken disk.old) (D.taken disk.new)) }
     ensures disk { ReadsDisk D.Disk disk.old disk.new }
 {
     if has_kind(kind, key) {
@@ -68,22 +67,21 @@ fn compare_delta<D: Disk>(
 /// Compares the deltas of this kind with those that are due, in the order of their keys. `Stop::Wrong` for the first
 /// that is another, and its first such column; `Stop::Disk` where the disk failed, `Stop::Memory` for want of memory.
 pub fn compare_deltas<D: Disk>(
-    index: &mut Index,
+    index: &Index,
     disk: &mut D,
     due: &DueDeltas,
     kind: DeltaKind,
 ) -> Result<(), Stop>
     requires many { length due.now.keys.items ≡ length due.now.segment.deltas }
-    requires image { IfSome (D.image disk.old) (λ image. IsOpenedAs image index.old.opening) }
+    requires image { IfSome (D.image disk.old) (λ image. IsOpenedAs image index.now.opening) }
     ensures alike { OnOk result (WhereTold (D.image disk.old)
-        (λ image. first_unlike image index.old.opening kind due.now.keys.items due.now.segment.deltas ≡ None)) }
+        (λ image. first_unlike image index.now.opening kind due.now.keys.items due.now.segment.deltas ≡ None)) }
     ensures stopped { IfErr result (λ stop. WhereTold (D.image disk.old)
-        (λ image. IsWrong stop (first_unlike image index.old.opening kind due.now.keys.items due.now.segment.deltas))) }
+        (λ image. IsWrong stop (first_unlike image index.now.opening kind due.now.keys.items due.now.segment.deltas))) }
     ensures cause { IsErrOf result Stop.Disk → Fails D.Disk disk.old disk.new }
 
     // what it reads, and what it leaves
-    ensures takes { WhereTold (D.image disk.old) (λ image. TakesAtMost (columns_bytes index.old.opening (filter (has_kind kind) due.now.keys.items)) (D.taken disk.old) (D.taken disk.new)) }
-    ensures same { index.new ≡ index.old }
+    ensures takes { WhereTold (D.image disk.old) (λ image. TakesAtMost (columns_bytes index.now.opening (filter (has_kind kind) due.now.keys.items)) (D.taken disk.old) (D.taken disk.new)) }
     ensures disk { ReadsDisk D.Disk disk.old disk.new }
 {
     due.segment.facts();

@@ -40,30 +40,29 @@ fn have_ends(index: &Index, number: u32, events: &[Event]) -> bool
 // Reads the list of this number behind the events that were read.
 fn add_list<D: Disk>(
     alloc: Global,
-    index: &mut Index,
+    index: &Index,
     disk: &mut D,
     names: &Names,
     own: &mut OwnEvents,
     number: u32,
 ) -> Result<(), Stop>
-    requires closed { number < list_total index.old.opening }
-    requires image { IfSome (D.image disk.old) (λ image. opening image ≡ Ok (opened_with index.old.opening names.now)) }
+    requires closed { number < list_total index.now.opening }
+    requires image { IfSome (D.image disk.old) (λ image. opening image ≡ Ok (opened_with index.now.opening names.now)) }
     requires read { IsRead own.old }
 
     // the events
     ensures listed { OnOk result (WhereTold (D.image disk.old)
-        (λ image. tested names.now own.old (with_list image (opened_with index.old.opening names.now) own.old.events.items number) ≡ tested names.now own.new (Ok own.new.events.items))) }
+        (λ image. tested names.now own.old (with_list image (opened_with index.now.opening names.now) own.old.events.items number) ≡ tested names.now own.new (Ok own.new.events.items))) }
     ensures read { OnOk result (IsRead own.new) }
-    ensures many { OnOk result (length own.new.events.items ≡ length own.old.events.items + index.old.opening.params.l) }
+    ensures many { OnOk result (length own.new.events.items ≡ length own.old.events.items + index.now.opening.params.l) }
 
     // why there are none
     ensures stopped { IfErr result (λ stop. WhereTold (D.image disk.old)
-        (λ image. IsStopBehind names.now own.new stop (tested names.now own.old (with_list image (opened_with index.old.opening names.now) own.old.events.items number)))) }
+        (λ image. IsStopBehind names.now own.new stop (tested names.now own.old (with_list image (opened_with index.now.opening names.now) own.old.events.items number)))) }
     ensures cause { IsErrOf result Stop.Disk → Fails D.Disk disk.old disk.new }
 
     // what it reads, and what it leaves
-    ensures takes { WhereTold (D.image disk.old) (λ image. TakesAtMost (total (entry_at index.old.opening (key.List number)).lengths) (D.taken disk.old) (D.taken disk.new)) }
-    ensures same { index.new ≡ index.old }
+    ensures takes { WhereTold (D.image disk.old) (λ image. TakesAtMost (total (entry_at index.now.opening (key.List number)).lengths) (D.taken disk.old) (D.taken disk.new)) }
     ensures disk { ReadsDisk D.Disk disk.old disk.new }
 {
     index.facts();
@@ -85,29 +84,28 @@ fn add_list<D: Disk>(
 /// memory.
 pub fn add_lists<D: Disk>(
     alloc: Global,
-    index: &mut Index,
+    index: &Index,
     disk: &mut D,
     names: &Names,
     own: &mut OwnEvents,
 ) -> Result<(), Stop>
     requires none { own.old.events.items ≡ [] }
-    requires image { IfSome (D.image disk.old) (λ image. opening image ≡ Ok (opened_with index.old.opening names.now)) }
+    requires image { IfSome (D.image disk.old) (λ image. opening image ≡ Ok (opened_with index.now.opening names.now)) }
     requires read { IsRead own.old }
 
     // the events
     ensures listed { OnOk result (WhereTold (D.image disk.old)
-        (λ image. listed_events image (opened_with index.old.opening names.now) ≡ tested names.now own.new (Ok own.new.events.items))) }
+        (λ image. listed_events image (opened_with index.now.opening names.now) ≡ tested names.now own.new (Ok own.new.events.items))) }
     ensures read { OnOk result (IsRead own.new) }
-    ensures many { OnOk result (length own.new.events.items ≡ list_total index.old.opening * index.old.opening.params.l) }
+    ensures many { OnOk result (length own.new.events.items ≡ list_total index.now.opening * index.now.opening.params.l) }
 
     // why there are none
     ensures stopped { IfErr result (λ stop. WhereTold (D.image disk.old)
-        (λ image. IsStopBehind names.now own.new stop (listed_events image (opened_with index.old.opening names.now)))) }
+        (λ image. IsStopBehind names.now own.new stop (listed_events image (opened_with index.now.opening names.now)))) }
     ensures cause { IsErrOf result Stop.Disk → Fails D.Disk disk.old disk.new }
 
     // what it reads, and what it leaves
-    ensures takes { WhereTold (D.image disk.old) (λ image. TakesAtMost (columns_bytes index.old.opening (lists_due index.old.opening.params 0 (event_total index.old.opening.batches))) (D.taken disk.old) (D.taken disk.new)) }
-    ensures same { index.new ≡ index.old }
+    ensures takes { WhereTold (D.image disk.old) (λ image. TakesAtMost (columns_bytes index.now.opening (lists_due index.now.opening.params 0 (event_total index.now.opening.batches))) (D.taken disk.old) (D.taken disk.new)) }
     ensures disk { ReadsDisk D.Disk disk.old disk.new }
 {
     index.facts();

@@ -80,25 +80,24 @@ fn is_recent(index: &Index, before: u64, batch: BatchEntry) -> bool
 // Compares the piece of an older batch with the batch's events among those that were read.
 fn compare_older<D: Disk>(
     alloc: Global,
-    index: &mut Index,
+    index: &Index,
     disk: &mut D,
     events: &[Event],
     number: u32,
     before: u64,
     batch: BatchEntry,
 ) -> Result<(), Stop>
-    requires few { before + batch.events ≤ event_total index.old.opening.batches }
-    requires image { IfSome (D.image disk.old) (λ image. IsOpenedAs image index.old.opening) }
+    requires few { before + batch.events ≤ event_total index.now.opening.batches }
+    requires image { IfSome (D.image disk.old) (λ image. IsOpenedAs image index.now.opening) }
     requires fit { All (λ (e : Event). NamesFit e.body) events.now }
     ensures alike { OnOk result (WhereTold (D.image disk.old)
-        (λ image. with_older image (opened_with index.old.opening []) events.now number before batch ≡ Ok events.now)) }
+        (λ image. with_older image (opened_with index.now.opening []) events.now number before batch ≡ Ok events.now)) }
     ensures stopped { IfErr result (λ stop. WhereTold (D.image disk.old)
-        (λ image. IsStop stop (with_older image (opened_with index.old.opening []) events.now number before batch))) }
+        (λ image. IsStop stop (with_older image (opened_with index.now.opening []) events.now number before batch))) }
     ensures cause { IsErrOf result Stop.Disk → Fails D.Disk disk.old disk.new }
 
     // what it reads, and what it leaves
-    ensures takes { WhereTold (D.image disk.old) (λ image. TakesAtMost (total (entry_at index.old.opening (key.Piece number)).lengths) (D.taken disk.old) (D.taken disk.new)) }
-    ensures same { index.new ≡ index.old }
+    ensures takes { WhereTold (D.image disk.old) (λ image. TakesAtMost (total (entry_at index.now.opening (key.Piece number)).lengths) (D.taken disk.old) (D.taken disk.new)) }
     ensures disk { ReadsDisk D.Disk disk.old disk.new }
 {
     let key = Key::Piece(number);
@@ -123,7 +122,7 @@ fn compare_older<D: Disk>(
 // Reads the piece of a recent batch behind the events that were read.
 fn add_recent<D: Disk>(
     alloc: Global,
-    index: &mut Index,
+    index: &Index,
     disk: &mut D,
     names: &Names,
     own: &mut OwnEvents,
@@ -131,21 +130,20 @@ fn add_recent<D: Disk>(
     before: u64,
     batch: BatchEntry,
 ) -> Result<(), Stop>
-    requires there { slice_get index.old.opening.batches number ≡ Some batch }
-    requires few { before + batch.events ≤ event_total index.old.opening.batches }
-    requires image { IfSome (D.image disk.old) (λ image. opening image ≡ Ok (opened_with index.old.opening names.now)) }
+    requires there { slice_get index.now.opening.batches number ≡ Some batch }
+    requires few { before + batch.events ≤ event_total index.now.opening.batches }
+    requires image { IfSome (D.image disk.old) (λ image. opening image ≡ Ok (opened_with index.now.opening names.now)) }
     requires read { IsRead own.old }
     ensures pieced { OnOk result (WhereTold (D.image disk.old)
-        (λ image. tested names.now own.old (with_recent image (opened_with index.old.opening names.now) own.old.events.items number before batch) ≡ tested names.now own.new (Ok own.new.events.items))) }
+        (λ image. tested names.now own.old (with_recent image (opened_with index.now.opening names.now) own.old.events.items number before batch) ≡ tested names.now own.new (Ok own.new.events.items))) }
     ensures read { OnOk result (IsRead own.new) }
-    ensures many { OnOk result (length own.new.events.items ≡ length own.old.events.items + piece_length index.old.opening before batch) }
+    ensures many { OnOk result (length own.new.events.items ≡ length own.old.events.items + piece_length index.now.opening before batch) }
     ensures stopped { IfErr result (λ stop. WhereTold (D.image disk.old)
-        (λ image. IsStopBehind names.now own.new stop (tested names.now own.old (with_recent image (opened_with index.old.opening names.now) own.old.events.items number before batch)))) }
+        (λ image. IsStopBehind names.now own.new stop (tested names.now own.old (with_recent image (opened_with index.now.opening names.now) own.old.events.items number before batch)))) }
     ensures cause { IsErrOf result Stop.Disk → Fails D.Disk disk.old disk.new }
 
     // what it reads, and what it leaves
-    ensures takes { WhereTold (D.image disk.old) (λ image. TakesAtMost (total (entry_at index.old.opening (key.Piece number)).lengths) (D.taken disk.old) (D.taken disk.new)) }
-    ensures same { index.new ≡ index.old }
+    ensures takes { WhereTold (D.image disk.old) (λ image. TakesAtMost (total (entry_at index.now.opening (key.Piece number)).lengths) (D.taken disk.old) (D.taken disk.new)) }
     ensures disk { ReadsDisk D.Disk disk.old disk.new }
 {
     index.facts();
@@ -162,7 +160,7 @@ fn add_recent<D: Disk>(
 // Reads the piece of the batch, or compares it, as the batch is recent or older.
 fn add_piece<D: Disk>(
     alloc: Global,
-    index: &mut Index,
+    index: &Index,
     disk: &mut D,
     names: &Names,
     own: &mut OwnEvents,
@@ -170,22 +168,21 @@ fn add_piece<D: Disk>(
     before: u64,
     batch: BatchEntry,
 ) -> Result<(), Stop>
-    requires there { slice_get index.old.opening.batches number ≡ Some batch }
-    requires few { before + batch.events ≤ event_total index.old.opening.batches }
-    requires image { IfSome (D.image disk.old) (λ image. opening image ≡ Ok (opened_with index.old.opening names.now)) }
+    requires there { slice_get index.now.opening.batches number ≡ Some batch }
+    requires few { before + batch.events ≤ event_total index.now.opening.batches }
+    requires image { IfSome (D.image disk.old) (λ image. opening image ≡ Ok (opened_with index.now.opening names.now)) }
     requires read { IsRead own.old }
-    requires so_far { AreSoFar index.old.opening before own.old.events.items }
+    requires so_far { AreSoFar index.now.opening before own.old.events.items }
     ensures pieced { OnOk result (WhereTold (D.image disk.old)
-        (λ image. tested names.now own.old (with_piece_events image (opened_with index.old.opening names.now) own.old.events.items number before batch) ≡ tested names.now own.new (Ok own.new.events.items))) }
+        (λ image. tested names.now own.old (with_piece_events image (opened_with index.now.opening names.now) own.old.events.items number before batch) ≡ tested names.now own.new (Ok own.new.events.items))) }
     ensures read { OnOk result (IsRead own.new) }
-    ensures so_far { OnOk result (AreSoFar index.old.opening (before + batch.events) own.new.events.items) }
+    ensures so_far { OnOk result (AreSoFar index.now.opening (before + batch.events) own.new.events.items) }
     ensures stopped { IfErr result (λ stop. WhereTold (D.image disk.old)
-        (λ image. IsStopBehind names.now own.new stop (tested names.now own.old (with_piece_events image (opened_with index.old.opening names.now) own.old.events.items number before batch)))) }
+        (λ image. IsStopBehind names.now own.new stop (tested names.now own.old (with_piece_events image (opened_with index.now.opening names.now) own.old.events.items number before batch)))) }
     ensures cause { IsErrOf result Stop.Disk → Fails D.Disk disk.old disk.new }
 
     // what it reads, and what it leaves
-    ensures takes { WhereTold (D.image disk.old) (λ image. TakesAtMost (total (entry_at index.old.opening (key.Piece number)).lengths) (D.taken disk.old) (D.taken disk.new)) }
-    ensures same { index.new ≡ index.old }
+    ensures takes { WhereTold (D.image disk.old) (λ image. TakesAtMost (total (entry_at index.now.opening (key.Piece number)).lengths) (D.taken disk.old) (D.taken disk.new)) }
     ensures disk { ReadsDisk D.Disk disk.old disk.new }
 {
     index.facts();
@@ -204,29 +201,28 @@ fn add_piece<D: Disk>(
 /// `Stop::Disk` where the disk failed, `Stop::Memory` for want of memory.
 pub fn add_pieces<D: Disk>(
     alloc: Global,
-    index: &mut Index,
+    index: &Index,
     disk: &mut D,
     names: &Names,
     own: &mut OwnEvents,
 ) -> Result<(), Stop>
-    requires image { IfSome (D.image disk.old) (λ image. opening image ≡ Ok (opened_with index.old.opening names.now)) }
+    requires image { IfSome (D.image disk.old) (λ image. opening image ≡ Ok (opened_with index.now.opening names.now)) }
     requires read { IsRead own.old }
-    requires so_far { AreSoFar index.old.opening 0 own.old.events.items }
+    requires so_far { AreSoFar index.now.opening 0 own.old.events.items }
 
     // the events
     ensures pieced { OnOk result (WhereTold (D.image disk.old)
-        (λ image. tested names.now own.old (with_pieces image (opened_with index.old.opening names.now) own.old.events.items 0 0 index.old.opening.batches) ≡ tested names.now own.new (Ok own.new.events.items))) }
+        (λ image. tested names.now own.old (with_pieces image (opened_with index.now.opening names.now) own.old.events.items 0 0 index.now.opening.batches) ≡ tested names.now own.new (Ok own.new.events.items))) }
     ensures read { OnOk result (IsRead own.new) }
-    ensures many { OnOk result (length own.new.events.items ≡ event_total index.old.opening.batches) }
+    ensures many { OnOk result (length own.new.events.items ≡ event_total index.now.opening.batches) }
 
     // why there are none
     ensures stopped { IfErr result (λ stop. WhereTold (D.image disk.old)
-        (λ image. IsStopBehind names.now own.new stop (tested names.now own.old (with_pieces image (opened_with index.old.opening names.now) own.old.events.items 0 0 index.old.opening.batches)))) }
+        (λ image. IsStopBehind names.now own.new stop (tested names.now own.old (with_pieces image (opened_with index.now.opening names.now) own.old.events.items 0 0 index.now.opening.batches)))) }
     ensures cause { IsErrOf result Stop.Disk → Fails D.Disk disk.old disk.new }
 
     // what it reads, and what it leaves
-    ensures takes { WhereTold (D.image disk.old) (λ image. TakesAtMost (columns_bytes index.old.opening (piece_keys index.old.opening)) (D.taken disk.old) (D.taken disk.new)) }
-    ensures same { index.new ≡ index.old }
+    ensures takes { WhereTold (D.image disk.old) (λ image. TakesAtMost (columns_bytes index.now.opening (piece_keys index.now.opening)) (D.taken disk.old) (D.taken disk.new)) }
     ensures disk { ReadsDisk D.Disk disk.old disk.new }
 {
     index.facts();

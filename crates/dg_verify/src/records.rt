@@ -32,26 +32,25 @@ use std::alloc::Global;
 /// together to as many events; `Stop::Disk` where the disk failed, `Stop::Memory` for want of memory.
 pub fn read_events<D: Disk>(
     alloc: Global,
-    index: &mut Index,
+    index: &Index,
     disk: &mut D,
     names: &Names,
     key: Key,
     count: u64,
 ) -> Result<Vec<Event>, Stop>
-    requires held { is_some (lookup (same_key key) index.old.opening.records) ≡ true }
+    requires held { is_some (lookup (same_key key) index.now.opening.records) ≡ true }
     requires few { count < 2 ^ 32 }
-    requires image { IfSome (D.image disk.old) (λ image. opening image ≡ Ok (opened_with index.old.opening names.now)) }
+    requires image { IfSome (D.image disk.old) (λ image. opening image ≡ Ok (opened_with index.now.opening names.now)) }
     ensures read { IfOk result (λ events. WhereTold (D.image disk.old)
-        (λ image. events_of_record image (opened_with index.old.opening names.now) key count ≡ Ok events.items)) }
+        (λ image. events_of_record image (opened_with index.now.opening names.now) key count ≡ Ok events.items)) }
     ensures fit { IfOk result (λ events. All (λ (e : Event). NamesFit e.body) events.items) }
     ensures many { IfOk result (λ events. length events.items ≡ count) }
     ensures stopped { IfErr result (λ stop. WhereTold (D.image disk.old)
-        (λ image. IsStop stop (keyed key (events_of_record image (opened_with index.old.opening names.now) key count)))) }
+        (λ image. IsStop stop (keyed key (events_of_record image (opened_with index.now.opening names.now) key count)))) }
     ensures cause { IsErrOf result Stop.Disk → Fails D.Disk disk.old disk.new }
 
     // what it reads, and what it leaves
-    ensures takes { WhereTold (D.image disk.old) (λ image. TakesAtMost (total (entry_at index.old.opening key).lengths) (D.taken disk.old) (D.taken disk.new)) }
-    ensures same { index.new ≡ index.old }
+    ensures takes { WhereTold (D.image disk.old) (λ image. TakesAtMost (total (entry_at index.now.opening key).lengths) (D.taken disk.old) (D.taken disk.new)) }
     ensures disk { ReadsDisk D.Disk disk.old disk.new }
 {
     // The bounds of the times are for the recent events alone.
@@ -62,20 +61,19 @@ pub fn read_events<D: Disk>(
 
 // Whether the record has this column. A record that the index does not keep has no byte.
 fn is_column<D: Disk>(
-    index: &mut Index,
+    index: &Index,
     disk: &mut D,
     key: Key,
     col: Column,
     due: &[u8],
 ) -> Result<bool, FetchFault>
-    requires image { IfSome (D.image disk.old) (λ image. IsOpenedAs image index.old.opening) }
+    requires image { IfSome (D.image disk.old) (λ image. IsOpenedAs image index.now.opening) }
     ensures is { IfOk result (λ is. WhereTold (D.image disk.old)
-        (λ image. is ≡ bytes_eq (column_at image (entry_at index.old.opening key) col) due.now)) }
+        (λ image. is ≡ bytes_eq (column_at image (entry_at index.now.opening key) col) due.now)) }
     ensures cause { IsErrOf result FetchFault.Disk → Fails D.Disk disk.old disk.new }
 
     // what it reads, and what it leaves
-    ensures takes { WhereTold (D.image disk.old) (λ image. TakesAtMost (length_at (entry_at index.old.opening key).lengths col) (D.taken disk.old) (D.taken disk.new)) }
-    ensures same { index.new ≡ index.old }
+    ensures takes { WhereTold (D.image disk.old) (λ image. TakesAtMost (length_at (entry_at index.now.opening key).lengths col) (D.taken disk.old) (D.taken disk.new)) }
     ensures disk { ReadsDisk D.Disk disk.old disk.new }
 {
     if index.entry(key).is_none() {
@@ -88,21 +86,20 @@ fn is_column<D: Disk>(
 /// Compares the columns of the record with these, but for that of messages. `Stop::Wrong` for the first that is
 /// another, `Stop::Disk` where the disk failed, `Stop::Memory` for want of memory.
 pub fn compare_columns<D: Disk>(
-    index: &mut Index,
+    index: &Index,
     disk: &mut D,
     key: Key,
     due: PerColumn<&[u8]>,
 ) -> Result<(), Stop>
-    requires image { IfSome (D.image disk.old) (λ image. IsOpenedAs image index.old.opening) }
+    requires image { IfSome (D.image disk.old) (λ image. IsOpenedAs image index.now.opening) }
     ensures alike { OnOk result (WhereTold (D.image disk.old)
-        (λ image. unlike image index.old.opening key (lent due.entry) ≡ None)) }
+        (λ image. unlike image index.now.opening key (lent due.entry) ≡ None)) }
     ensures stopped { IfErr result (λ stop. WhereTold (D.image disk.old)
-        (λ image. IsWrong stop (keyed_column key (unlike image index.old.opening key (lent due.entry))))) }
+        (λ image. IsWrong stop (keyed_column key (unlike image index.now.opening key (lent due.entry))))) }
     ensures cause { IsErrOf result Stop.Disk → Fails D.Disk disk.old disk.new }
 
     // what it reads, and what it leaves
-    ensures takes { WhereTold (D.image disk.old) (λ image. TakesAtMost (graph_total (entry_at index.old.opening key).lengths) (D.taken disk.old) (D.taken disk.new)) }
-    ensures same { index.new ≡ index.old }
+    ensures takes { WhereTold (D.image disk.old) (λ image. TakesAtMost (graph_total (entry_at index.now.opening key).lengths) (D.taken disk.old) (D.taken disk.new)) }
     ensures disk { ReadsDisk D.Disk disk.old disk.new }
 {
     let is_structure = is_column(index, disk, key, Column::Structure, due.structure)?;
@@ -123,21 +120,20 @@ pub fn compare_columns<D: Disk>(
 /// Compares the columns of a record of events with these, and that of messages at last. `Stop::Wrong` for the first that is
 /// another, `Stop::Disk` where the disk failed, `Stop::Memory` for want of memory.
 pub fn compare_event_columns<D: Disk>(
-    index: &mut Index,
+    index: &Index,
     disk: &mut D,
     key: Key,
     due: PerColumn<&[u8]>,
 ) -> Result<(), Stop>
-    requires image { IfSome (D.image disk.old) (λ image. IsOpenedAs image index.old.opening) }
+    requires image { IfSome (D.image disk.old) (λ image. IsOpenedAs image index.now.opening) }
     ensures alike { OnOk result (WhereTold (D.image disk.old)
-        (λ image. unlike_events image index.old.opening key (lent due.entry) ≡ None)) }
+        (λ image. unlike_events image index.now.opening key (lent due.entry) ≡ None)) }
     ensures stopped { IfErr result (λ stop. WhereTold (D.image disk.old)
-        (λ image. IsWrong stop (keyed_column key (unlike_events image index.old.opening key (lent due.entry))))) }
+        (λ image. IsWrong stop (keyed_column key (unlike_events image index.now.opening key (lent due.entry))))) }
     ensures cause { IsErrOf result Stop.Disk → Fails D.Disk disk.old disk.new }
 
     // what it reads, and what it leaves
-    ensures takes { WhereTold (D.image disk.old) (λ image. TakesAtMost (total (entry_at index.old.opening key).lengths) (D.taken disk.old) (D.taken disk.new)) }
-    ensures same { index.new ≡ index.old }
+    ensures takes { WhereTold (D.image disk.old) (λ image. TakesAtMost (total (entry_at index.now.opening key).lengths) (D.taken disk.old) (D.taken disk.new)) }
     ensures disk { ReadsDisk D.Disk disk.old disk.new }
 {
     compare_columns(index, disk, key, due)?;

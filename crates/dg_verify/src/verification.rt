@@ -46,29 +46,28 @@ use std::thread::{Threads, join};
 // Reads the events of all lists and recent pieces, up to the first that is not right by itself.
 fn read_all<D: Disk>(
     alloc: Global,
-    index: &mut Index,
+    index: &Index,
     disk: &mut D,
     names: &Names,
     own: &mut OwnEvents,
 ) -> Result<(), Stop>
     requires none { own.old.events.items ≡ [] }
-    requires image { IfSome (D.image disk.old) (λ image. opening image ≡ Ok (opened_with index.old.opening names.now)) }
+    requires image { IfSome (D.image disk.old) (λ image. opening image ≡ Ok (opened_with index.now.opening names.now)) }
     requires read { IsRead own.old }
 
     // the events
     ensures own { OnOk result (WhereTold (D.image disk.old)
-        (λ image. own_events image (opened_with index.old.opening names.now) ≡ tested names.now own.new (Ok own.new.events.items))) }
+        (λ image. own_events image (opened_with index.now.opening names.now) ≡ tested names.now own.new (Ok own.new.events.items))) }
     ensures read { OnOk result (IsRead own.new) }
-    ensures many { OnOk result (length own.new.events.items ≡ event_total index.old.opening.batches) }
+    ensures many { OnOk result (length own.new.events.items ≡ event_total index.now.opening.batches) }
 
     // why there are none
     ensures stopped { IfErr result (λ stop. WhereTold (D.image disk.old)
-        (λ image. IsStopBehind names.now own.new stop (own_events image (opened_with index.old.opening names.now)))) }
+        (λ image. IsStopBehind names.now own.new stop (own_events image (opened_with index.now.opening names.now)))) }
     ensures cause { IsErrOf result Stop.Disk → Fails D.Disk disk.old disk.new }
 
     // what it reads, and what it leaves
-    ensures takes { WhereTold (D.image disk.old) (λ image. TakesAtMost (columns_bytes index.old.opening (lists_due index.old.opening.params 0 (event_total index.old.opening.batches) ++ piece_keys index.old.opening)) (D.taken disk.old) (D.taken disk.new)) }
-    ensures same { index.new ≡ index.old }
+    ensures takes { WhereTold (D.image disk.old) (λ image. TakesAtMost (columns_bytes index.now.opening (lists_due index.now.opening.params 0 (event_total index.now.opening.batches) ++ piece_keys index.now.opening)) (D.taken disk.old) (D.taken disk.new)) }
     ensures disk { ReadsDisk D.Disk disk.old disk.new }
 {
     add_lists(alloc, index, disk, names, own)?;
@@ -145,20 +144,19 @@ fn test_and_make<R: Threads>(
 fn compare_all<R: Threads, D: Disk>(
     rt: &R,
     alloc: Global,
-    index: &mut Index,
+    index: &Index,
     disk: &mut D,
     names: &Names,
 ) -> Result<u64, Stop>
-    requires image { IfSome (D.image disk.old) (λ image. opening image ≡ Ok (opened_with index.old.opening names.now)) }
+    requires image { IfSome (D.image disk.old) (λ image. opening image ≡ Ok (opened_with index.now.opening names.now)) }
     ensures sound { IfOk result (λ total. WhereTold (D.image disk.old)
-        (λ image. soundness_of image (opened_with index.old.opening names.now) ≡ Sound total)) }
+        (λ image. soundness_of image (opened_with index.now.opening names.now) ≡ Sound total)) }
     ensures stopped { IfErr result (λ stop. WhereTold (D.image disk.old)
-        (λ image. IsUnsound stop (soundness_of image (opened_with index.old.opening names.now)))) }
+        (λ image. IsUnsound stop (soundness_of image (opened_with index.now.opening names.now)))) }
     ensures cause { IsErrOf result Stop.Disk → Fails D.Disk disk.old disk.new }
 
     // what it reads, and what it leaves
-    ensures takes { WhereTold (D.image disk.old) (λ image. TakesAtMost (records_bytes index.old.opening) (D.taken disk.old) (D.taken disk.new)) }
-    ensures same { index.new ≡ index.old }
+    ensures takes { WhereTold (D.image disk.old) (λ image. TakesAtMost (records_bytes index.now.opening) (D.taken disk.old) (D.taken disk.new)) }
     ensures disk { ReadsDisk D.Disk disk.old disk.new }
 {
     index.facts();
@@ -189,17 +187,16 @@ fn compare_all<R: Threads, D: Disk>(
 pub fn verify<R: Threads, D: Disk>(
     rt: &R,
     alloc: Global,
-    index: &mut Index,
+    index: &Index,
     disk: &mut D,
     names: &Names,
 ) -> Result<Soundness, VerifyFault>
-    requires image { IfSome (D.image disk.old) (λ image. opening image ≡ Ok (record { index = index.old.opening; names = names.now })) }
-    ensures sound { IfOk result (λ s. IfSome (D.image disk.old) (λ image. s ≡ soundness_of image (record { index = index.old.opening; names = names.now }))) }
+    requires image { IfSome (D.image disk.old) (λ image. opening image ≡ Ok (record { index = index.now.opening; names = names.now })) }
+    ensures sound { IfOk result (λ s. IfSome (D.image disk.old) (λ image. s ≡ soundness_of image (record { index = index.now.opening; names = names.now }))) }
     ensures cause { IsErrOf result VerifyFault.Disk → Fails D.Disk disk.old disk.new }
 
     // what it reads, and what it leaves
-    ensures takes { IfSome (D.image disk.old) (λ image. TakesAtMost (records_bytes index.old.opening) (D.taken disk.old) (D.taken disk.new)) }
-    ensures same { index.new ≡ index.old }
+    ensures takes { IfSome (D.image disk.old) (λ image. TakesAtMost (records_bytes index.now.opening) (D.taken disk.old) (D.taken disk.new)) }
     ensures disk { ReadsDisk D.Disk disk.old disk.new }
 {
     match compare_all(rt, alloc, index, disk, names) {

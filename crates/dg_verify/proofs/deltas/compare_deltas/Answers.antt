@@ -1,7 +1,6 @@
 use Rattle.std.proofs.Common.{◌≡◌, ℕ, ◌+◌, ◌<◌, cond, List, None, length, slice_index_or, sym, ◌∙◌, ap, subst, arith}
 use Rattle.std.proofs.lemmas.List.{length-map}
 use Rattle.dg_disk.proofs.FrameLemmas.{reads_then}
-use Rattle.dg_file.specs.Index.{IndexState}
 use Rattle.dg_fold.specs.BytesRead.{TakesAtMost}
 use Rattle.dg_history.specs.declared.node.Key.{Key}
 use Rattle.dg_index.specs.declared.entry.Row.{Row}
@@ -61,9 +60,9 @@ returns-in_err-compare_delta-clause-stopped g c =
     err_is c.from_residual.result s (λ (s : Stop). WhereTold told (λ image. IsWrong s (first_unlike image o c.args.kind keys due))) c.from_residual.ensures
     (delta_stops told o c.args.kind keys due i k (next_key keys i k lt c.index-key.ensures) at.stored at.rest c.loop-number.invariant.so_far s
     (λ image h. subst (λ u. IsWrong s (keyed_column k u)) (λ j. unlike_of image o c.args.kind k (record at.stored { structure = a j; node_attrs = b j; edge_attrs = d j }))
-    (said_before (g.D.Disk.image c.loop-number.disk) told c.loop-number.index.opening o
-    (λ image p. IsWrong s (keyed_column k (unlike_of image p c.args.kind k (record at.stored { structure = c.split_at.result.0.now; node_attrs = c.split_at-in-loop-number.result.0.now; edge_attrs = c.split_at-in-loop-number-2.result.0.now }))))
-    c.loop-number.invariant.frame.same_image (ap (λ (x : IndexState). x.opening) c.loop-number.invariant.same) c.in_err-compare_delta.ensures.stopped image h)))
+    (said_before (g.D.Disk.image c.loop-number.disk) told
+    (λ image. IsWrong s (keyed_column k (unlike_of image o c.args.kind k (record at.stored { structure = c.split_at.result.0.now; node_attrs = c.split_at-in-loop-number.result.0.now; edge_attrs = c.split_at-in-loop-number-2.result.0.now }))))
+    c.loop-number.invariant.frame.same_image c.in_err-compare_delta.ensures.stopped image h)))
 
 pub loop-number-preserved : goal.loop-number-preserved
 loop-number-preserved g c =
@@ -82,23 +81,22 @@ loop-number-preserved g c =
     let k : Key = c.index-key.result.now in
     let lt : i < length keys = omega (arith, c.loop-number-test.true, ap length c.delta_rows-rows.ensures, length-map due record_row, c.requires.many) in
     record {
-      same = c.compare_delta.ensures.same ∙ c.loop-number.invariant.same;
       frame = reads_then c.loop-number.invariant.frame c.compare_delta.ensures.disk;
       left = behind_record due i row columns at c.loop-number.invariant.left c.split_at.result.1.now c.split_at.ensures.back c.split_at-in-loop-number.result.1.now c.split_at-in-loop-number.ensures.back
           c.split_at-in-loop-number-2.result.1.now c.split_at-in-loop-number-2.ensures.back;
       so_far =
           one_compared told o c.args.kind keys due i k (next_key keys i k lt c.index-key.ensures) at.stored at.rest c.loop-number.invariant.so_far
           (λ image h. (λ j. unlike_of image o c.args.kind k (record at.stored { structure = sym a j; node_attrs = sym b j; edge_attrs = sym d j }))
-          ∙ said_before (g.D.Disk.image c.loop-number.disk) told c.loop-number.index.opening o
-          (λ image p. unlike_of image p c.args.kind k (record at.stored { structure = c.split_at.result.0.now; node_attrs = c.split_at-in-loop-number.result.0.now; edge_attrs = c.split_at-in-loop-number-2.result.0.now }) ≡ None)
-          c.loop-number.invariant.frame.same_image (ap (λ (x : IndexState). x.opening) c.loop-number.invariant.same) c.in_ok-compare_delta.ensures.alike image h);
+          ∙ said_before (g.D.Disk.image c.loop-number.disk) told
+          (λ image. unlike_of image o c.args.kind k (record at.stored { structure = c.split_at.result.0.now; node_attrs = c.split_at-in-loop-number.result.0.now; edge_attrs = c.split_at-in-loop-number-2.result.0.now }) ≡ None)
+          c.loop-number.invariant.frame.same_image c.in_ok-compare_delta.ensures.alike image h);
       takes = λ image h.
           let x = g.D.Disk.taken c.args.disk.now in
           let y = g.D.Disk.taken c.loop-number.disk in
           let z = g.D.Disk.taken c.compare_delta.new.disk in
           next_compared o c.args.kind keys i k x y z lt c.index-key.ensures (c.loop-number.invariant.takes image h)
-          (said_before (g.D.Disk.image c.loop-number.disk) told c.loop-number.index.opening o (λ image p. TakesAtMost (cond (has_kind c.args.kind k) (total (entry_at p k).lengths) 0) y z)
-          c.loop-number.invariant.frame.same_image (ap (λ (x : IndexState). x.opening) c.loop-number.invariant.same) c.compare_delta.ensures.takes image h);
+          (said_before (g.D.Disk.image c.loop-number.disk) told (λ image. TakesAtMost (cond (has_kind c.args.kind k) (total (entry_at o k).lengths) 0) y z)
+          c.loop-number.invariant.frame.same_image c.compare_delta.ensures.takes image h);
     }
 
 pub returns-in_err-compare_delta-clause-takes : goal.returns-in_err-compare_delta-clause-takes
@@ -115,8 +113,8 @@ returns-in_err-compare_delta-clause-takes g c image h =
     let z = g.D.Disk.taken c.compare_delta.new.disk in
     all_compared o c.args.kind keys (i + 1) x z
     (next_compared o c.args.kind keys i k x y z lt c.index-key.ensures (c.loop-number.invariant.takes image h)
-    (said_before (g.D.Disk.image c.loop-number.disk) told c.loop-number.index.opening o (λ image p. TakesAtMost (cond (has_kind c.args.kind k) (total (entry_at p k).lengths) 0) y z)
-    c.loop-number.invariant.frame.same_image (ap (λ (x : IndexState). x.opening) c.loop-number.invariant.same) c.compare_delta.ensures.takes image h))
+    (said_before (g.D.Disk.image c.loop-number.disk) told (λ image. TakesAtMost (cond (has_kind c.args.kind k) (total (entry_at o k).lengths) 0) y z)
+    c.loop-number.invariant.frame.same_image c.compare_delta.ensures.takes image h))
 
 pub returns-clause-takes : goal.returns-clause-takes
 returns-clause-takes g c image h =

@@ -9,9 +9,8 @@ use Rattle.dg_verify.proofs.deltas.compare_deltas.Given as goal
 
 abbrev pub invariant-loop-number : goal.invariant-loop-number
 invariant-loop-number g l = record {
-  same : l.index ≡ l.fn.index;
   frame : ReadsDisk g.D.Disk l.fn.disk l.disk;
   left : l.columns ≡ delta_blobs (drop l.number l.due.segment.deltas);
-  so_far : DeltasGoOn (g.D.Disk.image l.fn.disk) l.fn.index.opening l.kind l.due.keys.items l.due.segment.deltas l.number;
-  takes : WhereTold (g.D.Disk.image l.fn.disk) (λ image. TakesAtMost (kind_bytes l.fn.index.opening l.kind l.due.keys.items l.number) (g.D.Disk.taken l.fn.disk) (g.D.Disk.taken l.disk));
+  so_far : DeltasGoOn (g.D.Disk.image l.fn.disk) l.index.opening l.kind l.due.keys.items l.due.segment.deltas l.number;
+  takes : WhereTold (g.D.Disk.image l.fn.disk) (λ image. TakesAtMost (kind_bytes l.index.opening l.kind l.due.keys.items l.number) (g.D.Disk.taken l.fn.disk) (g.D.Disk.taken l.disk));
 }

@@ -1,4 +1,4 @@
-use Rattle.std.proofs.Common.{◌≡◌, ◌+◌, [], length, map, refl, sym, ◌∙◌, ap}
+use Rattle.std.proofs.Common.{◌≡◌, ◌+◌, [], length, refl, sym, ◌∙◌, ap}
 use Rattle.dg_build.specs.declared.fault.BuildFault.{BuildFault}
 use Rattle.dg_build.specs.declared.fault.BuildFault.TheVariants.{Memory}
 use Rattle.dg_graph.specs.ExactEvents.{AreChangesOf}

@@ -1,7 +1,6 @@
-use Rattle.std.proofs.Common.{◌≡◌, ℕ, ◌+◌, length, ◌∙◌, ap, subst, arith}
+use Rattle.std.proofs.Common.{◌≡◌, ℕ, ◌+◌, ◌∙◌, subst, arith}
 use Rattle.std.specs.Prelude.{Ok}
 use Rattle.dg_disk.proofs.FrameLemmas.{reads_then}
-use Rattle.dg_file.specs.Index.{IndexState}
 use Rattle.dg_fold.specs.BytesRead.{TakesAtMost}
 use Rattle.dg_history.specs.declared.node.Key.TheVariants as key
 use Rattle.dg_index.specs.Hierarchy.{leaves}
@@ -24,36 +23,34 @@ returns-in_err-add_list-clause-stopped g c =
     let s : Stop = c.in_err-add_list.field-0.0 in
     err_is c.from_residual.result s (λ (s : Stop). WhereTold told (λ image. IsStopBehind c.args.names.now c.add_list.new.own s (listed_events image x))) c.from_residual.ensures
     (list_stops told x c.leaves-total.result c.loop-number.number c.loop-number-test.true c.loop-number.own c.loop-number.invariant.so_far s c.add_list.new.own
-    (said_before (g.D.Disk.image c.loop-number.disk) told c.loop-number.index.opening o
-    (λ image p. IsStopBehind c.args.names.now c.add_list.new.own s
-    (tested c.args.names.now c.loop-number.own (with_list image (opened_with p c.args.names.now) c.loop-number.own.events.items c.loop-number.number)))
-    c.loop-number.invariant.frame.same_image (ap (λ (i : IndexState). i.opening) c.loop-number.invariant.same) c.in_err-add_list.ensures.stopped))
+    (said_before (g.D.Disk.image c.loop-number.disk) told
+    (λ image. IsStopBehind c.args.names.now c.add_list.new.own s
+    (tested c.args.names.now c.loop-number.own (with_list image (opened_with o c.args.names.now) c.loop-number.own.events.items c.loop-number.number)))
+    c.loop-number.invariant.frame.same_image c.in_err-add_list.ensures.stopped))
 
 pub loop-number-preserved : goal.loop-number-preserved
 loop-number-preserved g c =
     let o : Opening = c.args.index.now.opening in
     let told = g.D.Disk.image c.args.disk.now in
     let x = opened_with o c.args.names.now in
-    let same_opening : c.loop-number.index.opening ≡ o = ap (λ (i : IndexState). i.opening) c.loop-number.invariant.same in
     record {
-      same = c.add_list.ensures.same ∙ c.loop-number.invariant.same;
       frame = reads_then c.loop-number.invariant.frame c.add_list.ensures.disk;
       read = c.in_ok-add_list.ensures.read;
-      many = many_more c.loop-number.number o.params.l _ _ c.loop-number.invariant.many (c.in_ok-add_list.ensures.many ∙ (λ j. length c.loop-number.own.events.items + (same_opening j).params.l));
+      many = many_more c.loop-number.number o.params.l _ _ c.loop-number.invariant.many c.in_ok-add_list.ensures.many;
       so_far =
           one_listed told x c.leaves-total.result c.loop-number.number c.loop-number-test.true c.loop-number.own c.loop-number.invariant.so_far c.add_list.new.own
-          (said_before (g.D.Disk.image c.loop-number.disk) told c.loop-number.index.opening o
-          (λ image p. tested c.args.names.now c.loop-number.own (with_list image (opened_with p c.args.names.now) c.loop-number.own.events.items c.loop-number.number)
+          (said_before (g.D.Disk.image c.loop-number.disk) told
+          (λ image. tested c.args.names.now c.loop-number.own (with_list image (opened_with o c.args.names.now) c.loop-number.own.events.items c.loop-number.number)
           ≡ tested c.args.names.now c.add_list.new.own (Ok c.add_list.new.own.events.items))
-          c.loop-number.invariant.frame.same_image same_opening c.in_ok-add_list.ensures.listed);
+          c.loop-number.invariant.frame.same_image c.in_ok-add_list.ensures.listed);
       takes = λ image h.
           let i : ℕ = c.loop-number.number in
           let a = g.D.Disk.taken c.args.disk.now in
           let b = g.D.Disk.taken c.loop-number.disk in
           let d = g.D.Disk.taken c.add_list.new.disk in
           next_read o (λ i. key.List i) i a b d (c.loop-number.invariant.takes image h)
-          (said_before (g.D.Disk.image c.loop-number.disk) told c.loop-number.index.opening o (λ image p. TakesAtMost (total (entry_at p (key.List i)).lengths) b d)
-          c.loop-number.invariant.frame.same_image same_opening c.add_list.ensures.takes image h);
+          (said_before (g.D.Disk.image c.loop-number.disk) told (λ image. TakesAtMost (total (entry_at o (key.List i)).lengths) b d)
+          c.loop-number.invariant.frame.same_image c.add_list.ensures.takes image h);
       numbered = (let lt = c.loop-number-test.true in omega (arith, lt));
     }
 
@@ -74,8 +71,8 @@ returns-in_err-add_list-clause-takes g c image h =
     subst (λ n. TakesAtMost n a d) (lists_bytes o (event_total o.batches))
     (all_read o (λ i. key.List i) (i + 1) (list_total o) a d (omega (arith, c.loop-number-test.true, count))
     (next_read o (λ i. key.List i) i a b d (c.loop-number.invariant.takes image h)
-    (said_before (g.D.Disk.image c.loop-number.disk) told c.loop-number.index.opening o (λ image p. TakesAtMost (total (entry_at p (key.List i)).lengths) b d)
-    c.loop-number.invariant.frame.same_image (ap (λ (i : IndexState). i.opening) c.loop-number.invariant.same) c.add_list.ensures.takes image h)))
+    (said_before (g.D.Disk.image c.loop-number.disk) told (λ image. TakesAtMost (total (entry_at o (key.List i)).lengths) b d)
+    c.loop-number.invariant.frame.same_image c.add_list.ensures.takes image h)))
 
 pub returns-clause-takes : goal.returns-clause-takes
 returns-clause-takes g c image h =

@@ -1,4 +1,4 @@
-use Rattle.std.proofs.Common.{◌≡◌, ◌-◌, ◌≤◌, length}
+use Rattle.std.proofs.Common.{◌-◌, ◌≤◌, length}
 use Rattle.dg_disk.specs.Calls.{ReadsDisk}
 use Rattle.dg_fold.specs.BytesRead.{TakesAtMost}
 use Rattle.dg_history.specs.declared.node.Key.TheVariants as key
@@ -11,14 +11,13 @@ use Rattle.dg_verify.proofs.pieces.add_pieces.Given as goal
 
 abbrev pub invariant-loop-batch : goal.invariant-loop-batch
 invariant-loop-batch g l = record {
-  same : l.index ≡ l.fn.index;
   frame : ReadsDisk g.D.Disk l.fn.disk l.disk;
   read : IsRead l.own;
-  many : AreSoFar l.fn.index.opening l.before l.own.events.items;
-  so_far : PiecesGoOn (g.D.Disk.image l.fn.disk) (opened_with l.fn.index.opening l.names) l.fn.own l.number l.before l.own;
-  takes : WhereTold (g.D.Disk.image l.fn.disk) (λ image. TakesAtMost (first_bytes l.fn.index.opening (λ i. key.Piece i) l.number) (g.D.Disk.taken l.fn.disk) (g.D.Disk.taken l.disk));
-  numbered : l.number ≤ length l.fn.index.opening.batches;
+  many : AreSoFar l.index.opening l.before l.own.events.items;
+  so_far : PiecesGoOn (g.D.Disk.image l.fn.disk) (opened_with l.index.opening l.names) l.fn.own l.number l.before l.own;
+  takes : WhereTold (g.D.Disk.image l.fn.disk) (λ image. TakesAtMost (first_bytes l.index.opening (λ i. key.Piece i) l.number) (g.D.Disk.taken l.fn.disk) (g.D.Disk.taken l.disk));
+  numbered : l.number ≤ length l.index.opening.batches;
 }
 
 abbrev pub decreases-loop-batch : goal.decreases-loop-batch
-decreases-loop-batch g l = length l.fn.index.opening.batches - l.number
+decreases-loop-batch g l = length l.index.opening.batches - l.number

@@ -1,5 +1,4 @@
-use Rattle.std.proofs.Common.{◌≡◌, ◌+◌, Ok, sym, ◌∙◌, ap, arith}
-use Rattle.dg_file.specs.Index.{IndexState}
+use Rattle.std.proofs.Common.{◌≡◌, ◌+◌, Ok, sym, ◌∙◌, arith}
 use Rattle.dg_index.specs.IndexRecords.{lists_due}
 use Rattle.dg_index.specs.OpenedIndex.{Opening, event_total}
 use Rattle.dg_sound.specs.OwnEvents.{own_events, with_pieces}
@@ -19,40 +18,36 @@ use Rattle.dg_verify.proofs.verification.read_all.Goals as goal
 pub returns-clause-own : goal.returns-clause-own
 returns-clause-own g c =
     let o : Opening = c.args.index.now.opening in
-    let p : Opening = c.add_lists.new.index.opening in
     let names = c.args.names.now in
     let x = opened_with o names in
     let told = g.D.Disk.image c.args.disk.now in
     let own : OwnEvents = c.add_lists.new.own in
     let after : OwnEvents = c.add_pieces.new.own in
-    let same : p ≡ o = ap (λ (i : IndexState). i.opening) c.add_lists.ensures.same in
     on_ok c.add_pieces.result
-    (WhereTold (g.D.Disk.image c.add_lists.new.disk) (λ image. tested names own (with_pieces image (opened_with p names) own.events.items 0 0 p.batches) ≡ tested names after (Ok after.events.items)))
+    (WhereTold (g.D.Disk.image c.add_lists.new.disk) (λ image. tested names own (with_pieces image x own.events.items 0 0 o.batches) ≡ tested names after (Ok after.events.items)))
     (WhereTold told (λ image. own_events image x ≡ tested names after (Ok after.events.items)))
     (λ pieced image h. own_by_pieces image x own (c.in_ok-add_lists.ensures.listed image h)
-    ∙ said_before (g.D.Disk.image c.add_lists.new.disk) told p o
-    (λ image p. tested names own (with_pieces image (opened_with p names) own.events.items 0 0 p.batches) ≡ tested names after (Ok after.events.items))
-    c.add_lists.ensures.disk.same_image same pieced image h)
+    ∙ said_before (g.D.Disk.image c.add_lists.new.disk) told
+    (λ image. tested names own (with_pieces image (opened_with o names) own.events.items 0 0 o.batches) ≡ tested names after (Ok after.events.items))
+    c.add_lists.ensures.disk.same_image pieced image h)
     c.add_pieces.ensures.pieced
 
 pub returns-clause-stopped : goal.returns-clause-stopped
 returns-clause-stopped g c =
     let o : Opening = c.args.index.now.opening in
-    let p : Opening = c.add_lists.new.index.opening in
     let names = c.args.names.now in
     let x = opened_with o names in
     let told = g.D.Disk.image c.args.disk.now in
     let own : OwnEvents = c.add_lists.new.own in
     let after : OwnEvents = c.add_pieces.new.own in
-    let same : p ≡ o = ap (λ (i : IndexState). i.opening) c.add_lists.ensures.same in
     if_err c.add_pieces.result
-    (λ (s : Stop). WhereTold (g.D.Disk.image c.add_lists.new.disk) (λ image. IsStopBehind names after s (tested names own (with_pieces image (opened_with p names) own.events.items 0 0 p.batches))))
+    (λ (s : Stop). WhereTold (g.D.Disk.image c.add_lists.new.disk) (λ image. IsStopBehind names after s (tested names own (with_pieces image x own.events.items 0 0 o.batches))))
     (λ (s : Stop). WhereTold told (λ image. IsStopBehind names after s (own_events image x)))
     (λ s stopped image h. stops_so s names after (tested names own (with_pieces image x own.events.items 0 0 o.batches)) (own_events image x)
     (sym (own_by_pieces image x own (c.in_ok-add_lists.ensures.listed image h)))
-    (said_before (g.D.Disk.image c.add_lists.new.disk) told p o
-    (λ image p. IsStopBehind names after s (tested names own (with_pieces image (opened_with p names) own.events.items 0 0 p.batches)))
-    c.add_lists.ensures.disk.same_image same stopped image h))
+    (said_before (g.D.Disk.image c.add_lists.new.disk) told
+    (λ image. IsStopBehind names after s (tested names own (with_pieces image (opened_with o names) own.events.items 0 0 o.batches)))
+    c.add_lists.ensures.disk.same_image stopped image h))
     c.add_pieces.ensures.stopped
 
 pub returns-in_err-add_lists-clause-takes : goal.returns-in_err-add_lists-clause-takes
@@ -70,5 +65,5 @@ returns-clause-takes g c =
     let b = g.D.Disk.taken c.add_lists.new.disk in
     let d = g.D.Disk.taken c.add_pieces.new.disk in
     told_part told (lists + columns_bytes o (piece_keys o)) (events_bytes o) a d (omega (arith, events_parted o))
-    (told_then told (g.D.Disk.image c.add_lists.new.disk) c.add_lists.new.index.opening o (λ p. columns_bytes p (piece_keys p)) lists a b d
-    c.add_lists.ensures.disk.same_image (ap (λ (i : IndexState). i.opening) c.add_lists.ensures.same) c.add_lists.ensures.takes c.add_pieces.ensures.takes)
+    (told_then told (g.D.Disk.image c.add_lists.new.disk) (columns_bytes o (piece_keys o)) lists a b d
+    c.add_lists.ensures.disk.same_image c.add_lists.ensures.takes c.add_pieces.ensures.takes)
