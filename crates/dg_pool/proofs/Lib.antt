@@ -19,3 +19,4 @@ pub mod ChangeMasks
 pub mod ChangeCounts
 pub mod ChangeGraphs
 pub mod ChangeCells
+pub mod MovedSlots

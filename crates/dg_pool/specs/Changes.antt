@@ -1,18 +1,20 @@
 -- Changes of several slots' graphs by one delta.
-use Rattle.std.specs.Prelude.{◌≡◌, ℕ, ◌+◌, ◌*◌, ◌≤◌, ◌<◌, ◌^◌, Bool, true, false, ◌||◌, ◌&&◌, if◌then◌else◌, List, [], ◌∷◌, map, Option, Some, IsSome, length}
+use Rattle.std.specs.Prelude.{◌≡◌, ℕ, ◌+◌, ◌*◌, ◌≤◌, ◌<◌, ◌^◌, Bool, true, false, ◌||◌, ◌&&◌, not, if◌then◌else◌, List, [], ◌∷◌, map, Option, Some, IsSome, length}
 use Rattle.std.specs.Option.{option_map}
 use Rattle.dg_graph.specs.declared.element.Element.{Element}
 use Rattle.dg_graph.specs.Elements.{has, shown, column_of}
 use Rattle.dg_graph.specs.Composition.{Delta, applied}
 use Rattle.dg_cells.specs.Rows.{Row, cell_at, is_current, pair, word_bit}
 use Rattle.dg_query.specs.declared.answers.Counts.{Counts}
-use Rattle.dg_pool.specs.declared.changes.Targets.{Targets}
+use Rattle.dg_pool.specs.declared.targets.Targets.{Targets}
 use Rattle.dg_pool.specs.declared.slots.Base.TheVariants as base
 use Rattle.dg_pool.specs.declared.slots.Slot.{Slot}
 use Rattle.dg_pool.specs.declared.slots.SlotState.{SlotState}
-use Rattle.dg_pool.specs.Graphs.{PoolState, SlotGraph, AreSlots, slot_at, pair_at, is_live, is_listed, slot_graph, graph_now}
+use Rattle.dg_pool.specs.Graphs.{PoolState, SlotGraph, AreSlots, slot_at, pair_at, is_live, is_listed, is_on_now, in_base, slot_graph, graph_now}
 use Rattle.dg_pool.specs.Slots.{NoneOn}
 use Rattle.dg_pool.specs.Masks.{is_asking}
+use Rattle.dg_pool.specs.declared.slots.SlotState.TheVariants as state
+use Rattle.dg_graph.specs.declared.element.Column.TheVariants as column
 use Rattle.dg_pool.specs.Sweeps.{element_of, in_state}
 use Rattle.dg_pool.specs.Counts.{kind_count, one_more, one_less, counts_at, AreCountsOf}
 
@@ -88,10 +90,35 @@ pub record AreMarks (numbers : List ℕ) (ones pairs : List ℕ) : Type 0 where
   pub both : (s : ℕ) → s < 128 → word_bit pairs (2 * s) ≡ is_listed numbers s
   pub own : (s : ℕ) → s < 128 → word_bit pairs (2 * s + 1) ≡ is_listed numbers s
 
+-- the mask has the explicit bits of those of the slots that pass the test
+pub record IsMarked (test : SlotState → Bool) (slots : List SlotState) (numbers : List ℕ) (mask : List ℕ) : Type 0 where
+  pub len : length mask ≡ 4
+  pub marks : (s : ℕ) → s < 128 → word_bit mask (2 * s) ≡ (is_listed numbers s && test (slot_at slots s))
+
+-- the slot rests on another slot
+abbrev pub is_on_slot : SlotState → Bool
+is_on_slot state.Free = false
+is_on_slot (state.Released swept) = false
+is_on_slot (state.Live base.Nothing cols) = false
+is_on_slot (state.Live base.Now cols) = false
+is_on_slot (state.Live (base.Slot b) cols) = true
+
+-- the base of the slot has the cell's element
+abbrev pub base_has : Row → SlotState → Bool
+base_has r state.Free = false
+base_has r (state.Released swept) = false
+base_has r (state.Live b cols) = in_base b r
+
 -- the slots can change, and the masks are theirs
 pub record AreTargets (t : Targets) : Type 0 where
   pub can : AreChangeable t.states.now (numbers_of t.slots.now)
   pub marks : AreMarks (numbers_of t.slots.now) t.explicit t.both
+  pub structure : IsMarked (is_asking column.Structure) t.states.now (numbers_of t.slots.now) t.structure
+  pub node_attr : IsMarked (is_asking column.NodeAttr) t.states.now (numbers_of t.slots.now) t.node_attr
+  pub edge_attr : IsMarked (is_asking column.EdgeAttr) t.states.now (numbers_of t.slots.now) t.edge_attr
+  pub transient : IsMarked (is_asking column.Transient) t.states.now (numbers_of t.slots.now) t.transient
+  pub on_now : IsMarked is_on_now t.states.now (numbers_of t.slots.now) t.on_now
+  pub on_slot : t.on_slot ≡ false → (s : ℕ) → is_listed (numbers_of t.slots.now) s ≡ true → is_on_slot (slot_at t.states.now s) ≡ false
 
 -- each of the slots has this pair, and all else is as it was
 pub record SetsPairs (numbers : List ℕ) (p : Bool × Bool) (old new : Row) : Type 0 where
@@ -130,3 +157,12 @@ CanRecountAll slots numbers own r counts =
 abbrev pub RecountsAll : List SlotState → List ℕ → Bool → Row → List Counts → List Counts → Type 0
 RecountsAll slots numbers own r old new =
     (s : ℕ) → counts_at new s ≡ (if is_listed numbers s then recounted (in_state s (slot_at slots s) r) (will_have own (slot_at slots s) r) r.element (counts_at old s) else counts_at old s)
+
+-- a graph that asks for the element, or not, gets it or loses it by the write of its own bit, by what its two bits and its base say before
+abbrev pub moves : Bool → Bool → Bool → Bool → Bool → Bool
+moves own explicit says base asks = asks && (if own then not (if explicit then says else base) else (if explicit then says else base))
+
+-- the mask has the explicit bits of the slots whose graphs get the element or lose it
+pub record AreMoved (slots : List SlotState) (numbers : List ℕ) (own : Bool) (r : Row) (mask : List ℕ) : Type 0 where
+  pub len : length mask ≡ 4
+  pub moved : (s : ℕ) → s < 128 → is_listed numbers s ≡ true → word_bit mask (2 * s) ≡ moves own (pair s r).0 (pair s r).1 (base_has r (slot_at slots s)) (is_asking (column_of r.element) (slot_at slots s))

@@ -2,76 +2,30 @@
 ghost use Rattle.std.specs.Prelude.{◌≡◌, true, false, [], ◌∷◌, IsSome, length};
 ghost use Rattle.dg_graph.specs.declared.element.Element.{Element};
 ghost use Rattle.dg_cells.specs.Rows.{cell_at, Holds, AreNumbers, CellsAreApart, Writes};
-ghost use Rattle.dg_pool.specs.Changes.{numbers_of, AreChangeable, AreTargets, AreGraphCounts, CanRecountAll, RecountsAll, WritesDelta, one_sided, SetsPairs, will_have};
+ghost use Rattle.dg_pool.specs.Changes.{numbers_of, AreChangeable, AreTargets, AreGraphCounts, CanRecountAll, RecountsAll, WritesDelta, one_sided, SetsPairs};
 
 use crate::counts::with_change;
-use crate::masks::{is_asking, put_bit};
-use crate::members::has_member;
+use crate::masks::mask_has;
 use crate::slots::{Slot, SlotState};
+use crate::targets::{Targets, moved_mask, targets_of};
 use dg_cells::{Cells, Cursor, Row};
 use dg_delta::Delta;
-use dg_event::column_of;
 use dg_graph::Element;
 use dg_query::Counts;
 
-// The slots whose graphs change, and the bits that a write sets in a cell for them all.
-#[derive(Drop)]
-struct Targets<'a> {
-    states: &'a [SlotState; 128],
-    slots: &'a [Slot],
-    // the explicit bits of the slots
-    explicit: [u64; 4],
-    // both bits of the slots
-    both: [u64; 4],
-}
-
-fn targets_of<'a>(states: &'a [SlotState; 128], slots: &'a [Slot]) -> Targets<'a>
-    requires { AreChangeable states.now (numbers_of slots.now) }
-    ensures states { result.states.now ≡ states.now }
-    ensures slots { result.slots.now ≡ slots.now }
-    ensures targets { AreTargets result }
-{
-    let mut explicit = [0; 4];
-    let mut both = [0; 4];
-    for slot in slots {
-        put_bit(&mut explicit, 2 * slot.0);
-        put_bit(&mut both, 2 * slot.0);
-        put_bit(&mut both, 2 * slot.0 + 1);
-    }
-    Targets {
-        states,
-        slots,
-        explicit,
-        both,
-    }
-}
-
-// Whether the slot's graph has the cell's element once its own bit is written there.
-fn will_have(row: &Row, state: SlotState, own: bool) -> bool
-    ensures { result ≡ will_have own state row.now }
-{
-    own && is_asking(state, column_of(&row.element))
-}
-
 // Keeps the counts of the slots whose graphs gain or lose the cell's element by a write of their own bits. `row` is
 // what stands in the cell before.
-fn recount(
-    counts: &mut [Counts; 128],
-    states: &[SlotState; 128],
-    slots: &[Slot],
-    row: &Row,
-    own: bool,
-)
-    requires can { AreChangeable states.now (numbers_of slots.now) }
-    requires fit { CanRecountAll states.now (numbers_of slots.now) own row.now counts.old }
+fn recount(counts: &mut [Counts; 128], targets: &Targets, row: &Row, own: bool)
+    requires targets { AreTargets targets.now }
+    requires fit { CanRecountAll targets.now.states.now (numbers_of targets.now.slots.now) own row.now counts.old }
     ensures len { length counts.new ≡ 128 }
-    ensures counts { RecountsAll states.now (numbers_of slots.now) own row.now counts.old counts.new }
+    ensures counts { RecountsAll targets.now.states.now (numbers_of targets.now.slots.now) own row.now counts.old counts.new }
 {
-    for slot in slots {
-        let at = slot.0 as usize;
-        let on = will_have(row, states[at], own);
-        if has_member(row, states[at], slot.0) != on {
-            counts[at] = with_change(counts[at], &row.element, on);
+    let moved = moved_mask(targets, row, own);
+    for slot in targets.slots {
+        if mask_has(&moved, 2 * slot.0) {
+            let at = slot.0 as usize;
+            counts[at] = with_change(counts[at], &row.element, own);
         }
     }
 }
@@ -101,7 +55,7 @@ fn write_cell(cells: &mut Cells, counts: &mut [Counts; 128], targets: &Targets, 
     // no graph has more elements than there are cells, so the counts fit
     let _most = cells.len();
     match cells.get(n) {
-        Some(row) => recount(counts, targets.states, targets.slots, row, own),
+        Some(row) => recount(counts, targets, row, own),
         None => unreachable!(),
     }
     set_pairs(cells, targets, n, own);

@@ -11,6 +11,7 @@ mod pool;
 mod room;
 mod slots;
 mod sweep;
+mod targets;
 
 pub use dg_cells::Cursor;
 pub use dg_query::Counts;

@@ -48,6 +48,13 @@ pub(crate) fn put_bit(mask: &mut [u64; 4], bit: u8)
     mask[(bit / 64) as usize] |= 1 << (bit % 64);
 }
 
+/// Whether the mask has the bit.
+pub(crate) fn mask_has(mask: &[u64; 4], bit: u8) -> bool
+    ensures { result ≡ word_bit mask.now bit }
+{
+    (mask[(bit / 64) as usize] >> (bit % 64)) & 1 == 1
+}
+
 // The explicit bits of the live slots that ask for the column.
 fn asking_mask(slots: &[SlotState; 128], column: Column) -> [u64; 4]
     ensures { IsAskingMask column slots.now result }

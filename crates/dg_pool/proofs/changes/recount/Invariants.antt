@@ -5,5 +5,5 @@ use Rattle.dg_pool.proofs.changes.recount.Given as goal
 abbrev pub invariant-loop-slot : goal.invariant-loop-slot
 invariant-loop-slot l = record {
   len : length l.counts ≡ 128;
-  counts : RecountsAll l.states (numbers_of (take l.slot-index l.slots)) l.own l.row l.initial.counts l.counts;
+  counts : RecountsAll l.targets.states.now (numbers_of (take l.slot-index l.targets.slots.now)) l.own l.row l.initial.counts l.counts;
 }

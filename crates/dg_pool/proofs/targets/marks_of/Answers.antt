@@ -3,8 +3,8 @@ use Rattle.std.proofs.lemmas.List.{take_more, take_all}
 use Rattle.dg_pool.specs.declared.slots.Slot.{Slot}
 use Rattle.dg_pool.specs.Changes.{AreMarks, numbers_of}
 use Rattle.dg_pool.proofs.ChangeMasks.{listed_at, listed_high, marks_more}
-use Rattle.dg_pool.proofs.changes.targets_of.Goals as goal
-use Rattle.dg_pool.proofs.changes.targets_of.Goals.{In-loop-slot}
+use Rattle.dg_pool.proofs.targets.marks_of.Goals as goal
+use Rattle.dg_pool.proofs.targets.marks_of.Goals.{In-loop-slot}
 
 abbrev none : Slot
 none = record { 0 = 0 }
@@ -35,11 +35,8 @@ loop-slot-preserved c =
     c.loop-slot.explicit c.loop-slot.both c.put_bit.new.mask c.put_bit-in-loop-slot.new.mask c.put_bit-in-loop-slot-2.new.mask c.loop-slot.invariant c.put_bit.ensures.len c.put_bit-in-loop-slot-2.ensures.len
     c.put_bit.ensures.bits c.put_bit-in-loop-slot.ensures.bits c.put_bit-in-loop-slot-2.ensures.bits
 
-pub returns-clause-targets : goal.returns-clause-targets
-returns-clause-targets c =
+pub returns : goal.returns
+returns c =
     let slots = c.args.slots.now in
     let i = c.loop-slot.slot-index in
-    record {
-      can = c.requires;
-      marks = subst (λ (l : List Slot). AreMarks (numbers_of l) c.loop-slot.explicit c.loop-slot.both) (take_all i slots c.loop-slot-test.false) c.loop-slot.invariant;
-    }
+    subst (λ (l : List Slot). AreMarks (numbers_of l) c.loop-slot.explicit c.loop-slot.both) (take_all i slots c.loop-slot-test.false) c.loop-slot.invariant
