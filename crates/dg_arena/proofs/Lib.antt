@@ -6,3 +6,5 @@ pub mod Lending
 pub mod Options
 pub mod Vacancies
 pub mod Walks
+pub mod Filling
+pub mod ColumnCells

@@ -29,6 +29,11 @@ module _ {X : Type 0} where
   abbrev pub cell_at : List (Option (Row X)) → ℕ → Option (Row X)
   cell_at rows n = slice_index_or rows n None
 
+  -- the value that stands in a cell, if it is live
+  abbrev pub value_at : Option (Row X) → Option X
+  value_at None = None
+  value_at (Some r) = Some r.element
+
   -- the cell has the bit
   abbrev pub has_bit : Row X → ℕ → Bool
   has_bit r b = bit_at (slice_index_or r.bits (b / 64) 0) (b % 64) == 1

@@ -1,5 +1,5 @@
 //! A cell as it lies in memory.
-ghost use Rattle.std.specs.Prelude.{◌≡◌, false, Some, None, IfSome, IfNone};
+ghost use Rattle.std.specs.Prelude.{◌≡◌, false, Some};
 ghost use Rattle.dg_arena.specs.Cells.{shown, behind, is_live};
 
 use crate::row::Row;
@@ -41,12 +41,11 @@ pub(crate) fn link_to(next: Option<u32>) -> Link
 }
 
 // The row of a cell, if it is live.
-pub(crate) fn live_row<T>(cell: &Cell<T>) -> Option<&Row<T>>
-    ensures there { IfSome result (λ r. shown (Some cell.now) ≡ Some r.now) }
-    ensures vacant { IfNone result (shown (Some cell.now) ≡ None) }
+pub(crate) fn live_row<T: Copy>(cell: Cell<T>) -> Option<Row<T>>
+    ensures { result ≡ shown (Some cell) }
 {
     match cell.link {
-        Link::Live => Some(&cell.row),
+        Link::Live => Some(cell.row),
         Link::Last | Link::Next(_) => None,
     }
 }

@@ -1,11 +1,12 @@
 //! Numbered cells.
-ghost use Rattle.std.specs.Prelude.{◌≡◌, ℕ, ◌+◌, ◌<◌, ◌≤◌, ◌^◌, [], ◌∷◌, ◌++◌, Some, None, length, slice_set, IfSome, IfNone, IsSome, OnOk, OnErr};
+ghost use Rattle.std.specs.Prelude.{◌≡◌, ℕ, ◌+◌, ◌<◌, ◌≤◌, ◌^◌, [], ◌∷◌, ◌++◌, Some, None, length, slice_index_or, slice_set, IfSome, IfNone, IsSome, OnOk, OnErr};
 ghost use Rattle.std.specs.List.{All};
-ghost use Rattle.dg_arena.specs.Cells.{cell_at, has_bit, SetsBit, ClearsBits, Writes, Puts, Reuses, IsNext, lowest};
+ghost use Rattle.dg_arena.specs.Cells.{cell_at, value_at, has_bit, SetsBit, ClearsBits, WritesBits, Writes, Puts, Reuses, IsNext, lowest};
 
 use crate::cell::{Cell, Link, behind, link_to, live_row};
-use crate::row::{Row, has_bit, set_bit, without_bits};
-use crate::store::{CHUNK, Store};
+use crate::columns::{Columns, live_value};
+use crate::row::{Row, set_bit, with_masks, without_bits};
+use crate::store::CHUNK;
 use std::alloc::{AllocError, Global};
 use std::marker::Model;
 
@@ -16,7 +17,7 @@ const MOST: usize = 4_294_967_296;
 /// where they are as more come. Numbers are below 2^32, and those of vacant cells are used again.
 #[derive(Drop)]
 pub struct Rows<T> {
-    cells: Store<Cell<T>>,
+    cells: Columns<T>,
     len: usize,
     free: Option<u32>,
     spare: usize,
@@ -42,7 +43,7 @@ impl<T: Copy> Rows<T> {
         ensures vacancy { result.vacancy ≡ 0 }
     {
         Rows {
-            cells: Store::new(alloc),
+            cells: Columns::new(alloc),
             len: 0,
             free: None,
             spare: 0,
@@ -172,10 +173,21 @@ impl<T: Copy> Rows<T> {
         self.spare += 1;
     }
 
-    /// What stands in a live cell; none where the cell is vacant or there is none.
-    pub fn get(&self, n: usize) -> Option<&Row<T>>
-        ensures there { IfSome result (λ r. cell_at self.now.items n ≡ Some r.now) }
+    /// The value of a live cell; none where the cell is vacant or there is none.
+    pub fn get(&self, n: usize) -> Option<&T>
+        ensures there { IfSome result (λ x. value_at (cell_at self.now.items n) ≡ Some x.now) }
         ensures vacant { IfNone result (cell_at self.now.items n ≡ None) }
+    {
+        if n < self.len {
+            live_value(self.cells.spot(n))
+        } else {
+            None
+        }
+    }
+
+    /// What stands in a live cell, copied; none where the cell is vacant or there is none.
+    pub fn row_at(&self, n: usize) -> Option<Row<T>>
+        ensures { result ≡ cell_at self.now.items n }
     {
         if n < self.len {
             live_row(self.cells.get(n))
@@ -235,8 +247,8 @@ impl<T: Copy> Rows<T> {
         requires { IsSome (cell_at self.now.items n) }
         ensures { cell_at self.now.items n ≡ Some result }
     {
-        match self.get(n) {
-            Some(row) => *row,
+        match self.row_at(n) {
+            Some(row) => row,
             None => unreachable!(),
         }
     }
@@ -246,7 +258,10 @@ impl<T: Copy> Rows<T> {
         requires { IsSome (cell_at self.now.items n) }
         ensures { IfSome (cell_at self.now.items n) (λ r. result ≡ r.element) }
     {
-        self.row(n).element
+        match self.get(n) {
+            Some(value) => *value,
+            None => unreachable!(),
+        }
     }
 
     /// The 256 bits of a live cell, from the lowest on.
@@ -257,12 +272,21 @@ impl<T: Copy> Rows<T> {
         self.row(n).bits
     }
 
+    /// One of the four words of bits of a live cell; of the others nothing is read.
+    pub fn word(&self, n: usize, index: u8) -> u64
+        requires there { IsSome (cell_at self.now.items n) }
+        requires index { index < 4 }
+        ensures { IfSome (cell_at self.now.items n) (λ r. result ≡ slice_index_or r.bits index 0) }
+    {
+        self.cells.word(n, index)
+    }
+
     /// Whether a live cell has the bit.
     pub fn bit(&self, n: usize, bit: u8) -> bool
         requires { IsSome (cell_at self.now.items n) }
         ensures { IfSome (cell_at self.now.items n) (λ r. result ≡ has_bit r bit) }
     {
-        has_bit(&self.row(n), bit)
+        (self.word(n, bit / 64) >> (bit % 64)) & 1 == 1
     }
 
     /// Sets a bit of a live cell or puts it off.
@@ -282,5 +306,13 @@ impl<T: Copy> Rows<T> {
     {
         let row = self.row(n);
         self.write(n, without_bits(row, mask));
+    }
+    /// Sets the bits of a live cell that are in `on`, and puts off those that are in `off` alone.
+    pub fn write_masks(&mut self, n: usize, on: &[u64; 4], off: &[u64; 4])
+        requires { IsSome (cell_at self.old.items n) }
+        ensures { Writes self.old self.new n (WritesBits on.now off.now) }
+    {
+        let row = self.row(n);
+        self.write(n, with_masks(row, on, off));
     }
 }

@@ -9,8 +9,7 @@ use Rattle.dg_cells.specs.Pieces.{nth_piece}
 
 -- the element of a cell, if it is occupied
 abbrev pub cell_element : Option Row → Option Element
-cell_element None = None
-cell_element (Some r) = Some r.element
+cell_element = arena.value_at
 
 -- the elements of the cells with these numbers
 abbrev pub elements_in : List (Option Row) → List ℕ → List Element

@@ -3,7 +3,7 @@ ghost use Rattle.std.specs.Prelude.{◌≡◌, ℕ, ◌<◌, ◌≤◌, ◌==◌
 ghost use Rattle.dg_cells.specs.Rows.{Row, cell_at, is_current, pair, Writes, SetsCurrent, SetsPair, ClearsBits, WritesBits, Holds, Lacks, CellsAreApart, CellsGrow, Reuses, HasCell, AllHave, AreNumbers, AreAmong, new_rows};
 ghost use Rattle.std.specs.Prelude.{◌+◌, ◌^◌, min, slice_get};
 ghost use Rattle.dg_graph.specs.Elements.{IsSet};
-ghost use Rattle.dg_cells.specs.Order.{IsLower};
+ghost use Rattle.dg_cells.specs.Order.{IsLower, cell_element};
 ghost use Rattle.dg_cells.specs.Cursors.{ordered, ordered_elements, cursor_index};
 ghost use Rattle.std.specs.Option.{option_map};
 
@@ -12,9 +12,9 @@ use crate::cell_merge::merge;
 use crate::cursors::{self, Cursor};
 use crate::listing::{add, add_each, find_each, number_at, unlist};
 use crate::pieces::Pieces;
-use crate::positions::{START, row_in, seek};
-use crate::row::{Row, is_current, pair, set_current, set_pair};
-use dg_arena::{Rows, with_masks, without_bits};
+use crate::positions::{START, seek};
+use crate::row::{Row, set_current, set_pair, word_pair};
+use dg_arena::{Rows, without_bits};
 use dg_graph::Element;
 use std::alloc::{AllocError, Global};
 use std::marker::Model;
@@ -95,15 +95,32 @@ impl Cells {
     pub fn row(&self, n: usize) -> Option<Row>
         ensures { result ≡ cell_at self.now n }
     {
-        self.rows.get(n).copied()
+        self.rows.row_at(n)
     }
 
-    /// What stands in the cell, as `row` gives it, with no copy.
-    pub fn get(&self, n: usize) -> Option<&Row>
-        ensures there { IfSome result (λ r. cell_at self.now n ≡ Some r.now) }
+    /// The element of the cell; none where it is vacant or there is no such cell. Of the bits nothing is read.
+    pub fn element(&self, n: usize) -> Option<&Element>
+        ensures there { IfSome result (λ x. cell_element (cell_at self.now n) ≡ Some x.now) }
         ensures vacant { IfNone result (cell_at self.now n ≡ None) }
     {
-        row_in(&self.rows, n)
+        self.rows.get(n)
+    }
+
+    /// Whether the current graph has the element of an occupied cell.
+    pub fn is_current_at(&self, n: usize) -> bool
+        requires { IsSome (cell_at self.now n) }
+        ensures { IfSome (cell_at self.now n) (λ r. result ≡ is_current r) }
+    {
+        self.rows.bit(n, 0)
+    }
+
+    /// The two bits of the slot in an occupied cell. One of its four words is read.
+    pub fn pair_at(&self, n: usize, slot: u8) -> (bool, bool)
+        requires there { IsSome (cell_at self.now n) }
+        requires high { slot ≤ 127 }
+        ensures { IfSome (cell_at self.now n) (λ r. result ≡ pair slot r) }
+    {
+        word_pair(self.rows.word(n, slot / 32), slot)
     }
 
     /// Writes whether the current graph has the element of an occupied cell.
@@ -151,8 +168,7 @@ impl Cells {
         requires { IsSome (cell_at self.old n) }
         ensures { Writes self.old self.new n (WritesBits on.now off.now) }
     {
-        let row = self.rows.row(n);
-        self.rows.write(n, with_masks(row, on, off));
+        self.rows.write_masks(n, on, off);
     }
 
     /// Vacates the cell. Its number is used again. Takes no memory.
@@ -285,13 +301,14 @@ impl Cells {
         cursors::after(&self.rows, &self.order, cursor)
     }
 
-    /// What stands in the cell at which the cursor stands, and the cursor that `after` gives; none past the
-    /// last occupied cell. O(1), unless cells came or went since the cursor was made, and O(log n) then.
-    pub fn step(&self, cursor: Cursor) -> Option<(&Row, Cursor)>
-        ensures found { IfSome result (λ s. slice_get (ordered self.now) (cursor_index self.now cursor) ≡ Some s.0.now) }
+    /// The number of the cell at which the cursor stands, and the cursor that `after` gives; none past the last
+    /// occupied cell. O(1), unless cells came or went since the cursor was made, and O(log n) then.
+    pub fn step_number(&self, cursor: Cursor) -> Option<(usize, Cursor)>
+        ensures found { IfSome result (λ s. slice_get (ordered self.now) (cursor_index self.now cursor) ≡ cell_at self.now s.0) }
+        ensures there { IfSome result (λ s. IsSome (cell_at self.now s.0)) }
         ensures next { IfSome result (λ s. cursor_index self.now s.1 ≡ min (cursor_index self.now cursor + 1) (length (ordered self.now))) }
         ensures end { IfNone result (cursor_index self.now cursor ≡ length (ordered self.now)) }
     {
-        cursors::step(&self.rows, &self.order, cursor)
+        cursors::step_number(&self.rows, &self.order, cursor)
     }
 }

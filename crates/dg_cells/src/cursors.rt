@@ -7,8 +7,7 @@ ghost use Rattle.dg_cells.specs.Cursors.{ordered, ordered_elements, cursor_index
 
 use crate::listing::find;
 use crate::pieces::Pieces;
-use crate::positions::{Position, START, element, row_in, seek};
-use crate::row::Row;
+use crate::positions::{Position, START, element, seek};
 use dg_arena::Rows;
 use dg_graph::Element;
 
@@ -211,22 +210,20 @@ pub(crate) fn after(rows: &Rows<Element>, order: &Pieces, cursor: Cursor) -> Cur
     }
 }
 
-/// What stands in the cell at which the cursor stands, and the cursor at the next occupied cell.
-pub(crate) fn step<'a>(
-    rows: &'a Rows<Element>,
+/// The number of the cell at which the cursor stands, and the cursor at the next occupied cell.
+pub(crate) fn step_number(
+    rows: &Rows<Element>,
     order: &Pieces,
     cursor: Cursor,
-) -> Option<(&'a Row, Cursor)>
+) -> Option<(usize, Cursor)>
     requires { IsListed rows.now.items (strung order.now) }
-    ensures found { IfSome result (λ s. slice_get (ordered rows.now.items) (cursor_index rows.now.items cursor) ≡ Some s.0.now) }
+    ensures found { IfSome result (λ s. slice_get (ordered rows.now.items) (cursor_index rows.now.items cursor) ≡ cell_at rows.now.items s.0) }
+    ensures there { IfSome result (λ s. IsSome (cell_at rows.now.items s.0)) }
     ensures next { IfSome result (λ s. cursor_index rows.now.items s.1 ≡ min (cursor_index rows.now.items cursor + 1) (length (ordered rows.now.items))) }
     ensures end { IfNone result (cursor_index rows.now.items cursor ≡ length (ordered rows.now.items)) }
 {
-    match cursor.cell {
-        Some(n) => match row_in(rows, n) {
-            Some(row) => Some((row, behind(rows, order, n, cursor))),
-            None => None,
-        },
+    match at(rows, order, cursor) {
+        Some(n) => Some((n, behind(rows, order, n, cursor))),
         None => None,
     }
 }

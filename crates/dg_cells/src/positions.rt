@@ -6,7 +6,6 @@ ghost use Rattle.dg_cells.specs.Pieces.{strung, nth_piece, numbers_before, IsPos
 ghost use Rattle.dg_cells.specs.Order.{cell_element, elements_in, AreCells, IsOrder, IsLower, is_cell_before, is_index_before, is_piece_before};
 
 use crate::pieces::Pieces;
-use crate::row::Row;
 use dg_arena::Rows;
 use dg_event::compare;
 use dg_graph::Element;
@@ -30,21 +29,13 @@ pub(crate) fn behind(position: Position) -> Position {
     }
 }
 
-/// What stands in the cell.
-pub(crate) fn row_in(rows: &Rows<Element>, n: usize) -> Option<&Row>
-    ensures there { IfSome result (λ r. cell_at rows.now.items n ≡ Some r.now) }
-    ensures vacant { IfNone result (cell_at rows.now.items n ≡ None) }
-{
-    rows.get(n)
-}
-
 /// The element of an occupied cell.
 pub(crate) fn element(rows: &Rows<Element>, n: usize) -> Element
     requires { IsSome (cell_at rows.now.items n) }
     ensures { cell_element (cell_at rows.now.items n) ≡ Some result }
 {
     match rows.get(n) {
-        Some(row) => row.element,
+        Some(element) => *element,
         None => unreachable!(),
     }
 }
@@ -55,7 +46,7 @@ fn has_element(rows: &Rows<Element>, n: usize, x: &Element) -> bool
     ensures has_not { result ≡ false → cell_element (cell_at rows.now.items n) ≡ Some x.now → ⊥ }
 {
     match rows.get(n) {
-        Some(row) => compare(x, &row.element).is_eq(),
+        Some(element) => compare(x, element).is_eq(),
         None => false,
     }
 }
@@ -88,7 +79,7 @@ fn compare_at(rows: &Rows<Element>, n: usize, x: &Element) -> Ordering
     ensures differs { is_eq result ≡ false → cell_element (cell_at rows.now.items n) ≡ Some x.now → ⊥ }
 {
     match rows.get(n) {
-        Some(row) => compare(&row.element, x),
+        Some(element) => compare(element, x),
         None => unreachable!(),
     }
 }

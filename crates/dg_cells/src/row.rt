@@ -1,6 +1,6 @@
 //! A cell's element and its bits.
-ghost use Rattle.std.specs.Prelude.{◌≡◌, ◌≤◌};
-ghost use Rattle.dg_cells.specs.Rows.{is_current, pair, SetsCurrent, SetsPair, IsBare, new_row};
+ghost use Rattle.std.specs.Prelude.{◌≡◌, ◌≤◌, ◌/◌, slice_index_or};
+ghost use Rattle.dg_cells.specs.Rows.{Row, is_current, pair, SetsCurrent, SetsPair, IsBare, new_row};
 
 use dg_arena::{has_bit, set_bit};
 use dg_graph::Element;
@@ -21,6 +21,15 @@ pub fn pair(row: &Row, slot: u8) -> (bool, bool)
     ensures { result ≡ pair slot row.now }
 {
     (has_bit(row, 2 * slot), has_bit(row, 2 * slot + 1))
+}
+
+/// The two bits of the slot in the word that has them.
+pub(crate) fn word_pair(word: u64, slot: u8) -> (bool, bool)
+    requires { slot ≤ 127 }
+    ensures { (r : Row) → word ≡ slice_index_or r.bits (slot / 32) 0 → result ≡ pair slot r }
+{
+    let low = 2 * (slot % 32);
+    ((word >> low) & 1 == 1, (word >> (low + 1)) & 1 == 1)
 }
 
 /// Sets the bit of the current graph or puts it off.

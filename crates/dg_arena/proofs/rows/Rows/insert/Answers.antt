@@ -24,7 +24,7 @@ invariant_of-self g c =
     let i = c.self.inside in
     let n = c.in-Some.first in
     let some : 1 ≤ i.spare = subst (λ k. 1 ≤ k) (sym (ap (λ m. m.spare) c.self.view_is)) c.requires in
-    let kept = reused i.cells i.len n i.spare i.free c.get.result.now c.args.row c.self.invariant c.in-Some.is c.get.ensures some in
+    let kept = reused i.cells i.len n i.spare i.free c.get.result c.args.row c.self.invariant c.in-Some.is c.get.ensures some in
     subst (λ l. IsArena l i.len c.behind-self-inside.result (i.spare - 1)) (sym c.write.ensures)
     (subst (λ h. IsArena (set i.cells n (Some (live c.args.row))) i.len h (i.spare - 1)) (sym c.behind-self-inside.ensures) kept)
 
@@ -47,7 +47,7 @@ returns-in-Some-clause-puts g c =
     let i = c.self.inside in
     let n = c.in-Some.first in
     let some : 1 ≤ i.spare = subst (λ k. 1 ≤ k) (sym (ap (λ m. m.spare) c.self.view_is)) c.requires in
-    let kept = reused i.cells i.len n i.spare i.free c.get.result.now c.args.row c.self.invariant c.in-Some.is c.get.ensures some in
+    let kept = reused i.cells i.len n i.spare i.free c.get.result c.args.row c.self.invariant c.in-Some.is c.get.ensures some in
     let first = first_there i.cells i.len n i.spare i.free c.self.invariant c.in-Some.is in
     let all = puts i.cells i.len i.len n c.args.row c.self.invariant.unfilled kept.unfilled (stands_within i.cells n first.0 first.1) (ap shown first.1 ∙ first.2) in
     subst (λ l. Puts l (rows_of c.write.new.self i.len) n c.args.row) (ap (λ m. m.items) c.self.view_is)
@@ -68,7 +68,7 @@ returns-in-Some-clause-reuses g c =
     let i = c.self.inside in
     let n = c.in-Some.first in
     let some : 1 ≤ i.spare = subst (λ k. 1 ≤ k) (sym (ap (λ m. m.spare) c.self.view_is)) c.requires in
-    let kept = reused i.cells i.len n i.spare i.free c.get.result.now c.args.row c.self.invariant c.in-Some.is c.get.ensures some in
+    let kept = reused i.cells i.len n i.spare i.free c.get.result c.args.row c.self.invariant c.in-Some.is c.get.ensures some in
     let was : length c.args.self.now.items ≡ i.len = sym (ap (λ m. length m.items) c.self.view_is) ∙ shown_length i.cells i.len c.self.invariant.within in
     reuses_first c.args.self.now.items c.write.new.self i.len was (subst (λ l. i.len ≤ length l) (sym c.write.ensures) kept.within)
 
