@@ -4,8 +4,9 @@ use Rattle.std.proofs.lemmas.List.{length-set, map-set, get_or_append_left, leng
 use Rattle.std.specs.Prelude.{Option, Some, None, IsSome}
 use Rattle.dg_arena.specs.declared.row.Row.{Row}
 use Rattle.dg_arena.specs.declared.cell.Cell.{Cell}
-use Rattle.dg_arena.specs.declared.cell.Link.TheVariants.{Live}
-use Rattle.dg_arena.specs.Cells.{CellMap, cell_at, Puts, Reuses, shown, rows_of, taken_next, vacant, place, behind, Stands, IsChain, IsArena}
+use Rattle.dg_arena.specs.declared.cell.Link.{Link}
+use Rattle.dg_arena.specs.declared.cell.Link.TheVariants.{Live, Last, Next}
+use Rattle.dg_arena.specs.Cells.{CellMap, cell_at, Puts, Reuses, shown, rows_of, taken_next, vacant, live_row, place, behind, Stands, IsChain, IsArena}
 use Rattle.dg_arena.proofs.Options.{holds, stands_within}
 use Rattle.dg_arena.proofs.Vacancies.{same_or_not, below_or_not, set_other, set_same, none_behind, vacant_at_most, vacant_taken, vacant_given, vacant_written, vacant_more, none_vacant, shown_at, shown_length, shown_all, chain_vacant, chain_kept, chain_longer}
 
@@ -279,3 +280,12 @@ module _ {X : Type 0} where
       by : (o : Option (Cell X)) → place cells n ≡ o → (c : Cell X) × (q : Row X) × (place cells n ≡ Some c) × (shown (Some c) ≡ Some q)
       by None e = let no : IsSome {T = Row X} None = subst IsSome (is ∙ ap shown e) there in cc
       by (Some c) e = let q = holds (shown (Some c)) (subst IsSome (is ∙ ap shown e) there) in (c, q.0, e, q.1)
+
+  -- a cell with the link of a live one is live
+  pub live_by : (b a : Cell X) (q : Row X) → a.link ≡ b.link → shown (Some b) ≡ Some q → (a ≡ live a.row) × (shown (Some b) ≡ Some b.row)
+  live_by b a q same was = by b.link refl
+    where
+      by : (l : Link) → b.link ≡ l → (a ≡ live a.row) × (shown (Some b) ≡ Some b.row)
+      by Live e = ((λ i. record { row = a.row; link = (same ∙ e) i }), ap (λ l. live_row l b.row) e)
+      by Last e = let no : None ≡ Some q = sym (ap (λ l. live_row l b.row) e) ∙ was in cc
+      by (Next n) e = let no : None ≡ Some q = sym (ap (λ l. live_row l b.row) e) ∙ was in cc

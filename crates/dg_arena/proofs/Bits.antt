@@ -1,9 +1,11 @@
 -- What a write of one bit leaves of the others, and what a write by masks leaves.
 use Rattle.std.specs.Prelude.{bit_and, bit_or}
 use Rattle.std.proofs.lemmas.Nat.Bits.{bit_at_and, bit_at_or, bit_at_not, bit_at-lt, bit_at-zero}
-use Rattle.std.proofs.Common.{w64, ◌^◌, ◌-◌, suc, zero, min, max, not, ◌&&◌, ◌||◌, [], ◌∷◌, ◌≡◌, ℕ, ◌/◌, ◌%◌, ◌<◌, Bool, cond, eqb, List, length, get_or, set, refl, sym, ap, ◌∙◌, ◌⊎◌, inl, inr, arith}
+use Rattle.std.proofs.Common.{true, false, w64, ◌^◌, ◌-◌, suc, zero, min, max, not, ◌&&◌, ◌||◌, [], ◌∷◌, ◌≡◌, ℕ, ◌/◌, ◌%◌, ◌<◌, Bool, cond, eqb, List, length, get_or, set, refl, sym, ap, ◌∙◌, ◌⊎◌, inl, inr, arith}
 use Rattle.std.specs.Int.{bit_at}
-use Rattle.std.proofs.lemmas.Bool.{cases_eq, eq-eqb, ne_eqb}
+use Rattle.std.proofs.lemmas.Nat.{le_or_l, le_or_r}
+use Rattle.dg_arena.specs.Columns.{masked}
+use Rattle.std.proofs.lemmas.Bool.{cases_eq, eqb-true, eq-eqb, ne_eqb}
 use Rattle.std.proofs.lemmas.List.{get_or-set_same, get_or-set_other, get_or_past}
 
 abbrev pub bit_in : List ℕ → ℕ → Bool
@@ -114,3 +116,38 @@ module _ (bs ms os : List ℕ) (b_len : length bs ≡ 4) (o_len : length os ≡ 
 
   pub all_put : (b : ℕ) → bit_in (put 0 ∷ put 1 ∷ put 2 ∷ put 3 ∷ []) b ≡ (bit_in os b || (bit_in bs b && not (bit_in ms b)))
   all_put b = on_in (b / 64) (b % 64) (omega arith)
+
+-- ---- the same, where a word that neither mask touches is left
+
+masked_word : (x m o i : ℕ) → m < 2 ^ 64 → i < 64 → (t : Bool) → eqb (bit_or o m) 0 ≡ t → eqb (bit_at (cond t x (bit_or (bit_and x (18446744073709551615 - m)) o)) i) 1 ≡ (eqb (bit_at o i) 1 || (eqb (bit_at x i) 1 && not (eqb (bit_at m i) 1)))
+masked_word x m o i h g false e = put_on x m o i h g
+masked_word x m o i h g true e =
+    let none = eqb-true (bit_or o m) 0 e in
+    let low = le_or_l o m in
+    let high = le_or_r o m in
+    let no_on : o ≡ 0 = omega (arith, none, low) in
+    let no_off : m ≡ 0 = omega (arith, none, high) in
+    sym ((λ j. eqb (bit_at (no_on j) i) 1 || (eqb (bit_at x i) 1 && not (eqb (bit_at (no_off j) i) 1))) ∙ ap (λ n. eqb n 1 || (eqb (bit_at x i) 1 && not (eqb n 1))) (bit_at-zero i) ∙ stays (eqb (bit_at x i) 1))
+  where
+    stays : (b : Bool) → (false || (b && not false)) ≡ b
+    stays true = refl
+    stays false = refl
+
+module _ (bs ms os : List ℕ) (o_len : length os ≡ 4) (first : get_or ms 0 0 < 2 ^ 64) (second : get_or ms 1 0 < 2 ^ 64) (third : get_or ms 2 0 < 2 ^ 64) (fourth : get_or ms 3 0 < 2 ^ 64) (b_len : length bs ≡ 4) where
+  abbrev mask_put : ℕ → ℕ
+  mask_put w = masked (get_or os w 0) (get_or ms w 0) (get_or bs w 0)
+
+  masked_in : (w i : ℕ) → i < 64 → eqb (bit_at (get_or (mask_put 0 ∷ mask_put 1 ∷ mask_put 2 ∷ mask_put 3 ∷ []) w 0) i) 1 ≡ (eqb (bit_at (get_or os w 0) i) 1 || (eqb (bit_at (get_or bs w 0) i) 1 && not (eqb (bit_at (get_or ms w 0) i) 1)))
+  masked_in zero i h = masked_word (get_or bs 0 0) (get_or ms 0 0) (get_or os 0 0) i first h (eqb (bit_or (get_or os 0 0) (get_or ms 0 0)) 0) refl
+  masked_in (suc zero) i h = masked_word (get_or bs 1 0) (get_or ms 1 0) (get_or os 1 0) i second h (eqb (bit_or (get_or os 1 0) (get_or ms 1 0)) 0) refl
+  masked_in (suc (suc zero)) i h = masked_word (get_or bs 2 0) (get_or ms 2 0) (get_or os 2 0) i third h (eqb (bit_or (get_or os 2 0) (get_or ms 2 0)) 0) refl
+  masked_in (suc (suc (suc zero))) i h = masked_word (get_or bs 3 0) (get_or ms 3 0) (get_or os 3 0) i fourth h (eqb (bit_or (get_or os 3 0) (get_or ms 3 0)) 0) refl
+  masked_in (suc (suc (suc (suc w)))) i h =
+      let none = get_or_past bs (suc (suc (suc (suc w)))) 0 (omega arith) in
+      let nor = get_or_past os (suc (suc (suc (suc w)))) 0 (omega arith) in
+      ap (λ n. eqb n 1) (bit_at-zero i)
+      ∙ sym ((λ j. eqb (bit_at (nor j) i) 1 || (eqb (bit_at (none j) i) 1 && not (eqb (bit_at (get_or ms (suc (suc (suc (suc w)))) 0) i) 1)))
+      ∙ ap (λ n. eqb n 1 || (eqb n 1 && not (eqb (bit_at (get_or ms (suc (suc (suc (suc w)))) 0) i) 1))) (bit_at-zero i))
+
+  pub all_masked : (b : ℕ) → bit_in (mask_put 0 ∷ mask_put 1 ∷ mask_put 2 ∷ mask_put 3 ∷ []) b ≡ (bit_in os b || (bit_in bs b && not (bit_in ms b)))
+  all_masked b = masked_in (b / 64) (b % 64) (omega arith)

@@ -1,12 +1,12 @@
 -- Cells in columns.
-use Rattle.std.specs.Prelude.{◌≡◌, ℕ, List, [], ◌∷◌, drop, Option, Some, None, slice_index_or, refl}
+use Rattle.std.specs.Prelude.{◌≡◌, ◌==◌, ◌-◌, ℕ, List, [], ◌∷◌, drop, Option, Some, None, slice_index_or, slice_set, if◌then◌else◌, bit_and, bit_or, refl}
 use Rattle.std.specs.Coded.{Coded, code_by, coded×, coded_list, coded_option, coded_ℕ}
 use Rattle.dg_arena.specs.declared.row.Row.{Row}
 use Rattle.dg_arena.specs.declared.cell.Cell.{Cell}
 use Rattle.dg_arena.specs.declared.cell.Link.{Link}
 use Rattle.dg_arena.specs.declared.cell.Link.TheVariants.{Live, Last, Next}
 use Rattle.dg_arena.specs.declared.columns.Spot.{Spot}
-use Rattle.dg_arena.specs.Cells.{row_code}
+use Rattle.dg_arena.specs.Cells.{row_code, place}
 
 -- the first four words
 abbrev pub words : List ℕ → List ℕ → List ℕ → List ℕ → ℕ → List ℕ
@@ -43,3 +43,17 @@ module _ {X : Type 0} where
   abbrev pub cells_of : List (Option (Spot X)) → List ℕ → List ℕ → List ℕ → List ℕ → List (Option (Cell X))
   cells_of [] a b c d = []
   cells_of (s ∷ ss) a b c d = cell_with s (words a b c d 0) ∷ cells_of ss (drop 1 a) (drop 1 b) (drop 1 c) (drop 1 d)
+
+-- a word with the bits of one mask, and without those of another that are not in the first; as it is where neither has a bit
+abbrev pub masked : ℕ → ℕ → ℕ → ℕ
+masked on off w = if bit_or on off == 0 then w else bit_or (bit_and w (18446744073709551615 - off)) on
+
+module _ {X : Type 0} where
+  -- the row of the cell in a place is written so; its link and all other cells stay
+  pub record RewritesRow (old new : List (Option (Cell X))) (n : ℕ) (How : Row X → Row X → Type 0) : Type 0 where
+    pub before : Cell X
+    pub after : Cell X
+    pub was : place old n ≡ Some before
+    pub is : new ≡ slice_set old n (Some after)
+    pub link : after.link ≡ before.link
+    pub how : How before.row after.row

@@ -1,7 +1,7 @@
 //! Numbered places for cells, in columns: the values with their links in one, and each word of bits in one of its own.
 ghost use Rattle.std.specs.Prelude.{◌≡◌, ℕ, ◌+◌, ◌*◌, ◌<◌, ◌≤◌, ◌^◌, List, Some, None, [], ◌++◌, length, replicate, slice_index_or, slice_set, IsSome, IfSome, IfNone, OnOk, OnErr};
-ghost use Rattle.dg_arena.specs.Cells.{shown, value_at};
-ghost use Rattle.dg_arena.specs.Columns.{cell_with};
+ghost use Rattle.dg_arena.specs.Cells.{shown, value_at, WritesBits};
+ghost use Rattle.dg_arena.specs.Columns.{cell_with, masked, RewritesRow};
 
 use crate::cell::{Cell, Link};
 use crate::row::Row;
@@ -53,6 +53,18 @@ fn lengthen(words: &mut Words, len: usize) -> Result<(), AllocError>
         return Ok(());
     }
     words.grow((len - had) / CHUNK + 1)
+}
+
+// Writes a word with the bits of `on`, and without those of `off` alone. Where neither has a bit, nothing is read.
+fn write_word(words: &mut Words, n: usize, on: u64, off: u64)
+    requires { n < length words.old }
+    ensures { words.new ≡ slice_set words.old n (masked on off (slice_index_or words.old n 0)) }
+{
+    if on | off == 0 {
+        return;
+    }
+    let word = words.word(n);
+    words.set(n, (word & !off) | on);
 }
 
 // The value of a cell, if it is live.
@@ -166,5 +178,16 @@ impl<T: Copy> Columns<T> {
             2 => self.third.word(n),
             _ => self.fourth.word(n),
         }
+    }
+    /// Sets the bits of the cell in a place that are in `on`, and puts off those that are in `off` alone. A word of which
+    /// neither has a bit is not read.
+    pub(crate) fn write_masks(&mut self, n: usize, on: &[u64; 4], off: &[u64; 4])
+        requires { IsSome (slice_index_or self.old n None) }
+        ensures { RewritesRow self.old self.new n (WritesBits on.now off.now) }
+    {
+        write_word(&mut self.first, n, on[0], off[0]);
+        write_word(&mut self.second, n, on[1], off[1]);
+        write_word(&mut self.third, n, on[2], off[2]);
+        write_word(&mut self.fourth, n, on[3], off[3]);
     }
 }

@@ -5,7 +5,7 @@ ghost use Rattle.dg_arena.specs.Cells.{cell_at, value_at, has_bit, SetsBit, Clea
 
 use crate::cell::{Cell, Link, behind, link_to, live_row};
 use crate::columns::{Columns, live_value};
-use crate::row::{Row, set_bit, with_masks, without_bits};
+use crate::row::{Row, set_bit, without_bits};
 use crate::store::CHUNK;
 use std::alloc::{AllocError, Global};
 use std::marker::Model;
@@ -312,7 +312,6 @@ impl<T: Copy> Rows<T> {
         requires { IsSome (cell_at self.old.items n) }
         ensures { Writes self.old self.new n (WritesBits on.now off.now) }
     {
-        let row = self.row(n);
-        self.write(n, with_masks(row, on, off));
+        self.cells.write_masks(n, on, off);
     }
 }

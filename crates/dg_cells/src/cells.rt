@@ -1,5 +1,5 @@
 //! The cells of the pool.
-ghost use Rattle.std.specs.Prelude.{◌≡◌, ℕ, ◌<◌, ◌≤◌, ◌==◌, Bool, true, false, List, Option, Some, None, [], ◌∷◌, ◌++◌, length, IfSome, IfNone, IsSome, IfOk, OnErr, OnOk, slice_set};
+ghost use Rattle.std.specs.Prelude.{◌≡◌, ℕ, ◌<◌, ◌≤◌, ◌==◌, Bool, true, false, List, Option, Some, None, [], ◌∷◌, ◌++◌, length, IfSome, IfNone, IsSome, is_some, IfOk, OnErr, OnOk, slice_set};
 ghost use Rattle.dg_cells.specs.Rows.{Row, cell_at, is_current, pair, Writes, SetsCurrent, SetsPair, ClearsBits, WritesBits, Holds, Lacks, CellsAreApart, CellsGrow, Reuses, HasCell, AllHave, AreNumbers, AreAmong, new_rows};
 ghost use Rattle.std.specs.Prelude.{◌+◌, ◌^◌, min, slice_get};
 ghost use Rattle.dg_graph.specs.Elements.{IsSet};
@@ -96,6 +96,13 @@ impl Cells {
         ensures { result ≡ cell_at self.now n }
     {
         self.rows.row_at(n)
+    }
+
+    /// Whether there is such a cell and it is occupied.
+    pub fn is_occupied(&self, n: usize) -> bool
+        ensures { result ≡ is_some (cell_at self.now n) }
+    {
+        self.rows.get(n).is_some()
     }
 
     /// The element of the cell; none where it is vacant or there is no such cell. Of the bits nothing is read.

@@ -11,7 +11,7 @@ use Rattle.dg_graph.specs.Elements.{IsSet, IsBelowFirst, has, same, before, with
 use Rattle.dg_graph.proofs.Sets.{same_members, same_itself, element_exact, before_trans, IsBelowFirst-trans}
 use Rattle.dg_cells.specs.declared.cursors.Cursor.{Cursor}
 use Rattle.dg_cells.specs.Rows.{Row, cell_at, CellsAreApart, Lacks}
-use Rattle.dg_cells.specs.Order.{IsLower}
+use Rattle.dg_cells.specs.Order.{IsLower, cell_element}
 use Rattle.dg_cells.specs.Cursors.{ordered, ordered_elements, cursor_index, index_of_row, row_at}
 use Rattle.dg_pool.specs.declared.slots.SlotState.{SlotState}
 use Rattle.dg_pool.specs.declared.slots.SlotState.TheVariants as state
@@ -268,3 +268,9 @@ module _ (p : PoolState) (apart : CellsAreApart p.rows) (rises : IsSet (ordered_
   pub next_none : (s : ℕ) (c : Cursor) (last : Option Element) (o : Option (Element × Cursor)) → IfNone o (up_to (passing_from (in_state s (slot_at p.slots s)) p.rows c) last ≡ []) → IfNone o (up_to (members_from p s c) last ≡ [])
   next_none s c last None h = ap (λ set. up_to set last) (members_from_is s c) ∙ h
   next_none s c last (Some m) h = h
+
+-- ---- a cell by its element
+
+pub row_of : (o : Option Row) (x : Element) → cell_element o ≡ Some x → (r : Row) × (o ≡ Some r) × (r.element ≡ x)
+row_of None x e = cc
+row_of (Some r) x e = (r, refl, (let both : Some r.element ≡ Some x = e in cc))

@@ -54,8 +54,8 @@ fn write_cell(cells: &mut Cells, counts: &mut [Counts; 128], targets: &Targets, 
     cells.facts();
     // no graph has more elements than there are cells, so the counts fit
     let _most = cells.len();
-    match cells.get(n) {
-        Some(row) => recount(counts, targets, row, own),
+    match cells.row(n) {
+        Some(row) => recount(counts, targets, &row, own),
         None => unreachable!(),
     }
     set_pairs(cells, targets, n, own);

@@ -16,7 +16,7 @@ pub(crate) fn count_all(cells: &Cells) -> u64
 {
     let mut count = 0;
     for n in 0..cells.len() {
-        if cells.row(n).is_some() {
+        if cells.is_occupied(n) {
             count += 1;
         }
     }

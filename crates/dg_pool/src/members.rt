@@ -1,46 +1,60 @@
 //! Which graphs have the element of a cell, and walks over the cells of a graph in the order of elements.
-ghost use Rattle.std.specs.Prelude.{◌≡◌, ◌≤◌, false, [], ◌∷◌, IfSome, IfNone};
+ghost use Rattle.std.specs.Prelude.{◌≡◌, ◌≤◌, false, Some, [], ◌∷◌, IsSome, IfSome, IfNone};
 ghost use Rattle.dg_graph.specs.declared.element.Columns.{Columns};
 ghost use Rattle.dg_pool.specs.declared.slots.Base.TheVariants as bases;
 ghost use Rattle.dg_pool.specs.declared.slots.Slot.{Slot};
 ghost use Rattle.dg_pool.specs.declared.slots.SlotState.TheVariants as states;
+ghost use Rattle.dg_cells.specs.Rows.{cell_at};
+ghost use Rattle.dg_cells.specs.Order.{cell_element};
 ghost use Rattle.dg_pool.specs.Graphs.{in_base};
 ghost use Rattle.dg_pool.specs.Sweeps.{in_state};
 ghost use Rattle.dg_pool.specs.Listing.{is_behind, passing_from, up_to};
 
 use crate::slots::{Base, SlotState};
-use dg_cells::{Cells, Cursor, Row, is_current, pair};
+use dg_cells::{Cells, Cursor};
 use dg_event::{asks, column_of, compare};
 use dg_graph::Element;
 
-/// Whether the base has the cell's element, by the bits alone.
-pub(crate) fn in_base(row: &Row, base: Base) -> bool
-    requires { (b : Slot) → base ≡ bases.Slot b → b.0 ≤ 127 }
-    ensures { result ≡ in_base base row.now }
+/// Whether the base has the element of an occupied cell, by the bits alone.
+fn in_base(cells: &Cells, n: usize, base: Base) -> bool
+    requires there { IsSome (cell_at cells.now n) }
+    requires slot { (b : Slot) → base ≡ bases.Slot b → b.0 ≤ 127 }
+    ensures { IfSome (cell_at cells.now n) (λ r. result ≡ in_base base r) }
 {
     match base {
         Base::Nothing => false,
-        Base::Now => is_current(row),
+        Base::Now => cells.is_current_at(n),
         Base::Slot(b) => {
-            let (explicit, own) = pair(row, b.0);
+            let (explicit, own) = cells.pair_at(n, b.0);
             explicit && own
         }
     }
 }
 
-/// Whether the slot's graph has the cell's element.
-pub(crate) fn has_member(row: &Row, state: SlotState, slot: u8) -> bool
+/// Whether the slot's graph has the element, which stands in the cell.
+pub(crate) fn has_member(
+    cells: &Cells,
+    n: usize,
+    element: &Element,
+    state: SlotState,
+    slot: u8,
+) -> bool
+    requires element { cell_element (cell_at cells.now n) ≡ Some element.now }
     requires slot { slot ≤ 127 }
     requires base { (b : Slot) (cols : Columns) → state ≡ states.Live (bases.Slot b) cols → b.0 ≤ 127 }
-    ensures { result ≡ in_state slot state row.now }
+    ensures { IfSome (cell_at cells.now n) (λ r. result ≡ in_state slot state r) }
 {
     match state {
         SlotState::Live { base, cols } => {
-            if !asks(cols, column_of(&row.element)) {
+            if !asks(cols, column_of(element)) {
                 return false;
             }
-            let (explicit, own) = pair(row, slot);
-            if explicit { own } else { in_base(row, base) }
+            let (explicit, own) = cells.pair_at(n, slot);
+            if explicit {
+                own
+            } else {
+                in_base(cells, n, base)
+            }
         }
         _ => false,
     }
@@ -73,12 +87,15 @@ pub(crate) fn next_member(
 {
     cells.order_facts();
     let mut cursor = from;
-    while let Some((row, behind)) = cells.step(cursor) {
-        if is_behind(last, &row.element) {
+    while let Some((n, behind)) = cells.step_number(cursor) {
+        let Some(element) = cells.element(n) else {
+            unreachable!()
+        };
+        if is_behind(last, element) {
             return None;
         }
-        if has_member(row, state, slot) {
-            return Some((row.element, behind));
+        if has_member(cells, n, element, state, slot) {
+            return Some((*element, behind));
         }
         cursor = behind;
     }

@@ -24,7 +24,7 @@ use crate::slots::{
     start,
 };
 use crate::sweep::sweep;
-use dg_cells::{Cells, Cursor, is_current};
+use dg_cells::{Cells, Cursor};
 use dg_delta::Delta;
 use dg_graph::{Columns, Element, Event};
 use dg_query::Counts;
@@ -411,10 +411,7 @@ impl Pool {
     {
         self.cells.facts();
         match self.cells.find(element) {
-            Some(n) => match self.cells.row(n) {
-                Some(row) => is_current(&row),
-                None => unreachable!(),
-            },
+            Some(n) => self.cells.is_current_at(n),
             None => false,
         }
     }
@@ -426,10 +423,7 @@ impl Pool {
     {
         self.cells.facts();
         match self.cells.find(element) {
-            Some(n) => match self.cells.row(n) {
-                Some(row) => has_member(&row, self.slots[slot.0 as usize], slot.0),
-                None => unreachable!(),
-            },
+            Some(n) => has_member(&self.cells, n, element, self.slots[slot.0 as usize], slot.0),
             None => false,
         }
     }

@@ -60,7 +60,7 @@ pub(crate) fn sweep(cells: &mut Cells, slots: &[SlotState; 128], from: usize, co
     let mut n = from;
     let mut left = count;
     while n < cells.len() {
-        if cells.row(n).is_some() {
+        if cells.is_occupied(n) {
             if left == 0 {
                 return n;
             }

@@ -6,14 +6,13 @@ ghost use Rattle.dg_pool.specs.declared.slots.Base.TheVariants as bases;
 ghost use Rattle.dg_pool.specs.declared.slots.Slot.{Slot};
 ghost use Rattle.dg_pool.specs.declared.slots.SlotState.TheVariants as states;
 ghost use Rattle.dg_graph.specs.Elements.{column_of};
-ghost use Rattle.dg_pool.specs.Graphs.{is_listed, is_on_now, slot_at};
+ghost use Rattle.dg_pool.specs.Graphs.{is_listed, in_base, is_on_now, slot_at};
 ghost use Rattle.dg_pool.specs.Masks.{is_asking};
 ghost use Rattle.dg_pool.specs.Changes.{numbers_of, AreChangeable, AreTargets, AreMarks, IsMarked, AreMoved, moves, base_has, is_on_slot};
 
 use crate::masks::{is_asking, put_bit};
-use crate::members::in_base;
 use crate::slots::{Base, Slot, SlotState, is_on_now};
-use dg_cells::{Row, is_current};
+use dg_cells::{Row, is_current, pair};
 use dg_event::column_of;
 use dg_graph::Column;
 
@@ -138,6 +137,21 @@ fn asking(targets: &Targets, column: Column) -> [u64; 4]
         Column::NodeAttr => targets.node_attr,
         Column::EdgeAttr => targets.edge_attr,
         Column::Transient => targets.transient,
+    }
+}
+
+// Whether the base has the cell's element, by the bits alone.
+fn in_base(row: &Row, base: Base) -> bool
+    requires { (b : Slot) → base ≡ bases.Slot b → b.0 ≤ 127 }
+    ensures { result ≡ in_base base row.now }
+{
+    match base {
+        Base::Nothing => false,
+        Base::Now => is_current(row),
+        Base::Slot(b) => {
+            let (explicit, own) = pair(row, b.0);
+            explicit && own
+        }
     }
 }
 

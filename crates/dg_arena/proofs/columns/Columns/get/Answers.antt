@@ -1,6 +1,6 @@
 use Rattle.std.proofs.Common.{get_or, ◌∷◌, [], ap, sym, ◌∙◌, ◌≡◌, subst}
 use Rattle.std.specs.Prelude.{Some, None, IsSome}
-use Rattle.dg_arena.specs.Columns.{words, cell_with, cells_of}
+use Rattle.dg_arena.specs.Columns.{words, cell_with}
 use Rattle.dg_arena.proofs.ColumnCells.{cell_at, some_spot}
 use Rattle.dg_arena.proofs.columns.Columns.get.Goals as goal
 

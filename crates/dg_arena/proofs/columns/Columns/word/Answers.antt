@@ -1,8 +1,8 @@
-use Rattle.std.proofs.Common.{get_or, ap, sym, ◌∙◌, ◌≡◌, ◌<◌, ℕ, List, [], ◌∷◌, length, subst, arith}
-use Rattle.std.specs.Prelude.{Option, Some, None, IsSome, IfSome}
+use Rattle.std.proofs.Common.{get_or, ap, sym, ◌∙◌, ◌≡◌, subst, arith}
+use Rattle.std.specs.Prelude.{None, IsSome, IfSome}
 use Rattle.dg_arena.specs.declared.cell.Cell.{Cell}
-use Rattle.dg_arena.specs.Columns.{words, cell_with, cells_of}
-use Rattle.dg_arena.proofs.ColumnCells.{cell_at, has_spot, word_in}
+use Rattle.dg_arena.specs.Columns.{words}
+use Rattle.dg_arena.proofs.ColumnCells.{has_spot, word_in}
 use Rattle.dg_arena.proofs.columns.Columns.word.Goals as goal
 
 pub word-requires : goal.word-requires

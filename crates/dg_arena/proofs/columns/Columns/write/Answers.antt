@@ -1,7 +1,7 @@
-use Rattle.std.proofs.Common.{arith, ◌≡◌, ◌<◌, get_or, set, ◌∷◌, [], length, ap, sym, ◌∙◌, subst}
-use Rattle.std.specs.Prelude.{Some, None}
+use Rattle.std.proofs.Common.{arith, ◌<◌, get_or, set, length, ap, sym, ◌∙◌, subst}
+use Rattle.std.specs.Prelude.{Some}
 use Rattle.dg_arena.specs.declared.columns.Spot.{Spot}
-use Rattle.dg_arena.specs.Columns.{words, cell_with, cells_of}
+use Rattle.dg_arena.specs.Columns.{cell_with, cells_of}
 use Rattle.dg_arena.proofs.ColumnCells.{length-cells, cell_set, four}
 use Rattle.dg_arena.proofs.columns.Columns.write.Goals as goal
 

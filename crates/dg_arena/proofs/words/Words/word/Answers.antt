@@ -1,4 +1,4 @@
-use Rattle.std.proofs.Common.{length, get_or, map, ap, sym, ◌∙◌, ◌<◌, subst}
+use Rattle.std.proofs.Common.{length, get_or, ap, sym, ◌∙◌, ◌<◌, subst}
 use Rattle.std.specs.Prelude.{None}
 use Rattle.dg_arena.specs.Words.{word_of}
 use Rattle.dg_arena.proofs.Filling.{word_at}

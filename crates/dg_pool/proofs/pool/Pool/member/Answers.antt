@@ -1,22 +1,27 @@
-use Rattle.std.proofs.Common.{◌≡◌, Some, sym, ap, ◌∙◌}
+use Rattle.std.proofs.Common.{◌≡◌, Option, Some, sym, ap, subst, ◌∙◌}
+use Rattle.std.specs.Prelude.{IfSome}
 use Rattle.dg_graph.specs.Elements.{has}
-use Rattle.dg_cells.specs.Rows.{cell_at}
+use Rattle.dg_cells.specs.Rows.{Row}
+use Rattle.dg_cells.specs.Order.{cell_element}
 use Rattle.dg_pool.specs.Graphs.{PoolState, slot_graph, graph_as, slot_at}
 use Rattle.dg_pool.specs.Sweeps.{in_state, members_as}
 use Rattle.dg_pool.proofs.SweepUnions.{has-members, lacks-members}
-use Rattle.dg_pool.proofs.CurrentGraph.{one_row}
 use Rattle.dg_pool.proofs.pool.Pool.member.Goals as goal
 
-pub returns-in-Some-row : goal.returns-in-Some-row
-returns-in-Some-row c =
+pub has_member-requires-clause-element : goal.has_member-requires-clause-element
+has_member-requires-clause-element c =
+    let h = c.in-Some.ensures.found in
+    ap cell_element h.there ∙ ap Some h.element
+
+pub returns-in-Some : goal.returns-in-Some
+returns-in-Some c =
     let rows = c.self.inside.cells in
     let x = c.args.element.now in
     let n = c.in-Some.n in
     let s = c.args.slot.0 in
     let slot = slot_at c.self.inside.slots s in
     let h = c.in-Some.ensures.found in
-    let there : cell_at rows n ≡ Some c.in-Some-row.row = sym c.row.ensures ∙ c.in-Some-row.is in
-    c.has_member.ensures ∙ ap (in_state s slot) (one_row rows n c.in-Some-row.row h.row there h.there)
+    subst (λ (o : Option Row). IfSome o (λ r. c.has_member.result ≡ in_state s slot r)) h.there c.has_member.ensures
     ∙ sym (has-members rows n h.row c.facts.ensures h.there s slot)
     ∙ ap (has (members_as (graph_as rows s slot))) h.element
     ∙ ap (λ (p : PoolState). has (members_as (slot_graph p s)) x) c.self.view_is
