@@ -41,8 +41,8 @@ impl Model for Cells {
     ghost invariant = { λ cells. IsListed cells.rows.items (strung cells.order) };
 }
 
-/// One walk over all cells gives new ones where more elements come than one for so many cells.
-const MANY: usize = 16;
+/// One walk over all cells gives new ones where more elements lack a cell than one for so many cells.
+const MANY: usize = 64;
 
 impl Cells {
     /// No cell. Takes no memory yet.
@@ -211,8 +211,8 @@ impl Cells {
         self.rows.reserve(more)
     }
 
-    // As `add_numbered`, where not each of the elements has a cell.
-    fn add_missing(&mut self, items: &[Element]) -> Result<Vec<u32>, AllocError>
+    // As `add_numbered`, where so many of the elements have no cell.
+    fn add_missing(&mut self, items: &[Element], lacking: usize) -> Result<Vec<u32>, AllocError>
         requires { IsSet items.now }
         ensures grows { CellsGrow self.old self.new }
         ensures numbers { IfOk result (λ numbers. AreNumbers self.new items.now numbers.items) }
@@ -221,7 +221,7 @@ impl Cells {
         ensures reuses { OnOk result (Reuses self.old self.new) }
     {
         let mut numbers = Vec::with_capacity(*self.rows.allocator(), items.len())?;
-        if items.len() > self.rows.len() / MANY {
+        if lacking > self.rows.len() / MANY {
             merge(&mut self.rows, &mut self.order, items, &mut numbers)?;
         } else {
             add_each(&mut self.rows, &mut self.order, items, &mut numbers)?;
@@ -240,10 +240,11 @@ impl Cells {
         ensures among { AreAmong self.old self.new items.now }
         ensures reuses { OnOk result (Reuses self.old self.new) }
     {
-        if let Some(numbers) = find_each(&self.rows, &self.order, items)? {
+        let (numbers, lacking) = find_each(&self.rows, &self.order, items)?;
+        if lacking == 0 {
             return Ok(numbers);
         }
-        self.add_missing(items)
+        self.add_missing(items, lacking)
     }
 
     /// The elements of the occupied cells rise in their order, in which each occupied cell stands, and

@@ -63,26 +63,28 @@ pub(crate) fn find(
     }
 }
 
-/// The numbers of the elements' cells, if each has one; quickest where they rise. An `Err` says that memory ran out.
+/// The numbers of the elements' cells, but for those that have none, and how many these are; quickest where the elements
+/// rise. An `Err` says that memory ran out.
 pub(crate) fn find_each(
     rows: &Rows<Element>,
     order: &Pieces,
     items: &[Element],
-) -> Result<Option<Vec<u32>>, AllocError>
+) -> Result<(Vec<u32>, usize), AllocError>
     requires { IsListed rows.now.items (strung order.now) }
-    ensures { IfOk result (λ found. IfSome found (λ numbers. AreNumbers rows.now.items items.now numbers.items)) }
+    ensures { IfOk result (λ found. found.1 ≡ 0 → AreNumbers rows.now.items items.now found.0.items) }
 {
     let mut numbers = Vec::with_capacity(*rows.allocator(), items.len())?;
+    let mut lacking = 0;
     let mut near = START;
     for x in items {
         let (number, behind) = find(rows, order, near, x);
-        let Some(n) = number else {
-            return Ok(None);
-        };
-        numbers.push(n)?;
+        match number {
+            Some(n) => numbers.push(n)?,
+            None => lacking += 1,
+        }
         near = behind;
     }
-    Ok(Some(numbers))
+    Ok((numbers, lacking))
 }
 
 /// Gives the element a cell with no bit, unless it has one, and answers where to look for the next, and the
