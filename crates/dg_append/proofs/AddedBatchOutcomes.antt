@@ -48,8 +48,8 @@ use Rattle.dg_retrieval.specs.ValueRange.{ValuesFit}
 use Rattle.dg_retrieval.specs.NamesThere.{BodyHasNamesThere, EventNamesAreThere, NamesAreThere}
 use Rattle.dg_retrieval.proofs.NamesThere.{replay_there}
 use Rattle.dg_retrieval.proofs.ValueRanges.{replay_fits}
-use Rattle.dg_start.specs.declared.stored_history.StoredHistory.{StoredHistory}
-use Rattle.dg_start.specs.StoredHistory.{AreCounted, IsHeldBy, IsKeptOf, IsSoundHistory, MayGoOn, index_opening}
+use Rattle.dg_stored.specs.declared.stored_history.StoredHistory.{StoredHistory}
+use Rattle.dg_stored.specs.StoredHistory.{AreCounted, IsHeldBy, IsKeptOf, IsSoundHistory, MayGoOn, index_opening}
 
 -- ---- what is made over what is kept
 

@@ -141,8 +141,8 @@ batch_damage told names o recent events graph key col named =
     by image (inl first) = inl first
     by image (inr wide) = inr (wide.0, wide.1, key_among _ wide.2.first.place key wide.2.first.there)
 
--- The steps are those of the older children of the batch, behind an index that is as it was.
-module _ (told : Option (ListOf ℕ)) (o other : Opening) (next : NextBatch) (graph : ListOf Element) (steps given : ListOf Delta) (index : other ≡ o) (taken : given ≡ steps)
+-- The steps are those of the older children of the batch.
+module _ (told : Option (ListOf ℕ)) (o : Opening) (next : NextBatch) (graph : ListOf Element) (steps given : ListOf Delta) (taken : given ≡ steps)
     (n : IsNext o next graph) (are : IfSome told (λ image. (z : History) → StandsForKept z image o next graph → AreRead o next z steps))
     (whole : IfSome told (λ image. AreUndamaged next.known o image (in_groups (older_children o (length next.events.now)))))
     (led : IfSome told (λ image. AreLedOlder next.known image o (older_children o (length next.events.now)) (older_in_time o.params.k (leaves_before o) (leaves_after o (length next.events.now))) next.recent.now graph steps)) where
@@ -152,19 +152,17 @@ module _ (told : Option (ListOf ℕ)) (o other : Opening) (next : NextBatch) (gr
   abbrev children : ListOf NodeId
   children = older_children o (length events)
 
-  past_given : (z : History) (image : ListOf ℕ) → StandsForKept z image o next graph → AreRead o next z steps → IsPast other (events_of z) next.recent.now graph events given
-  past_given z image is steps_are =
-      subst (λ (x : Opening). IsPast x (events_of z) next.recent.now graph events given) (sym index)
-      (past_is z image o next graph is given n.changes n.form (taken ∙ steps_are))
+  past_given : (z : History) (image : ListOf ℕ) → StandsForKept z image o next graph → AreRead o next z steps → IsPast o (events_of z) next.recent.now graph events given
+  past_given z image is steps_are = past_is z image o next graph is given n.changes n.form (taken ∙ steps_are)
 
   abbrev Made : Segment → Type 0
-  Made s = (past : ListOf Event) → IsPast other past next.recent.now graph events given → s ≡ segment_of other.params past (batch_with next.known next.names.now events)
+  Made s = (past : ListOf Event) → IsPast o past next.recent.now graph events given → s ≡ segment_of o.params past (batch_with next.known next.names.now events)
 
-  pub made_over : (r : Result Segment BatchFault) → IfOk r (λ s. IsSegmentBehind other (drop next.known next.names.now) next.recent.now events s) → IfOk r Made
+  pub made_over : (r : Result Segment BatchFault) → IfOk r (λ s. IsSegmentBehind o (drop next.known next.names.now) next.recent.now events s) → IfOk r Made
       → IfOk r (MakesSegment told o next graph)
   made_over (Err f) behind made = tt
   made_over (Ok s) behind made = record {
-    behind = subst (λ (x : Opening). IsSegmentBehind x (drop next.known next.names.now) next.recent.now events s) index behind;
+    behind = behind;
     built = by told are;
     whole = whole;
   }
@@ -173,12 +171,11 @@ module _ (told : Option (ListOf ℕ)) (o other : Opening) (next : NextBatch) (gr
       by None are = tt
       by (Some image) are = λ z is.
           segment_over z image o next graph is (batch_with next.known next.names.now events) s
-          (made (events_of z) (past_given z image is (are z is))
-          ∙ ap (λ (x : Opening). segment_of x.params (events_of z) (batch_with next.known next.names.now events)) index)
+          (made (events_of z) (past_given z image is (are z is)))
 
   -- a segment that is not made over the image of a history lacked memory
-  pub unmade_over : (r : Result Segment BatchFault) → IfErr r (IsUnmade other next graph given)
-      → IfErr r (λ f. (past : ListOf Event) → IsPast other past next.recent.now graph events given → f ≡ fault.Memory)
+  pub unmade_over : (r : Result Segment BatchFault) → IfErr r (IsUnmade o next graph given)
+      → IfErr r (λ f. (past : ListOf Event) → IsPast o past next.recent.now graph events given → f ≡ fault.Memory)
       → IfErr r (StopsSegment told o next graph)
   unmade_over (Ok s) unmade never = tt
   unmade_over (Err (fault.BadChange line reason)) unmade never = unmade
@@ -188,7 +185,7 @@ module _ (told : Option (ListOf ℕ)) (o other : Opening) (next : NextBatch) (gr
     where
       first : IsFirstWideDelta o next.recent.now events graph steps key
       first =
-          subst (λ (x : Opening × ListOf Delta). IsFirstWideDelta x.0 next.recent.now events graph x.1 key) (let e : (other, given) ≡ (o, steps) = λ i. (index i, taken i) in e) unmade.1
+          subst (λ (ds : ListOf Delta). IsFirstWideDelta o next.recent.now events graph ds key) taken unmade.1
 
       damage : (told : Option (ListOf ℕ)) → IfSome told (λ image. AreUndamaged next.known o image (in_groups children))
           → IfSome told (λ image. AreLedOlder next.known image o children (older_in_time o.params.k (leaves_before o) (leaves_after o (length events))) next.recent.now graph steps)

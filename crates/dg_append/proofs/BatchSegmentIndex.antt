@@ -29,7 +29,7 @@ use Rattle.dg_index.specs.OpenedIndex.{Opening, delta_count, directory_of, earli
 use Rattle.dg_index.proofs.HierarchyCounts.{numbers_length}
 use Rattle.dg_index.proofs.HierarchyStability.{leaves_more}
 use Rattle.dg_index.proofs.OpenedIndexHistories.{earliest_more, first_more, last_list_more}
-use Rattle.dg_start.specs.StoredHistory.{MayGoOn, RiseUpTo, floor_of, recent_count}
+use Rattle.dg_stored.specs.StoredHistory.{MayGoOn, RiseUpTo, floor_of, recent_count}
 
 -- ---- the last list among the records
 

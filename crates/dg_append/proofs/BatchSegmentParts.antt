@@ -22,7 +22,7 @@ use Rattle.dg_index.specs.Hierarchy.{leaves}
 use Rattle.dg_index.specs.IndexRecords.{deltas_due, recent_of}
 use Rattle.dg_index.specs.OpenedIndex.{AreUnheard, Opening, delta_count, event_total, list_count, list_row, may_be_listed}
 use Rattle.dg_index.proofs.UnheardRecords.{unheard_parts}
-use Rattle.dg_start.specs.StoredHistory.{recent_count}
+use Rattle.dg_stored.specs.StoredHistory.{recent_count}
 
 pub less_times : (a b n : ℕ) → (a - b) * n ≡ a * n - b * n
 less_times a b n = mul_comm (a - b) n ∙ mul-sub n a b ∙ (λ i. mul_comm n a i - mul_comm n b i)

@@ -35,7 +35,7 @@ use Rattle.dg_index.specs.OpenedIndex.{Opening, earliest_in, may_be_named}
 use Rattle.dg_net.proofs.NetLaws.{changes_are_exact}
 use Rattle.dg_current.specs.Now.{earliest_time_after as earliest_now}
 use Rattle.dg_retrieval.specs.NamesThere.{BodyHasNamesThere, EventNamesAreThere, HasNamesThere, NamesAreThere}
-use Rattle.dg_start.specs.declared.stored_history.StoredHistory.{StoredHistory}
+use Rattle.dg_stored.specs.declared.stored_history.StoredHistory.{StoredHistory}
 
 -- ---- the last time of the batches
 

@@ -1,5 +1,5 @@
 -- What becomes of a batch whose segment is made and put into the file.
-use Rattle.std.proofs.Common.{◌≡◌, ◌∙◌, ℕ, true, List, Option, Some, None, Result, Ok, Err, ap, sym, subst}
+use Rattle.std.proofs.Common.{◌≡◌, ◌∙◌, ℕ, true, List, Option, Some, None, Result, Ok, Err, refl, ap, sym, subst}
 use Rattle.std.specs.Prelude.{IfErr, IfSome, IsErr, IsErrAnd}
 use Rattle.std.proofs.lemmas.Bool.{false≢true}
 use Rattle.dg_append.specs.BatchSegments.{MakesSegment, StopsSegment}
@@ -15,7 +15,7 @@ use Rattle.dg_file.specs.TidyImages.{StaysTidy}
 use Rattle.dg_graph.specs.declared.element.Element.{Element}
 use Rattle.dg_index.specs.FileOfHistory.{Segment}
 use Rattle.dg_index.specs.OpenedIndex.{Opening, may_be_named}
-use Rattle.dg_start.specs.StoredHistory.{IsHeldBy}
+use Rattle.dg_stored.specs.StoredHistory.{IsHeldBy}
 
 pub err_is : {A E : Type 0} (r : Result A E) (x : E) (P : E → Type 0) → IsErr r × IsErrAnd r (λ y. y ≡ x) → P x → IfErr r P
 err_is (Ok a) x P h p = tt
@@ -39,14 +39,14 @@ stops_made limit o next graph before after fault.Memory same stops = same
 stops_made limit o next graph before after fault.Store same stops = absurd stops
 
 -- the index is what it was, where the segment was not made
-pub made_stays : (f : BatchFault) (old new : Opening) → new ≡ old → IndexStays f old new
-made_stays (fault.BadChange line reason) old new same = same
-made_stays fault.OldFormat old new same = same
-made_stays (fault.FileFull needed most) old new same = same
-made_stays (fault.Damaged key col) old new same = same
-made_stays fault.Read old new same = same
-made_stays fault.Memory old new same = same
-made_stays fault.Store old new same = tt
+pub made_stays : (f : BatchFault) (o : Opening) → IndexStays f o o
+made_stays (fault.BadChange line reason) o = refl
+made_stays fault.OldFormat o = refl
+made_stays (fault.FileFull needed most) o = refl
+made_stays (fault.Damaged key col) o = refl
+made_stays fault.Read o = refl
+made_stays fault.Memory o = refl
+made_stays fault.Store o = tt
 
 -- The segment is made behind an index that is as it was, by calls that read, and then it is not kept, or kept.
 module _ {D : Type 0} (g : Ghosts D) (limit : ℕ) (o new : Opening) (next : NextBatch) (graph : List Element) (s : Segment) (before middle after : D) (reads : ReadsDisk g before middle) (made : MakesSegment (g.image before) o next graph s) where
@@ -93,10 +93,10 @@ pub opened_as : (told : Option (List ℕ)) (o : Opening) (names : List (List ℕ
 opened_as None o names held = tt
 opened_as (Some image) o names held = (names, held)
 
-pub fits_here : (before middle : Option (List ℕ)) (o old : Opening) (names new : List (List ℕ)) (s : Segment) → old ≡ o → middle ≡ before → IfSome before (IsHeldBy (Some o) names)
-    → may_be_named names new ≡ true → s.names ≡ new → IfSome middle (λ image. Fits image old s)
-fits_here before middle o old names new s index same held named are =
-    subst (λ (x : Option (List ℕ) × Opening). IfSome x.0 (λ image. Fits image x.1 s)) (let e : (before, o) ≡ (middle, old) = λ i. (sym same i, sym index i) in e) (by before held)
+pub fits_here : (before middle : Option (List ℕ)) (o : Opening) (names new : List (List ℕ)) (s : Segment) → middle ≡ before → IfSome before (IsHeldBy (Some o) names)
+    → may_be_named names new ≡ true → s.names ≡ new → IfSome middle (λ image. Fits image o s)
+fits_here before middle o names new s same held named are =
+    subst (λ (told : Option (List ℕ)). IfSome told (λ image. Fits image o s)) (sym same) (by before held)
   where
     by : (told : Option (List ℕ)) → IfSome told (IsHeldBy (Some o) names) → IfSome told (λ image. Fits image o s)
     by None h = tt

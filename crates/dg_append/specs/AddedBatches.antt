@@ -37,8 +37,8 @@ use Rattle.dg_index.specs.OpenedIndex.{Opening, event_total, may_be_named}
 use Rattle.dg_plan.specs.IndexGraph.{arcs_of}
 use Rattle.dg_plan.specs.Walks.{AreSingles}
 use Rattle.dg_retrieval.specs.KeptGraph.{record_edges}
-use Rattle.dg_start.specs.declared.stored_history.StoredHistory.{StoredHistory}
-use Rattle.dg_start.specs.StoredHistory.{IsHeldBy, IsKeptOf, IsSoundHistory, index_opening}
+use Rattle.dg_stored.specs.declared.stored_history.StoredHistory.{StoredHistory}
+use Rattle.dg_stored.specs.StoredHistory.{IsHeldBy, IsKeptOf, IsSoundHistory, index_opening}
 
 -- ---- what may be added
 

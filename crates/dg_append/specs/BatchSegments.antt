@@ -31,7 +31,7 @@ use Rattle.dg_index.specs.OpenedIndex.{AreUnheard, Opening, delta_count, earlies
 use Rattle.dg_plan.specs.IndexGraph.{arcs_of}
 use Rattle.dg_plan.specs.Walks.{AreSingles}
 use Rattle.dg_retrieval.specs.KeptGraph.{record_edges}
-use Rattle.dg_start.specs.StoredHistory.{IsKeptOf, MayGoOn, floor_of, recent_count}
+use Rattle.dg_stored.specs.StoredHistory.{IsKeptOf, MayGoOn, floor_of, recent_count}
 
 -- the first of the events is not earlier than this time
 abbrev pub BeginsBehind : ℕ → ListOf Event → Type 0

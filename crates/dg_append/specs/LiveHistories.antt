@@ -3,7 +3,7 @@ use Rattle.std.specs.Prelude.{◌≡◌, ℕ, None}
 use Rattle.dg_append.specs.declared.live.Live.{Live}
 use Rattle.dg_append.specs.Overlays.{IsOverlayOf, pool_in, pool_of}
 use Rattle.dg_pool.specs.Graphs.{slot_graph}
-use Rattle.dg_start.specs.StoredHistory.{IsSoundHistory, index_opening}
+use Rattle.dg_stored.specs.StoredHistory.{IsSoundHistory, index_opening}
 
 -- What is kept of the history is sound, and where there is a pool its current graph is that of the history.
 pub record IsLiveHistory (l : Live) : Type 0 where

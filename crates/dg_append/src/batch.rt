@@ -6,7 +6,7 @@ ghost use Rattle.dg_append.specs.DiskLeft.{LeavesDisk};
 ghost use Rattle.dg_append.specs.KeptBatches.{GivesBack};
 ghost use Rattle.dg_append.specs.LiveHistories.{IsLiveHistory};
 ghost use Rattle.dg_history.specs.declared.limits.TheConstants.{FILE_BYTES_MAX};
-ghost use Rattle.dg_start.specs.StoredHistory.{IsHeldBy, index_opening};
+ghost use Rattle.dg_stored.specs.StoredHistory.{IsHeldBy, index_opening};
 
 use crate::batch_commit::keep_batch;
 use crate::completion::complete;

@@ -9,7 +9,7 @@ ghost use Rattle.dg_append.specs.Overlays.{SameOverlay, pool_in};
 ghost use Rattle.dg_disk.specs.Calls.{Fails, ReadsDisk};
 ghost use Rattle.dg_file.specs.Images.{IsOpenedAs};
 ghost use Rattle.dg_history.specs.declared.limits.TheConstants.{FILE_BYTES_MAX};
-ghost use Rattle.dg_start.specs.StoredHistory.{IsHeldBy};
+ghost use Rattle.dg_stored.specs.StoredHistory.{IsHeldBy};
 
 use crate::batch_segment::make_segment;
 use crate::fault::BatchFault;
@@ -41,24 +41,23 @@ struct MadeBatch {
 fn make_batch<R: Threads, D: Disk>(
     rt: &R,
     alloc: Global,
-    index: &mut Index,
+    index: &Index,
     next: &NextBatch,
     pool: &mut Option<Box<Pool>>,
     disk: &mut D,
 ) -> Result<MadeBatch, BatchFault>
-    requires image { IfSome (D.image disk.old) (λ image. IsOpenedAs image index.old.opening) }
-    requires next { IsNext index.old.opening next.now next.now.current.now.graph }
-    ensures made { IfOk result (MakesBatch (D.image disk.old) index.old.opening next.now (pool_in pool.new)) }
+    requires image { IfSome (D.image disk.old) (λ image. IsOpenedAs image index.now.opening) }
+    requires next { IsNext index.now.opening next.now next.now.current.now.graph }
+    ensures made { IfOk result (MakesBatch (D.image disk.old) index.now.opening next.now (pool_in pool.new)) }
 
     // the bytes read
-    ensures most { TakesSinglesOver (D.image disk.old) index.old.opening next.now next.now.current.now.graph (D.taken disk.old) (D.taken disk.new) }
+    ensures most { TakesSinglesOver (D.image disk.old) index.now.opening next.now next.now.current.now.graph (D.taken disk.old) (D.taken disk.new) }
 
     // why it is not made
-    ensures fails { IfErr result (StopsSegment (D.image disk.old) index.old.opening next.now next.now.current.now.graph) }
+    ensures fails { IfErr result (StopsSegment (D.image disk.old) index.now.opening next.now next.now.current.now.graph) }
     ensures cause { IsErrOf result BatchFault.Read → Fails D.Disk disk.old disk.new }
 
     // what it leaves
-    ensures same { index.new ≡ index.old }
     ensures graphs { SameOverlay (pool_in pool.old) (pool_in pool.new) }
     ensures disk { ReadsDisk D.Disk disk.old disk.new }
 {

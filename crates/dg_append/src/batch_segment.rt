@@ -23,23 +23,22 @@ use std::thread::Threads;
 pub(crate) fn make_segment<R: Threads, D: Disk>(
     rt: &R,
     alloc: Global,
-    index: &mut Index,
+    index: &Index,
     next: &NextBatch,
     disk: &mut D,
 ) -> Result<Segment, BatchFault>
-    requires image { IfSome (D.image disk.old) (λ image. IsOpenedAs image index.old.opening) }
-    requires next { IsNext index.old.opening next.now next.now.current.now.graph }
-    ensures made { IfOk result (MakesSegment (D.image disk.old) index.old.opening next.now next.now.current.now.graph) }
+    requires image { IfSome (D.image disk.old) (λ image. IsOpenedAs image index.now.opening) }
+    requires next { IsNext index.now.opening next.now next.now.current.now.graph }
+    ensures made { IfOk result (MakesSegment (D.image disk.old) index.now.opening next.now next.now.current.now.graph) }
 
     // the bytes read, over an image of a history: at most those of the single plans
-    ensures most { TakesSinglesOver (D.image disk.old) index.old.opening next.now next.now.current.now.graph (D.taken disk.old) (D.taken disk.new) }
+    ensures most { TakesSinglesOver (D.image disk.old) index.now.opening next.now next.now.current.now.graph (D.taken disk.old) (D.taken disk.new) }
 
     // why it is not made
-    ensures fails { IfErr result (StopsSegment (D.image disk.old) index.old.opening next.now next.now.current.now.graph) }
+    ensures fails { IfErr result (StopsSegment (D.image disk.old) index.now.opening next.now next.now.current.now.graph) }
     ensures cause { IsErrOf result BatchFault.Read → Fails D.Disk disk.old disk.new }
 
     // what it leaves
-    ensures same { index.new ≡ index.old }
     ensures disk { ReadsDisk D.Disk disk.old disk.new }
 {
     let older = older_steps(rt, alloc, index, next, disk)?;

@@ -5,7 +5,7 @@ ghost use Rattle.dg_append.specs.LiveHistories.{IsForgotten, IsLiveHistory};
 ghost use Rattle.dg_append.specs.Overlays.{SameSlots, pool_in};
 
 use dg_pool::Pool;
-use dg_start::StoredHistory;
+use dg_stored::StoredHistory;
 use std::alloc::{AllocError, Global};
 use std::boxed::Box;
 use std::mem;

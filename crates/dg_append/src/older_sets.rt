@@ -1,7 +1,7 @@
 //! The steps of the older children by their sets, where one tree does not give them: the sets are read group after group,
 //! each group by a tree over the records of the index alone.
 
-ghost use Rattle.std.specs.Prelude.{◌≡◌, ◌≤◌, ◌<◌, ◌+◌, List, drop, get_or, length, map, IfOk, IfSome, IsTrue};
+ghost use Rattle.std.specs.Prelude.{◌≡◌, ◌≤◌, ◌<◌, ◌+◌, List, drop, get_or, length, map, IfOk, IfSome};
 ghost use Rattle.std.specs.List.{All, Contains};
 ghost use Rattle.dg_append.specs.BatchSegments.{StandsForKept};
 ghost use Rattle.dg_append.specs.OlderChildSteps.{AreLedByGroups, AreLedBySets, GivesOlderSteps, set_among};
@@ -25,6 +25,7 @@ use dg_current::Now;
 use dg_delta::Delta;
 use dg_disk::Disk;
 use dg_file::Index;
+use dg_fold::is_same_node;
 use dg_graph::Event;
 use dg_history::NodeId;
 use dg_net::net_back;
@@ -46,29 +47,29 @@ pub fn group_limit()
 fn read_groups<R: Threads, D: Disk>(
     rt: &R,
     alloc: Global,
-    index: &mut Index,
+    index: &Index,
     disk: &mut D,
     name_count: u32,
     planner: &Planner,
     nodes: &[NodeId],
 ) -> Result<Vec<Set>, RetrievalFault>
-    requires image { IfSome (D.image disk.old) (λ image. IsOpenedAs image index.old.opening) }
-    requires edges { planner.now.edges ≡ record_edges index.old.opening }
-    requires graph { planner.now.nodes ≡ record_nodes index.old.opening }
+    requires image { IfSome (D.image disk.old) (λ image. IsOpenedAs image index.now.opening) }
+    requires edges { planner.now.edges ≡ record_edges index.now.opening }
+    requires graph { planner.now.nodes ≡ record_nodes index.now.opening }
     requires nodes { All (Contains planner.now.nodes) nodes.now }
     requires leaves { All HasNoEvents nodes.now }
 
     // the sets, and over an image of a history which they are and the bytes read: at most those of the single plans
     ensures count { IfOk result (λ sets. length sets.items ≡ length nodes.now) }
-    ensures over { IfSome (D.image disk.old) (λ image. (z : History) → IsIndexOver z image index.old.opening name_count
-        → GivesSetsOver z (record_edges index.old.opening) nodes.now (D.taken disk.old) (D.taken disk.new) result) }
+    ensures over { IfSome (D.image disk.old) (λ image. (z : History) → IsIndexOver z image index.now.opening name_count
+        → GivesSetsOver z (record_edges index.now.opening) nodes.now (D.taken disk.old) (D.taken disk.new) result) }
 
     // over whatever image: which sets the records lead to, and where these are damaged
-    ensures led { IfSome (D.image disk.old) (λ image. IfOk result (λ sets. AreLedByGroups name_count image index.old.opening (in_groups nodes.now) sets.items)) }
-    ensures damage { IfSome (D.image disk.old) (λ image. TellsGroupDamage name_count index.old.opening image nodes.now result) }
+    ensures led { IfSome (D.image disk.old) (λ image. IfOk result (λ sets. AreLedByGroups name_count image index.now.opening (in_groups nodes.now) sets.items)) }
+    ensures damage { IfSome (D.image disk.old) (λ image. TellsGroupDamage name_count index.now.opening image nodes.now result) }
 
     // what it leaves, and why a read failed
-    ensures reads { ReadsRecords D.Disk index.old index.new disk.old disk.new result }
+    ensures reads { ReadsRecords D.Disk disk.old disk.new result }
 {
     let mut sets = Vec::new(alloc);
     let mut done = 0;
@@ -94,21 +95,13 @@ fn last_leaf(alloc: Global, current: &Now, recent: &[Event]) -> Result<Set, Allo
     back.apply(&now)
 }
 
-// Whether the two are one node.
-fn is_same(left: NodeId, right: NodeId) -> bool
-    ensures same { IsTrue result → left ≡ right }
-    ensures all { left ≡ right → IsTrue result }
-{
-    left == right
-}
-
 // The set of a node that is among these, whose sets these are; or the other set.
 fn set_of_node<'a>(nodes: &[NodeId], sets: &'a [Set], node: NodeId, other: &'a Set) -> &'a Set
     requires { length sets.now ≡ length nodes.now }
     ensures { result.now ≡ set_among nodes.now sets.now other.now node }
 {
     for i in 0..nodes.len() {
-        if is_same(nodes[i], node) {
+        if is_same_node(nodes[i], node) {
             return &sets[i];
         }
     }
@@ -165,16 +158,16 @@ fn steps_between(
 pub(crate) fn steps_by_sets<R: Threads, D: Disk>(
     rt: &R,
     alloc: Global,
-    index: &mut Index,
+    index: &Index,
     next: &NextBatch,
     disk: &mut D,
     planner: &Planner,
     nodes: &[NodeId],
     in_time: &[NodeId],
 ) -> Result<Vec<Delta>, RetrievalFault>
-    requires image { IfSome (D.image disk.old) (λ image. IsOpenedAs image index.old.opening) }
-    requires edges { planner.now.edges ≡ record_edges index.old.opening }
-    requires graph { planner.now.nodes ≡ record_nodes index.old.opening }
+    requires image { IfSome (D.image disk.old) (λ image. IsOpenedAs image index.now.opening) }
+    requires edges { planner.now.edges ≡ record_edges index.now.opening }
+    requires graph { planner.now.nodes ≡ record_nodes index.now.opening }
     requires nodes { All (Contains planner.now.nodes) nodes.now }
     requires leaves { All HasNoEvents nodes.now }
     requires known { next.now.known ≤ length next.now.names.now }
@@ -182,16 +175,16 @@ pub(crate) fn steps_by_sets<R: Threads, D: Disk>(
 
     // the steps, and over an image of a history which they are and the bytes read
     ensures count { IfOk result (λ steps. length steps.items ≡ length in_time.now) }
-    ensures over { IfSome (D.image disk.old) (λ image. (z : History) → StandsForKept z image index.old.opening next.now next.now.current.now.graph
-        → GivesOlderSteps z (record_edges index.old.opening) nodes.now in_time.now (D.taken disk.old) (D.taken disk.new) result) }
+    ensures over { IfSome (D.image disk.old) (λ image. (z : History) → StandsForKept z image index.now.opening next.now next.now.current.now.graph
+        → GivesOlderSteps z (record_edges index.now.opening) nodes.now in_time.now (D.taken disk.old) (D.taken disk.new) result) }
 
     // over whatever image: which steps the records lead to, and where these are damaged
     ensures led { IfSome (D.image disk.old) (λ image. IfOk result (λ steps.
-        AreLedBySets next.now.known image index.old.opening nodes.now in_time.now (taken_back next.now.current.now.graph next.now.recent.now) steps.items)) }
-    ensures damage { IfSome (D.image disk.old) (λ image. TellsGroupDamage next.now.known index.old.opening image nodes.now result) }
+        AreLedBySets next.now.known image index.now.opening nodes.now in_time.now (taken_back next.now.current.now.graph next.now.recent.now) steps.items)) }
+    ensures damage { IfSome (D.image disk.old) (λ image. TellsGroupDamage next.now.known index.now.opening image nodes.now result) }
 
     // what it leaves, and why a read failed
-    ensures reads { ReadsRecords D.Disk index.old index.new disk.old disk.new result }
+    ensures reads { ReadsRecords D.Disk disk.old disk.new result }
 {
     let sets = read_groups(rt, alloc, index, disk, next.known, planner, nodes)?;
     let leaf = last_leaf(alloc, next.current, next.recent)?;

@@ -74,33 +74,33 @@ fn has_one_tree(index: &Index, nodes: &[NodeId], in_time: &[NodeId]) -> bool
 fn steps_by_tree<R: Threads, D: Disk>(
     rt: &R,
     alloc: Global,
-    index: &mut Index,
+    index: &Index,
     known: u32,
     disk: &mut D,
     planner: &Planner,
     nodes: &[NodeId],
     in_time: &[NodeId],
 ) -> Result<Vec<Delta>, RetrievalFault>
-    requires image { IfSome (D.image disk.old) (λ image. IsOpenedAs image index.old.opening) }
-    requires edges { planner.now.edges ≡ record_edges index.old.opening }
-    requires graph { planner.now.nodes ≡ record_nodes index.old.opening }
+    requires image { IfSome (D.image disk.old) (λ image. IsOpenedAs image index.now.opening) }
+    requires edges { planner.now.edges ≡ record_edges index.now.opening }
+    requires graph { planner.now.nodes ≡ record_nodes index.now.opening }
     requires nodes { All (Contains planner.now.nodes) nodes.now }
     requires some { 1 ≤ length nodes.now }
     requires few { length nodes.now ≤ 32 }
     requires in_time { All (Contains nodes.now) in_time.now }
-    requires last { (front : List NodeId) × (in_time.now ≡ front ++ Leaf (leaves_before index.old.opening) ∷ []) }
+    requires last { (front : List NodeId) × (in_time.now ≡ front ++ Leaf (leaves_before index.now.opening) ∷ []) }
 
     // the steps, and over an image of a history which they are and the bytes read
     ensures count { IfOk result (λ steps. length steps.items ≡ length in_time.now) }
-    ensures over { IfSome (D.image disk.old) (λ image. (z : History) → IsIndexOver z image index.old.opening known
-        → GivesOlderSteps z (record_edges index.old.opening) nodes.now in_time.now (D.taken disk.old) (D.taken disk.new) result) }
+    ensures over { IfSome (D.image disk.old) (λ image. (z : History) → IsIndexOver z image index.now.opening known
+        → GivesOlderSteps z (record_edges index.now.opening) nodes.now in_time.now (D.taken disk.old) (D.taken disk.new) result) }
 
     // over whatever image: which steps the records lead to, and where these are damaged
-    ensures led { IfSome (D.image disk.old) (λ image. IfOk result (λ steps. AreLedByOneTree known image index.old.opening nodes.now in_time.now steps.items)) }
-    ensures damage { IfSome (D.image disk.old) (λ image. TellsGroupDamage known index.old.opening image nodes.now result) }
+    ensures led { IfSome (D.image disk.old) (λ image. IfOk result (λ steps. AreLedByOneTree known image index.now.opening nodes.now in_time.now steps.items)) }
+    ensures damage { IfSome (D.image disk.old) (λ image. TellsGroupDamage known index.now.opening image nodes.now result) }
 
     // what it leaves, and why a read failed
-    ensures reads { ReadsRecords D.Disk index.old index.new disk.old disk.new result }
+    ensures reads { ReadsRecords D.Disk disk.old disk.new result }
 {
     let mut steps = node_steps(rt, alloc, index, disk, known, planner, nodes, in_time)?;
     steps.push(Delta::new(alloc))?;
@@ -111,31 +111,31 @@ fn steps_by_tree<R: Threads, D: Disk>(
 fn steps_of<R: Threads, D: Disk>(
     rt: &R,
     alloc: Global,
-    index: &mut Index,
+    index: &Index,
     next: &NextBatch,
     disk: &mut D,
     nodes: &[NodeId],
     in_time: &[NodeId],
 ) -> Result<Vec<Delta>, RetrievalFault>
-    requires image { IfSome (D.image disk.old) (λ image. IsOpenedAs image index.old.opening) }
+    requires image { IfSome (D.image disk.old) (λ image. IsOpenedAs image index.now.opening) }
     requires known { next.now.known ≤ length next.now.names.now }
-    requires nodes { All (Contains (record_nodes index.old.opening)) nodes.now }
+    requires nodes { All (Contains (record_nodes index.now.opening)) nodes.now }
     requires leaves { All HasNoEvents nodes.now }
     requires some { 1 ≤ length nodes.now }
     requires in_time { All (Contains nodes.now) in_time.now }
 
     // the steps, and over an image of a history which they are and the bytes read
     ensures count { IfOk result (λ steps. length steps.items ≡ length in_time.now) }
-    ensures over { IfSome (D.image disk.old) (λ image. (z : History) → StandsForKept z image index.old.opening next.now next.now.current.now.graph
-        → GivesOlderSteps z (record_edges index.old.opening) nodes.now in_time.now (D.taken disk.old) (D.taken disk.new) result) }
+    ensures over { IfSome (D.image disk.old) (λ image. (z : History) → StandsForKept z image index.now.opening next.now next.now.current.now.graph
+        → GivesOlderSteps z (record_edges index.now.opening) nodes.now in_time.now (D.taken disk.old) (D.taken disk.new) result) }
 
     // over whatever image: which steps the records lead to, and where these are damaged
     ensures led { IfSome (D.image disk.old) (λ image. IfOk result (λ steps.
-        AreLedOlder next.now.known image index.old.opening nodes.now in_time.now next.now.recent.now next.now.current.now.graph steps.items)) }
-    ensures damage { IfSome (D.image disk.old) (λ image. TellsGroupDamage next.now.known index.old.opening image nodes.now result) }
+        AreLedOlder next.now.known image index.now.opening nodes.now in_time.now next.now.recent.now next.now.current.now.graph steps.items)) }
+    ensures damage { IfSome (D.image disk.old) (λ image. TellsGroupDamage next.now.known index.now.opening image nodes.now result) }
 
     // what it leaves, and why a read failed
-    ensures reads { ReadsRecords D.Disk index.old index.new disk.old disk.new result }
+    ensures reads { ReadsRecords D.Disk disk.old disk.new result }
 {
     let planner = record_planner(alloc, index)?;
     if has_one_tree(index, nodes, in_time) {
@@ -158,30 +158,30 @@ fn steps_of<R: Threads, D: Disk>(
 pub(crate) fn older_steps<R: Threads, D: Disk>(
     rt: &R,
     alloc: Global,
-    index: &mut Index,
+    index: &Index,
     next: &NextBatch,
     disk: &mut D,
 ) -> Result<Vec<Delta>, RetrievalFault>
-    requires image { IfSome (D.image disk.old) (λ image. IsOpenedAs image index.old.opening) }
-    requires next { IsNext index.old.opening next.now next.now.current.now.graph }
+    requires image { IfSome (D.image disk.old) (λ image. IsOpenedAs image index.now.opening) }
+    requires next { IsNext index.now.opening next.now next.now.current.now.graph }
 
     // the steps, and over an image of a history which they are and the bytes read: at most those of the single plans
     ensures count { IfOk result (λ steps. length steps.items
-        ≡ length (older_in_time index.old.opening.params.k (leaves_before index.old.opening) (leaves_after index.old.opening (length next.now.events.now)))) }
-    ensures over { IfSome (D.image disk.old) (λ image. (z : History) → StandsForKept z image index.old.opening next.now next.now.current.now.graph
-        → GivesOlderSteps z (record_edges index.old.opening) (older_children index.old.opening (length next.now.events.now))
-        (older_in_time index.old.opening.params.k (leaves_before index.old.opening) (leaves_after index.old.opening (length next.now.events.now)))
+        ≡ length (older_in_time index.now.opening.params.k (leaves_before index.now.opening) (leaves_after index.now.opening (length next.now.events.now)))) }
+    ensures over { IfSome (D.image disk.old) (λ image. (z : History) → StandsForKept z image index.now.opening next.now next.now.current.now.graph
+        → GivesOlderSteps z (record_edges index.now.opening) (older_children index.now.opening (length next.now.events.now))
+        (older_in_time index.now.opening.params.k (leaves_before index.now.opening) (leaves_after index.now.opening (length next.now.events.now)))
         (D.taken disk.old) (D.taken disk.new) result) }
 
     // over whatever image: which steps the records lead to, and where these are damaged
     ensures led { IfSome (D.image disk.old) (λ image. IfOk result (λ steps.
-        AreLedOlder next.now.known image index.old.opening (older_children index.old.opening (length next.now.events.now))
-        (older_in_time index.old.opening.params.k (leaves_before index.old.opening) (leaves_after index.old.opening (length next.now.events.now)))
+        AreLedOlder next.now.known image index.now.opening (older_children index.now.opening (length next.now.events.now))
+        (older_in_time index.now.opening.params.k (leaves_before index.now.opening) (leaves_after index.now.opening (length next.now.events.now)))
         next.now.recent.now next.now.current.now.graph steps.items)) }
-    ensures damage { IfSome (D.image disk.old) (λ image. TellsGroupDamage next.now.known index.old.opening image (older_children index.old.opening (length next.now.events.now)) result) }
+    ensures damage { IfSome (D.image disk.old) (λ image. TellsGroupDamage next.now.known index.now.opening image (older_children index.now.opening (length next.now.events.now)) result) }
 
     // what it leaves, and why a read failed
-    ensures reads { ReadsRecords D.Disk index.old index.new disk.old disk.new result }
+    ensures reads { ReadsRecords D.Disk disk.old disk.new result }
 {
     index.facts();
     let count = next.events.len() as u64;

@@ -14,8 +14,8 @@ use Rattle.dg_graph.specs.declared.event.Event.{Event}
 use Rattle.dg_graph.specs.Replay.{replay_from}
 use Rattle.dg_history.specs.History.{last_time_from}
 use Rattle.dg_index.specs.OpenedIndex.{Opening, event_total}
-use Rattle.dg_start.specs.declared.stored_history.StoredHistory.{StoredHistory}
-use Rattle.dg_start.specs.StoredHistory.{IsHeldBy, index_opening}
+use Rattle.dg_stored.specs.declared.stored_history.StoredHistory.{StoredHistory}
+use Rattle.dg_stored.specs.StoredHistory.{IsHeldBy, index_opening}
 
 pub keep_batch-requires-clause-next : goal.keep_batch-requires-clause-next
 keep_batch-requires-clause-next g c =

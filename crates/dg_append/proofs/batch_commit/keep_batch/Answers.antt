@@ -1,4 +1,4 @@
-use Rattle.std.proofs.Common.{◌≡◌, inl, Some, Err, take, drop, sym, ap, subst, arith}
+use Rattle.std.proofs.Common.{inl, Some, Err, take, drop, sym, ap, subst, arith}
 use Rattle.dg_append.proofs.BatchCrashes.{cause_made, kept_leaves, not_kept_leaves, reads_leave}
 use Rattle.dg_append.proofs.BatchSegmentIndex.{segment_due}
 use Rattle.dg_append.proofs.FrontEvents.{may_name_parts}
@@ -8,19 +8,12 @@ use Rattle.dg_append.proofs.batch_commit.keep_batch.Goals as goal
 use Rattle.dg_append.specs.BatchSegments.{TakesSinglesOver}
 use Rattle.dg_append.specs.declared.fault.BatchFault.{BatchFault}
 use Rattle.dg_append.specs.DiskLeft.{LeavesDisk}
-use Rattle.dg_append.specs.KeptBatches.{GainsNextOrNot, StopsKeeping}
+use Rattle.dg_append.specs.KeptBatches.{GainsNextOrNot}
 use Rattle.dg_append.specs.declared.next_batch.NextBatch.{NextBatch}
 use Rattle.dg_append.specs.Overlays.{pool_in}
-use Rattle.dg_file.specs.Calls.{CommitsSegment}
-use Rattle.dg_file.specs.Index.{IndexState}
 use Rattle.dg_index.specs.FileOfHistory.{Segment}
-use Rattle.dg_index.specs.IndexGrowth.{IsDue}
 use Rattle.dg_index.specs.OpenedIndex.{Opening}
-use Rattle.dg_start.specs.StoredHistory.{IsHeldBy}
-
--- what is said of a segment behind an index is said of it behind one that is the same
-behind : {x y : IndexState} (P : Opening → Type 0) → x ≡ y → P x.opening → P y.opening
-behind P same p = subst P (ap (λ (x : IndexState). x.opening) same) p
+use Rattle.dg_stored.specs.StoredHistory.{IsHeldBy}
 
 pub make_batch-requires-clause-image : goal.make_batch-requires-clause-image
 make_batch-requires-clause-image g c =
@@ -31,15 +24,14 @@ keep_segment-requires-clause-due g c =
     let o : Opening = c.args.index.now.opening in
     let n : NextBatch = c.args.next.now in
     let s : Segment = c.in_ok-made.made.segment in
-    subst (λ (x : Opening). IsDue x s) (sym (ap (λ (x : IndexState). x.opening) c.make_batch.ensures.same))
-    (segment_due o n.recent.now n.events.now c.requires.next.follows (drop n.known n.names.now) s c.in_ok-made.ensures.made.segment.behind
-    (omega (arith, may_name_parts (take n.known n.names.now) (drop n.known n.names.now) c.requires.next.named, c.requires.next.counted)))
+    segment_due o n.recent.now n.events.now c.requires.next.follows (drop n.known n.names.now) s c.in_ok-made.ensures.made.segment.behind
+    (omega (arith, may_name_parts (take n.known n.names.now) (drop n.known n.names.now) c.requires.next.named, c.requires.next.counted))
 
 pub keep_segment-requires-clause-image : goal.keep_segment-requires-clause-image
 keep_segment-requires-clause-image g c =
     let n : NextBatch = c.args.next.now in
-    fits_here (g.D.Disk.image c.args.disk.now) (g.D.Disk.image c.make_batch.new.disk) c.args.index.now.opening c.make_batch.new.index.opening (take n.known n.names.now) (drop n.known n.names.now) c.in_ok-made.made.segment
-    (ap (λ (x : IndexState). x.opening) c.make_batch.ensures.same) c.make_batch.ensures.disk.same_image c.requires.image c.requires.next.named c.in_ok-made.ensures.made.segment.behind.names_are
+    fits_here (g.D.Disk.image c.args.disk.now) (g.D.Disk.image c.make_batch.new.disk) c.args.index.now.opening (take n.known n.names.now) (drop n.known n.names.now) c.in_ok-made.made.segment
+    c.make_batch.ensures.disk.same_image c.requires.image c.requires.next.named c.in_ok-made.ensures.made.segment.behind.names_are
 
 pub returns-in_err-made-clause-fails : goal.returns-in_err-made-clause-fails
 returns-in_err-made-clause-fails g c =
@@ -51,7 +43,7 @@ pub returns-in_err-made-clause-back : goal.returns-in_err-made-clause-back
 returns-in_err-made-clause-back g c =
     err_is c.from_residual.result c.in_err-made.field-0.0 _ c.from_residual.ensures
     (record {
-      index = made_stays c.in_err-made.field-0.0 c.args.index.now.opening c.make_batch.new.index.opening (ap (λ (x : IndexState). x.opening) c.make_batch.ensures.same);
+      index = made_stays c.in_err-made.field-0.0 c.args.index.now.opening;
       graphs = c.make_batch.ensures.graphs;
     })
 
@@ -60,7 +52,7 @@ returns-in_err-keep_segment-clause-fails g c =
     err_is c.from_residual-in_err-keep_segment.result c.in_err-keep_segment.field-0.0 _ c.from_residual-in_err-keep_segment.ensures
     (stops_kept g.D.Disk c.args.limit c.args.index.now.opening c.keep_segment.new.index.opening c.args.next.now c.args.next.now.current.now.graph c.in_ok-made.made.segment c.args.disk.now c.make_batch.new.disk c.keep_segment.new.disk
     c.make_batch.ensures.disk c.in_ok-made.ensures.made.segment c.in_err-keep_segment.field-0.0
-    (behind (λ (o : Opening). StopsKeeping g.D.Disk c.args.limit o c.in_ok-made.made.segment c.keep_segment.new.index.opening c.make_batch.new.disk c.keep_segment.new.disk c.in_err-keep_segment.field-0.0) c.make_batch.ensures.same c.in_err-keep_segment.ensures.fails))
+    c.in_err-keep_segment.ensures.fails)
 
 pub returns-in_err-keep_segment-clause-back : goal.returns-in_err-keep_segment-clause-back
 returns-in_err-keep_segment-clause-back g c =
@@ -68,7 +60,7 @@ returns-in_err-keep_segment-clause-back g c =
     (record {
       index = stays_kept g.D.Disk c.args.limit c.args.index.now.opening c.keep_segment.new.index.opening c.args.next.now c.args.next.now.current.now.graph c.in_ok-made.made.segment c.args.disk.now c.make_batch.new.disk c.keep_segment.new.disk
           c.make_batch.ensures.disk c.in_ok-made.ensures.made.segment c.in_err-keep_segment.field-0.0
-          (behind (λ (o : Opening). StopsKeeping g.D.Disk c.args.limit o c.in_ok-made.made.segment c.keep_segment.new.index.opening c.make_batch.new.disk c.keep_segment.new.disk c.in_err-keep_segment.field-0.0) c.make_batch.ensures.same c.in_err-keep_segment.ensures.fails);
+          c.in_err-keep_segment.ensures.fails;
       graphs = c.make_batch.ensures.graphs;
     })
 
@@ -76,7 +68,7 @@ pub returns-clause-kept : goal.returns-clause-kept
 returns-clause-kept g c =
     keeps_batch g.D.Disk c.args.limit c.args.index.now.opening c.keep_segment.new.index.opening c.args.next.now c.args.next.now.current.now.graph c.in_ok-made.made.segment c.args.disk.now c.make_batch.new.disk c.keep_segment.new.disk
     c.make_batch.ensures.disk c.in_ok-made.ensures.made.segment
-    (behind (λ (o : Opening). CommitsSegment g.D.Disk c.args.limit o c.in_ok-made.made.segment c.keep_segment.new.index.opening c.make_batch.new.disk c.keep_segment.new.disk) c.make_batch.ensures.same c.in_ok-keep_segment.ensures.kept)
+    c.in_ok-keep_segment.ensures.kept
 
 pub returns-clause-passed : goal.returns-clause-passed
 returns-clause-passed g c = record {
@@ -104,7 +96,7 @@ returns-in_err-keep_segment-clause-disk g c =
     err_as c.from_residual-in_err-keep_segment.result c.in_err-keep_segment.field-0.0 (LeavesDisk g.D.Disk (GainsNextOrNot c.args.index.now.opening c.args.next.now c.args.next.now.current.now.graph) c.args.disk.now c.keep_segment.new.disk) c.from_residual-in_err-keep_segment.ensures
     (not_kept_leaves g.D.Disk c.args.limit c.args.index.now.opening c.keep_segment.new.index.opening c.args.next.now c.args.next.now.current.now.graph c.in_ok-made.made.segment c.args.disk.now c.make_batch.new.disk c.keep_segment.new.disk
     c.make_batch.ensures.disk c.keep_segment.ensures.disk c.in_ok-made.ensures.made.segment.built c.keep_segment.ensures.crash c.in_err-keep_segment.field-0.0
-    (behind (λ (o : Opening). StopsKeeping g.D.Disk c.args.limit o c.in_ok-made.made.segment c.keep_segment.new.index.opening c.make_batch.new.disk c.keep_segment.new.disk c.in_err-keep_segment.field-0.0) c.make_batch.ensures.same c.in_err-keep_segment.ensures.fails))
+    c.in_err-keep_segment.ensures.fails)
 
 pub returns-clause-most : goal.returns-clause-most
 returns-clause-most g c =
@@ -115,4 +107,4 @@ pub returns-clause-disk : goal.returns-clause-disk
 returns-clause-disk g c =
     kept_leaves g.D.Disk c.args.limit c.args.index.now.opening c.keep_segment.new.index.opening c.args.next.now c.args.next.now.current.now.graph c.in_ok-made.made.segment c.args.disk.now c.make_batch.new.disk c.keep_segment.new.disk
     c.make_batch.ensures.disk c.keep_segment.ensures.disk c.in_ok-made.ensures.made.segment.built c.keep_segment.ensures.crash c.in_ok-made.made.left
-    (behind (λ (o : Opening). CommitsSegment g.D.Disk c.args.limit o c.in_ok-made.made.segment c.keep_segment.new.index.opening c.make_batch.new.disk c.keep_segment.new.disk) c.make_batch.ensures.same c.in_ok-keep_segment.ensures.kept)
+    c.in_ok-keep_segment.ensures.kept

@@ -1,23 +1,15 @@
-use Rattle.std.proofs.Common.{◌∙◌, ℕ, List, Option, Ok, Err, length, sym, ap, subst}
+use Rattle.std.proofs.Common.{◌∙◌, ℕ, List, Option, Ok, Err, length, ap}
 use Rattle.dg_append.proofs.KeptBatchOutcomes.{err_is}
 use Rattle.dg_append.proofs.BatchSegmentHistory.{kept_takes, made_over, steps_given, unmade_over, unread_over}
 use Rattle.dg_append.proofs.batch_segment.make_segment.Goals as goal
-use Rattle.dg_append.specs.BatchSegments.{IsNext}
 use Rattle.dg_append.specs.declared.next_batch.NextBatch.{NextBatch}
 use Rattle.dg_append.specs.Faults.{of_retrieval}
-use Rattle.dg_append.specs.OlderGroups.{leaves_after, leaves_before}
-use Rattle.dg_build.specs.OlderSteps.{older_in_time}
-use Rattle.dg_file.specs.Index.{IndexState}
 use Rattle.dg_graph.specs.Composition.{Delta}
 use Rattle.dg_index.specs.OpenedIndex.{Opening}
-
-pub segment_of-requires-clause-next : goal.segment_of-requires-clause-next
-segment_of-requires-clause-next g c = subst (λ (x : IndexState). IsNext x.opening c.args.next.now c.args.next.now.current.now.graph) (sym c.older_steps.ensures.reads.same) c.requires.next
 
 pub segment_of-requires-clause-older : goal.segment_of-requires-clause-older
 segment_of-requires-clause-older g c =
     ap (λ (l : List Delta). length l) c.deref.ensures.value ∙ c.in_ok-older.ensures.count
-    ∙ ap (λ (x : IndexState). length (older_in_time x.opening.params.k (leaves_before x.opening) (leaves_after x.opening (length c.args.next.now.events.now)))) (sym c.older_steps.ensures.reads.same)
 
 pub returns-in_err-older-clause-fails : goal.returns-in_err-older-clause-fails
 returns-in_err-older-clause-fails g c =
@@ -35,8 +27,8 @@ returns-clause-made g c =
     let told : Option (List ℕ) = g.D.Disk.image c.args.disk.now in
     let o : Opening = c.args.index.now.opening in
     let n : NextBatch = c.args.next.now in
-    made_over told o c.older_steps.new.index.opening n c.args.next.now.current.now.graph c.in_ok-older.older.items c.deref.result.now
-    (ap (λ (x : IndexState). x.opening) c.older_steps.ensures.reads.same) c.deref.ensures.value c.requires.next
+    made_over told o n c.args.next.now.current.now.graph c.in_ok-older.older.items c.deref.result.now
+    c.deref.ensures.value c.requires.next
     (steps_given o n c.args.next.now.current.now.graph told (g.D.Disk.taken c.args.disk.now) (g.D.Disk.taken c.older_steps.new.disk) c.in_ok-older.older c.in_ok-older.ensures.over)
     c.in_ok-older.ensures.damage c.in_ok-older.ensures.led c.segment_of.result c.segment_of.ensures.behind c.segment_of.ensures.is
 
@@ -45,8 +37,8 @@ returns-clause-fails g c =
     let told : Option (List ℕ) = g.D.Disk.image c.args.disk.now in
     let o : Opening = c.args.index.now.opening in
     let n : NextBatch = c.args.next.now in
-    unmade_over told o c.older_steps.new.index.opening n c.args.next.now.current.now.graph c.in_ok-older.older.items c.deref.result.now
-    (ap (λ (x : IndexState). x.opening) c.older_steps.ensures.reads.same) c.deref.ensures.value c.requires.next
+    unmade_over told o n c.args.next.now.current.now.graph c.in_ok-older.older.items c.deref.result.now
+    c.deref.ensures.value c.requires.next
     (steps_given o n c.args.next.now.current.now.graph told (g.D.Disk.taken c.args.disk.now) (g.D.Disk.taken c.older_steps.new.disk) c.in_ok-older.older c.in_ok-older.ensures.over)
     c.in_ok-older.ensures.damage c.in_ok-older.ensures.led c.segment_of.result c.segment_of.ensures.fails c.segment_of.ensures.never
 

@@ -6,7 +6,6 @@ use Rattle.dg_append.proofs.older_sets.read_groups.Goals as goal
 use Rattle.dg_append.specs.OlderChildSteps.{AreLedByGroups}
 use Rattle.dg_append.specs.OlderGroups.{AreUndamaged, IsFirstOfGroups, TellsGroupDamage, in_groups}
 use Rattle.dg_file.specs.Images.{IsOpenedAs}
-use Rattle.dg_file.specs.Index.{IndexState}
 use Rattle.dg_graph.specs.declared.element.Element.{Element}
 use Rattle.dg_history.specs.declared.node.NodeId.{NodeId}
 use Rattle.dg_history.specs.History.{History}
@@ -14,7 +13,7 @@ use Rattle.dg_index.specs.OpenedIndex.{Opening}
 use Rattle.dg_plan.specs.declared.edge.Edge.{Edge}
 use Rattle.dg_plan.specs.HistoryGraph.{all_columns}
 use Rattle.dg_retrieval.specs.Calls.{AreLedByTree, GivesSetsOver}
-use Rattle.dg_retrieval.specs.KeptGraph.{record_edges, record_nodes}
+use Rattle.dg_retrieval.specs.KeptGraph.{record_edges}
 use Rattle.dg_retrieval.specs.NodeSets.{HasNoEvents, IsIndexOver, IsUndamaged}
 use Rattle.dg_retrieval.specs.Retrieval.{IsFirstDamage}
 use Rattle.dg_retrieval.specs.declared.fault.RetrievalFault.{RetrievalFault}
@@ -27,17 +26,12 @@ use Rattle.dg_disk.proofs.FrameLemmas.{reads_none, reads_then}
 slice_is : (nodes : List NodeId) (done size : ℕ) (next : ℕ) → size ≡ next → take (done + size - done) (drop done nodes) ≡ take next (drop done nodes)
 slice_is nodes done size next is = ap (λ n. take n (drop done nodes)) (let e : done + size - done ≡ next = omega (arith, is) in e)
 
-call_is : (x y : IndexState) (edges : List Edge) (group next : List NodeId) → x ≡ y → edges ≡ record_edges y.opening → group ≡ next
-    → (let c : Called = (x.opening, edges, group) in c) ≡ (y.opening, record_edges y.opening, next)
-call_is x y edges group next same is group_is = λ i. ((same i).opening, is i, group_is i)
+call_is : (o : Opening) (edges : List Edge) (group next : List NodeId) → edges ≡ record_edges o → group ≡ next → (let c : Called = (o, edges, group) in c) ≡ (o, record_edges o, next)
+call_is o edges group next is group_is = λ i. (o, is i, group_is i)
 
 -- what is told of a call over another image is told of this one, where they are the same
 told_here : (a b : Option (List ℕ)) (P : List ℕ → Called → Type 0) (x y : Called) → a ≡ b → x ≡ y → IfSome a (λ image. P image x) → IfSome b (λ image. P image y)
 told_here a b P x y told same p = subst (λ (z : Option (List ℕ) × Called). IfSome z.0 (λ image. P image z.1)) (let e : (a, x) ≡ (b, y) = λ i. (told i, same i) in e) p
-
-image_of : (a b : Option (List ℕ)) (x y : IndexState) → a ≡ b → x ≡ y → IfSome b (λ image. IsOpenedAs image y.opening) → IfSome a (λ image. IsOpenedAs image x.opening)
-image_of a b x y told same image =
-    subst (λ (z : Option (List ℕ) × IndexState). IfSome z.0 (λ image. IsOpenedAs image z.1.opening)) (let e : (b, y) ≡ (a, x) = λ i. (sym told i, sym same i) in e) image
 
 -- both facts are told
 both_told : (told : Option (List ℕ)) (P Q : List ℕ → Type 0) → IfSome told P → IfSome told Q → IfSome told (λ image. P image × Q image)
@@ -48,19 +42,12 @@ loop-done-init g c = record {
   within = omega arith;
   count = search rules;
   read = every_some (g.D.Disk.image c.args.disk.now) _ (none_read c.args.index.now.opening c.args.name_count c.args.nodes.now _ (g.D.Disk.taken c.args.disk.now) (search rules));
-  same = refl;
   disk = reads_none;
 }
 
 pub node_sets-requires-clause-image : goal.node_sets-requires-clause-image
 node_sets-requires-clause-image g c =
-    image_of (g.D.Disk.image c.loop-done.disk) (g.D.Disk.image c.args.disk.now) c.loop-done.index c.args.index.now c.loop-done.invariant.disk.same_image c.loop-done.invariant.same c.requires.image
-
-pub node_sets-requires-clause-edges : goal.node_sets-requires-clause-edges
-node_sets-requires-clause-edges g c = c.requires.edges ∙ ap (λ (x : IndexState). record_edges x.opening) (sym c.loop-done.invariant.same)
-
-pub node_sets-requires-clause-graph : goal.node_sets-requires-clause-graph
-node_sets-requires-clause-graph g c = c.requires.graph ∙ ap (λ (x : IndexState). record_nodes x.opening) (sym c.loop-done.invariant.same)
+    subst (λ (told : Option (List ℕ)). IfSome told (λ image. IsOpenedAs image c.args.index.now.opening)) (sym c.loop-done.invariant.disk.same_image) c.requires.image
 
 pub node_sets-requires-clause-nodes : goal.node_sets-requires-clause-nodes
 node_sets-requires-clause-nodes g c =
@@ -80,7 +67,7 @@ loop-done-preserved g c =
     let n : ℕ = size_next o names nodes done c.loop-done-test.true in
     let group : List NodeId = take n (drop done nodes) in
     let slice = slice_is nodes done c.min-size.result n c.min-size.ensures in
-    let call = call_is c.loop-done.index c.args.index.now c.args.planner.now.edges _ group c.loop-done.invariant.same c.requires.edges slice in
+    let call = call_is o c.args.planner.now.edges _ group c.requires.edges slice in
     let gives = told_here (g.D.Disk.image c.loop-done.disk) told (CallGives names (g.D.Disk.taken c.loop-done.disk) (g.D.Disk.taken c.node_sets.new.disk) (Ok c.in_ok-more.more)) _ _ c.loop-done.invariant.disk.same_image call c.in_ok-more.ensures.over in
     let damage = told_here (g.D.Disk.image c.loop-done.disk) told (CallDamage names (Ok c.in_ok-more.more)) _ _ c.loop-done.invariant.disk.same_image call c.in_ok-more.ensures.damage in
     let led = told_here (g.D.Disk.image c.loop-done.disk) told (CallLeads names c.in_ok-more.more.items) _ _ c.loop-done.invariant.disk.same_image call c.in_ok-more.ensures.led in
@@ -95,7 +82,6 @@ loop-done-preserved g c =
           _
           (λ image r h. one_read o names nodes done c.loop-done-test.true c.loop-done.sets.items c.append.new.self.items c.in_ok-more.more (g.D.Disk.taken c.args.disk.now) (g.D.Disk.taken c.loop-done.disk) (g.D.Disk.taken c.node_sets.new.disk) image r h.0 h.1.0 h.1.1 c.in_ok-append.ensures.items)
           c.loop-done.invariant.read (both_told told _ _ gives (both_told told _ _ led damage)));
-      same = c.node_sets.ensures.reads.same ∙ c.loop-done.invariant.same;
       disk = reads_then c.loop-done.invariant.disk c.node_sets.ensures.reads.disk;
     }
 
@@ -110,7 +96,7 @@ returns-in_err-more-clause-over g c =
     let f : RetrievalFault = c.in_err-more.field-0.0 in
     let group : List NodeId = take n (drop done nodes) in
     let slice = slice_is nodes done c.min-size.result n c.min-size.ensures in
-    let call = call_is c.loop-done.index c.args.index.now c.args.planner.now.edges _ group c.loop-done.invariant.same c.requires.edges slice in
+    let call = call_is o c.args.planner.now.edges _ group c.requires.edges slice in
     let gives = told_here (g.D.Disk.image c.loop-done.disk) told (CallGives names (g.D.Disk.taken c.loop-done.disk) (g.D.Disk.taken c.node_sets.new.disk) (Err f)) _ _ c.loop-done.invariant.disk.same_image call c.in_err-more.ensures.over in
     err_as c.from_residual.result f (λ r. IfSome told (λ image. (z : History) → IsIndexOver z image o names → GivesSetsOver z (record_edges o) nodes (g.D.Disk.taken c.args.disk.now) (g.D.Disk.taken c.node_sets.new.disk) r)) c.from_residual.ensures
     (some_both told (GroupsAreRead o names nodes done c.loop-done.sets.items (g.D.Disk.taken c.args.disk.now) (g.D.Disk.taken c.loop-done.disk))
@@ -129,7 +115,7 @@ returns-in_err-more-clause-damage g c =
     let f : RetrievalFault = c.in_err-more.field-0.0 in
     let group : List NodeId = take n (drop done nodes) in
     let slice = slice_is nodes done c.min-size.result n c.min-size.ensures in
-    let call = call_is c.loop-done.index c.args.index.now c.args.planner.now.edges _ group c.loop-done.invariant.same c.requires.edges slice in
+    let call = call_is o c.args.planner.now.edges _ group c.requires.edges slice in
     let damage = told_here (g.D.Disk.image c.loop-done.disk) told (CallDamage names (Err f)) _ _ c.loop-done.invariant.disk.same_image call c.in_err-more.ensures.damage in
     err_as c.from_residual.result f (λ r. IfSome told (λ image. TellsGroupDamage names o image nodes r)) c.from_residual.ensures
     (some_both told (GroupsAreRead o names nodes done c.loop-done.sets.items (g.D.Disk.taken c.args.disk.now) (g.D.Disk.taken c.loop-done.disk))
@@ -147,7 +133,7 @@ returns-in_err-append-clause-over g c =
     let n : ℕ = size_next o names nodes done c.loop-done-test.true in
     let group : List NodeId = take n (drop done nodes) in
     let slice = slice_is nodes done c.min-size.result n c.min-size.ensures in
-    let call = call_is c.loop-done.index c.args.index.now c.args.planner.now.edges _ group c.loop-done.invariant.same c.requires.edges slice in
+    let call = call_is o c.args.planner.now.edges _ group c.requires.edges slice in
     let gives = told_here (g.D.Disk.image c.loop-done.disk) told (CallGives names (g.D.Disk.taken c.loop-done.disk) (g.D.Disk.taken c.node_sets.new.disk) (Ok c.in_ok-more.more)) _ _ c.loop-done.invariant.disk.same_image call c.in_ok-more.ensures.over in
     err_as c.from_residual-in_err-append.result fault.Memory (λ r. IfSome told (λ image. (z : History) → IsIndexOver z image o names → GivesSetsOver z (record_edges o) nodes (g.D.Disk.taken c.args.disk.now) (g.D.Disk.taken c.node_sets.new.disk) r)) c.from_residual-in_err-append.ensures
     (some_both told (GroupsAreRead o names nodes done c.loop-done.sets.items (g.D.Disk.taken c.args.disk.now) (g.D.Disk.taken c.loop-done.disk))

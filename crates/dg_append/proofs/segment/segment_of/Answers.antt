@@ -9,7 +9,7 @@ use Rattle.dg_history.proofs.ParameterRanges.{InRange}
 use Rattle.dg_index.specs.FileOfHistory.{segment_of}
 use Rattle.dg_index.proofs.UnheardRecords.{segment_unheard}
 use Rattle.dg_index.specs.OpenedIndex.{Opening, list_row}
-use Rattle.dg_start.specs.StoredHistory.{floor_of}
+use Rattle.dg_stored.specs.StoredHistory.{floor_of}
 
 pub build-requires-clause-list : goal.build-requires-clause-list
 build-requires-clause-list c =
