@@ -3,6 +3,7 @@ use Rattle.std.proofs.Common.{◌≡◌, ℕ, ◌-◌, ◌≤◌, ◌<◌, List 
 use Rattle.std.specs.List.{AllZip}
 use Rattle.std.proofs.lemmas.Bool.{cases_lt}
 use Rattle.std.proofs.lemmas.Option.{same_Some}
+use Rattle.dg_expr.specs.Expressions.{instants_of, words_of}
 use Rattle.dg_history.specs.declared.node.NodeId.TheVariants.{Root}
 use Rattle.dg_text.specs.Lines.{ScriptLine}
 use Rattle.dg_plan.specs.IndexGraph.{arcs_of}
@@ -12,6 +13,7 @@ use Rattle.dg_plan.proofs.WalkPlans.{one_plan}
 use Rattle.dg_machine.specs.declared.command.Command.{Command}
 use Rattle.dg_machine.specs.declared.command.Command.TheVariants as command
 use Rattle.dg_machine.specs.declared.reply.Head.TheVariants as head
+use Rattle.dg_machine.specs.declared.selection.Selection.TheVariants.{Chosen}
 use Rattle.dg_machine.specs.declared.reply.Refusal.{Refusal}
 use Rattle.dg_machine.specs.declared.reply.Refusal.TheVariants as refusal
 use Rattle.dg_machine.specs.Answer.{Answered, IsPlannedBy, answer_by, accepted, headed}
@@ -87,6 +89,9 @@ one_answer m (command.Plan t cols) lines p q x y =
     let ps : p.potentials ≡ q.potentials = one_potentials g (Root ∷ []) (weight_of g p.steps) (nodes_in m cols) p.potentials q.potentials x.1
     (subst (λ l. AllZip (IsPotential g (Root ∷ []) (weight_of g l)) (nodes_in m cols) q.potentials) (sym steps) y.1) in
     λ i. accepted m (command.Plan t cols) lines (record no_plan { steps = steps i; potentials = ps i })
+one_answer m (command.Select (Chosen e) cols) lines p q x y =
+    ap (λ grafts. accepted m (command.Select (Chosen e) cols) lines (record no_plan { grafts = grafts }))
+    (one_tree (arcs_of (edges_in m cols)) (Root ∷ []) (points_for m (instants_of (words_of e))) p.grafts q.grafts x y)
 one_answer m c lines p q x y = ap (accepted m c lines) (x ∙ sym y)
 
 one_by : (r : Option Refusal) (m : MachineState) (c : Command) (lines : ListOf ScriptLine) (p q : Planned) → IsPlannedBy r m c p → IsPlannedBy r m c q → answer_by r m c lines p ≡ answer_by r m c lines q

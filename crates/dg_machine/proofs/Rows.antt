@@ -367,3 +367,18 @@ messages : due_of_none (no_plan ∷ no_plan ∷ no_plan ∷ steps_are (0 ∷ 13 
     ≡ codes "ok create\nend\nok load 4 4 20\nend\nok append 1 5 30\nend\nok at 1 64\nend\nok list 1 4\nnode 1\nnode 2\nmsg 1 2 hi\nmsg 1 2 yo\nend\nok counts 1 2 0 0 0 2\nend\nok at 2 0\nend\nok at 3 0\nend\nok counts 3 2 0 0 0\nend\nok several 64 128\nhandle 4 20 64\nhandle 5 20 64\nend\n"
 unfolding digits due_from due_of_none due_in output answered
 messages = refl
+
+-- ---- selections
+
+-- What came in from 20 to 30, by the tree of the two instants; what is not there as of 20 alone is nothing. A selection
+-- has no nodes to ask for.
+chosen_elements : over_five (grafts_are (graft node.Root (0 ∷ 13 ∷ 15 ∷ 6 ∷ []) ∷ graft (node.List 1) (7 ∷ []) ∷ []) [] ∷ no_plan ∷ grafts_are (graft node.Root (1 ∷ 9 ∷ []) ∷ []) [] ∷ []) (codes "expression s and 30 not 20\nlist 1\nexpression s not 20\nlist 2\nnode 1 1\nneighbours 2 1\nexpression s or 9 20\nexpression s and 20\nexpression st 20\n")
+    ≡ made_five ++ codes "ok expression 1 40\nend\nok list 1 1\nedge 5 1 2 dir\nend\nok expression 2 26\nend\nok list 2 0\nend\nrefused 17 not-an-overlay 1\nend\nrefused 17 not-an-overlay 2\nend\nrefused 7 out-of-range 10 50\nend\nrefused 1 syntax 1\nend\nrefused 1 syntax 1\nend\n"
+unfolding digits due_from over_five due_of_none five made_five due_in output answered
+chosen_elements = refl
+
+-- what is asked of a selection, its count in the pool, and its release
+asked_of_selections : over_five (grafts_are (graft node.Root (0 ∷ 13 ∷ 15 ∷ 6 ∷ []) ∷ graft (node.List 1) (7 ∷ []) ∷ []) [] ∷ []) (codes "expression s and 30 not 20\ncounts 1\npool\nrelease 1\nlist 1\npool\n")
+    ≡ made_five ++ codes "ok expression 1 40\nend\nok counts 1 0 1 0 0\nend\nok pool 1 4\nend\nok release 1\nend\nrefused 8 unknown-handle 1\nend\nok pool 0 3\nend\n"
+unfolding digits due_from over_five due_of_none five made_five due_in output answered
+asked_of_selections = refl

@@ -36,8 +36,10 @@ use Rattle.dg_machine.specs.declared.reply.Head.TheVariants as head
 use Rattle.dg_machine.specs.declared.reply.Refusal.{Refusal}
 use Rattle.dg_machine.specs.declared.reply.Refusal.TheVariants as refusal
 use Rattle.dg_machine.specs.declared.reply.Reply.{Reply}
+use Rattle.dg_machine.specs.declared.selection.Selection.{Selection}
+use Rattle.dg_machine.specs.declared.selection.Selection.TheVariants.{Chosen}
 use Rattle.dg_machine.specs.declared.stands.Stands.{Stands}
-use Rattle.dg_machine.specs.declared.stands.Stands.TheVariants.{Overlay, Base}
+use Rattle.dg_machine.specs.declared.stands.Stands.TheVariants.{Overlay, Base, Selected}
 use Rattle.dg_machine.specs.MachineState.{MachineState, elements, elements_held, stands_at, history_in, without_handle}
 use Rattle.dg_machine.specs.CommandGrammar.{plan_line_in}
 use Rattle.dg_changes.specs.GeneratedChanges.{batch_of_changes, generated}
@@ -117,6 +119,7 @@ abbrev pub columns_if : Option Stands → Columns
 columns_if None = record { nodes_attr = false; edges_attr = false; transient = false }
 columns_if (Some (Overlay t cols on)) = cols
 columns_if (Some (Base node cols)) = cols
+columns_if (Some (Selected what cols)) = cols
 
 abbrev pub columns_by : MachineState → ℕ → Columns
 columns_by m handle = columns_if (stands_at handle m.table)
@@ -177,6 +180,16 @@ with_heard m cols (t ∷ times) (single ∷ singles) = (single + heard_for m col
 -- the reply of a tree that weighs so much, with the weights of the single plans, for handles from this number on
 abbrev pub several_reply : ℕ → ℕ → List ℕ → List ℕ → Reply
 several_reply next weight times singles = record { head = head.Several weight (sum singles); body = handle_lines next times singles }
+
+-- ---- what is selected
+
+-- the bytes that are read for a selection: of the tree of the instants
+abbrev pub weight_of_selection : MachineState → Columns → Selection → Planned → ℕ
+weight_of_selection m cols (Chosen e) p = tree_weight (arcs_of (edges_in m cols)) p.grafts
+
+-- the first line of the reply to a selection
+abbrev pub selection_head : Selection → ℕ → ℕ → Head
+selection_head (Chosen e) handle weight = head.Chosen handle weight
 
 -- ---- plans
 
@@ -280,6 +293,10 @@ accepted m (command.Certify t cols count) lines p =
 accepted m command.Verify lines p = say m (verify_reply (history_in m.index))
 accepted m command.Tree lines p = say m (tree_reply (history_in m.index))
 accepted m (command.Workload seed count) lines p = with_workload m (batch_of_changes (history_in m.index) (generated seed count))
+accepted m (command.Select what cols) lines p = record {
+  reply = headed (selection_head what m.next (weight_of_selection m cols what p));
+  state = with_handle m (Selected what cols);
+}
 
 -- the refusal, or else the answer of an accepted command
 abbrev pub answer_by : Option Refusal → MachineState → Command → List ScriptLine → Planned → Answered
@@ -340,4 +357,5 @@ abbrev pub weight_told : Head → ℕ
 weight_told (head.At handle weight) = weight
 weight_told (head.Several weight sum) = weight
 weight_told (head.Materialised handle weight) = weight
+weight_told (head.Chosen handle weight) = weight
 weight_told h = 0

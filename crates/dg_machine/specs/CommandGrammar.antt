@@ -1,11 +1,16 @@
 -- The grammar of commands and of plan lines: which line of a script is which.
 use Rattle.std.specs.Prelude.{ℕ, ◌+◌, ◌-◌, ◌≤◌, Bool, true, false, List, [], ◌∷◌, ◌++◌, Option, Some, None, if◌then◌else◌, codes, length, take, is_some, nat_le, option_and_then, replicate, IsTrue}
+use Rattle.std.specs.List.{join_with_byte}
 use Rattle.std.specs.Option.{option_map, option_or}
+use Rattle.dg_expr.specs.declared.expression.TheConstants.{EXPRESSION_WORDS_MAX}
+use Rattle.dg_expr.specs.ExpressionGrammar.{expression_of}
+use Rattle.dg_expr.specs.Expressions.{expr_of, is_expression, words_of}
 use Rattle.dg_graph.specs.declared.element.Columns.{Columns}
 use Rattle.dg_machine.specs.declared.command.Command.{Command}
 use Rattle.dg_machine.specs.declared.command.Command.TheVariants as command
 use Rattle.dg_machine.specs.declared.command.Query.TheVariants as query
 use Rattle.dg_machine.specs.declared.command.TheConstants.{TIMES_MAX}
+use Rattle.dg_machine.specs.declared.selection.Selection.TheVariants.{Chosen}
 use Rattle.dg_history.specs.declared.limits.TheConstants.{BATCH_LINES_MAX}
 use Rattle.dg_graph.specs.declared.function.Function.{Function}
 use Rattle.dg_graph.specs.declared.function.Function.TheVariants.{Intersection, Union, Balanced}
@@ -90,6 +95,12 @@ held_node_verbs =
     ∷ verb (codes "inner") (three n32_of n32_of columns_of (λ h j cols. command.Materialise (node.Inner h j) cols))
     ∷ []
 
+-- columns, and an expression over instants, which is the rest of the line
+abbrev pub choice_of : List (List ℕ) → Option Command
+choice_of (cols ∷ word ∷ more) =
+    option_and_then (λ c. option_map (λ ws. command.Select (Chosen (expr_of ws)) c) (expression_of (join_with_byte 32 (word ∷ more)))) (columns_of cols)
+choice_of rest = None
+
 -- the commands, by their first word
 abbrev pub command_verbs : List (Verb Command)
 command_verbs =
@@ -112,6 +123,7 @@ command_verbs =
     ∷ verb (codes "upgrade") (none_more command.Upgrade)
     ∷ verb (codes "tree") (none_more command.Tree)
     ∷ verb (codes "workload") (two_words id_of count_of (λ seed n. command.Workload seed n))
+    ∷ verb (codes "expression") choice_of
     ∷ []
 
 -- the command that the line is
@@ -167,7 +179,8 @@ plan_line_in Long = None
 -- ---- ranges
 
 -- The number of lines that follow is in its range: a batch has one at least, and no command has more than a
--- batch may have; and so is the number of instants, and that of cells. Every command that a line is is so.
+-- batch may have; and so is the number of instants, that of cells; and the words of an expression are one. Every
+-- command that a line is is so.
 abbrev pub CountIsInRange : Command → Type 0
 CountIsInRange (command.Load count) = (1 ≤ count) × (count ≤ BATCH_LINES_MAX)
 CountIsInRange (command.Append count) = (1 ≤ count) × (count ≤ BATCH_LINES_MAX)
@@ -175,4 +188,5 @@ CountIsInRange (command.Workload seed count) = (1 ≤ count) × (count ≤ BATCH
 CountIsInRange (command.Certify t cols count) = count ≤ BATCH_LINES_MAX
 CountIsInRange (command.Several cols times count) = (1 ≤ count) × (count ≤ TIMES_MAX)
 CountIsInRange (command.Clean cells) = 1 ≤ cells
+CountIsInRange (command.Select (Chosen e) cols) = IsTrue (is_expression (words_of e)) × (e.count ≤ EXPRESSION_WORDS_MAX)
 CountIsInRange c = Unit {0}

@@ -1,5 +1,6 @@
 pub mod CommandGrammar
 pub mod ReplyText
+pub mod Selections
 pub mod MachineState
 pub mod Needs
 pub mod Planning

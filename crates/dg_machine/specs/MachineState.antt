@@ -7,7 +7,8 @@ use Rattle.dg_machine.specs.declared.limits.Limits.{Limits}
 use Rattle.dg_history.specs.declared.limits.TheConstants.{EVENTS_MAX, FILE_BYTES_MAX}
 use Rattle.dg_machine.specs.declared.limits.TheConstants.{FIRST_HANDLE, SCRIPT_BYTES_MAX}
 use Rattle.dg_machine.specs.declared.stands.Stands.{Stands}
-use Rattle.dg_machine.specs.declared.stands.Stands.TheVariants.{Overlay, Base}
+use Rattle.dg_machine.specs.declared.stands.Stands.TheVariants.{Overlay, Base, Selected}
+use Rattle.dg_machine.specs.Selections.{selected}
 use Rattle.dg_graph.specs.Elements.{shown}
 use Rattle.dg_history.specs.declared.form.Form.TheVariants as form
 use Rattle.dg_history.specs.History.{History, empty_history, events_of, names_of}
@@ -64,6 +65,7 @@ abbrev pub is_overlay_on : ℕ → Stands → Bool
 is_overlay_on handle (Overlay t cols None) = false
 is_overlay_on handle (Overlay t cols (Some base)) = base == handle
 is_overlay_on handle (Base node cols) = false
+is_overlay_on handle (Selected what cols) = false
 
 -- the first live handle that rests on this one, and so the least
 abbrev pub dependent_on : ℕ → List (ℕ × Stands) → Option ℕ
@@ -71,10 +73,11 @@ dependent_on handle [] = None
 dependent_on handle (entry ∷ table) = if is_overlay_on handle entry.1 then Some entry.0 else dependent_on handle table
 
 -- The elements of what a handle stands for, in its columns: the graph as of the instant with the messages of the
--- instant, or the set of the node.
+-- instant, the set of the node, or what is selected.
 abbrev pub elements : History → Stands → List Element
 elements z (Overlay t cols on) = shown_at (events_of z) t cols
 elements z (Base node cols) = shown (set_of z.params (events_of z) node) cols
+elements z (Selected what cols) = selected z cols what
 
 -- the elements of any of these sets
 abbrev pub union_of_sets : List (List Element) → List Element

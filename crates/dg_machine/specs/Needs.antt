@@ -4,6 +4,7 @@ use Rattle.std.specs.List.{list_any}
 use Rattle.dg_graph.specs.declared.function.Function.{Function}
 use Rattle.dg_graph.specs.declared.function.Function.TheVariants.{Skewed}
 use Rattle.dg_graph.specs.declared.limits.TheConstants.{SKEW_MAX}
+use Rattle.dg_expr.specs.Expressions.{instants_of, words_of}
 use Rattle.dg_text.specs.declared.limits.TheConstants.{NAMES_MAX}
 use Rattle.dg_text.specs.Lines.{ScriptLine}
 use Rattle.dg_history.specs.declared.node.NodeId.{NodeId}
@@ -18,8 +19,10 @@ use Rattle.dg_machine.specs.declared.command.Query.TheVariants as query
 use Rattle.dg_machine.specs.declared.limits.TheConstants.{HANDLE_MAX, LIVE_HANDLES_MAX}
 use Rattle.dg_machine.specs.declared.reply.Refusal.{Refusal}
 use Rattle.dg_machine.specs.declared.reply.Refusal.TheVariants as refusal
+use Rattle.dg_machine.specs.declared.selection.Selection.{Selection}
+use Rattle.dg_machine.specs.declared.selection.Selection.TheVariants.{Chosen}
 use Rattle.dg_machine.specs.declared.stands.Stands.{Stands}
-use Rattle.dg_machine.specs.declared.stands.Stands.TheVariants.{Overlay, Base}
+use Rattle.dg_machine.specs.declared.stands.Stands.TheVariants.{Overlay, Base, Selected}
 use Rattle.dg_machine.specs.MachineState.{MachineState, dependent_on, events_in_index, history_in, names_in, stands_at}
 
 pub record Needs : Type 0 where
@@ -78,6 +81,10 @@ abbrev pub share_of : Function → ℕ
 share_of (Skewed r) = r
 share_of function = 0
 
+-- the instants of which something is asked for a selection
+abbrev pub instants_asked : Selection → List ℕ
+instants_asked (Chosen e) = instants_of (words_of e)
+
 abbrev pub needs : Command → Needs
 needs (command.Create l k function) = record nothing_more { parameters = Some (l, k, share_of function); writes = true }
 needs (command.CreateSkewed l k r) = record nothing_more { parameters = Some (l, k, r); writes = true }
@@ -98,6 +105,8 @@ needs command.Verify = record nothing_more { index = true; reads = true }
 needs command.Tree = record nothing_more { index = true }
 needs (command.Workload seed count) =
     record nothing_more { index = true; unloaded = true; changes = count; reads = true; writes = true }
+needs (command.Select what cols) =
+    record nothing_more { index = true; instants = instants_asked what; handles = 1; reads = true }
 
 abbrev pub or_none : Option ℕ → ℕ
 or_none None = 0
@@ -129,11 +138,12 @@ abbrev pub earliest : List Refusal → Option Refusal
 earliest [] = None
 earliest (r ∷ rest) = Some r
 
--- the handle is live, and stands for a node of the index
-abbrev pub is_base : Option Stands → Bool
-is_base None = false
-is_base (Some (Overlay t cols on)) = false
-is_base (Some (Base node cols)) = true
+-- the handle is live, and stands for a set: of a node of the index, or selected
+abbrev pub is_set : Option Stands → Bool
+is_set None = false
+is_set (Some (Overlay t cols on)) = false
+is_set (Some (Base node cols)) = true
+is_set (Some (Selected what cols)) = true
 
 -- the node is a leaf or an interior node that exists where so many events are there
 abbrev pub can_be_held : Params → ℕ → NodeId → Bool
@@ -166,7 +176,7 @@ refusals m lines n =
     ++ (when (nat_lt 0 n.changes && is_full m n.changes) (refusal.HistoryFull (length (events_in_index m.index)) n.changes)
     ++ (when (list_any (λ t. not (in_range (span_of (events_in_index m.index)) t)) n.instants) (refusal.OutOfRange (span_of (events_in_index m.index)))
     ++ (of n.handle (λ h. when (not (is_some (stands_at h m.table))) (refusal.UnknownHandle h))
-    ++ (of n.handle (λ h. when (n.overlay && is_base (stands_at h m.table)) (refusal.NotAnOverlay h))
+    ++ (of n.handle (λ h. when (n.overlay && is_set (stands_at h m.table)) (refusal.NotAnOverlay h))
     ++ (of n.unused (λ h. of (dependent_on h m.table) (λ d. refusal.InUse d ∷ []))
     ++ (of n.node (λ v. when (not (has_index_node m v)) refusal.UnknownNode)
     ++ (when (nat_lt 0 n.handles && nat_lt LIVE_HANDLES_MAX (length m.table + n.handles)) (refusal.PoolFull (length m.table) n.handles)

@@ -1,6 +1,7 @@
 -- The plans of commands: over which graph of the index, and to which node.
 use Rattle.std.specs.Prelude.{◌≡◌, ℕ, Bool, ◌&&◌, ◌||◌, not, List as ListOf, [], ◌∷◌, if◌then◌else◌, map, take}
 use Rattle.std.specs.List.{AllZip, flat_map}
+use Rattle.dg_expr.specs.Expressions.{instants_of, words_of}
 use Rattle.dg_graph.specs.declared.element.Columns.{Columns}
 use Rattle.dg_history.specs.declared.node.NodeId.{NodeId}
 use Rattle.dg_history.specs.declared.node.NodeId.TheVariants.{Root}
@@ -12,8 +13,9 @@ use Rattle.dg_plan.specs.InstantPoint.{point}
 use Rattle.dg_plan.specs.Walks.{Graft, IsPlan, IsPotential, IsTree, AreSingles, weight_of}
 use Rattle.dg_machine.specs.declared.command.Command.{Command}
 use Rattle.dg_machine.specs.declared.command.Command.TheVariants as command
+use Rattle.dg_machine.specs.declared.selection.Selection.TheVariants.{Chosen}
 use Rattle.dg_machine.specs.declared.stands.Stands.{Stands}
-use Rattle.dg_machine.specs.declared.stands.Stands.TheVariants.{Overlay, Base}
+use Rattle.dg_machine.specs.declared.stands.Stands.TheVariants.{Overlay, Base, Selected}
 use Rattle.dg_machine.specs.MachineState.{MachineState, history_in}
 
 -- the first columns have all of the second
@@ -23,6 +25,7 @@ includes all cols = (all.nodes_attr || not cols.nodes_attr) && (all.edges_attr |
 -- the handle and its node, where it stands for a node in columns that can serve these
 abbrev pub usable : Columns → ℕ × Stands → ListOf (ℕ × NodeId)
 usable cols (handle, Overlay t others on) = []
+usable cols (handle, Selected what others) = []
 usable cols (handle, Base node all) = if includes all cols then (handle, node) ∷ [] else []
 
 -- the handles whose nodes can serve a retrieval in these columns, the oldest first
@@ -63,7 +66,8 @@ abbrev pub points_for : MachineState → ListOf ℕ → ListOf NodeId
 points_for m times = map (point_for m) times
 
 -- This is planned for the command: the least plan of its instant, for `plan` with the potentials that certify
--- it; the tree of its instants; or the least plan of its node, over the records alone. Most commands have no plan.
+-- it; the tree of its instants, for an expression of its distinct ones; or the least plan of its node, over the records
+-- alone. Most commands have no plan.
 abbrev pub IsPlanned : MachineState → Command → Planned → Type 0
 IsPlanned m (command.At t cols) p = IsPlan (arcs_of (edges_in m cols)) (Root ∷ []) (point_for m t) p.steps
 IsPlanned m (command.Several cols times count) p =
@@ -73,4 +77,6 @@ IsPlanned m (command.Materialise node cols) p = IsPlan (arcs_of (record_edges_in
 IsPlanned m (command.Plan t cols) p =
     IsPlan (arcs_of (edges_in m cols)) (Root ∷ []) (point_for m t) p.steps
     × AllZip (IsPotential (arcs_of (edges_in m cols)) (Root ∷ []) (weight_of (arcs_of (edges_in m cols)) p.steps)) (nodes_in m cols) p.potentials
+IsPlanned m (command.Select (Chosen e) cols) p =
+    IsTree (arcs_of (edges_in m cols)) (Root ∷ []) (points_for m (instants_of (words_of e))) p.grafts
 IsPlanned m c p = p ≡ no_plan

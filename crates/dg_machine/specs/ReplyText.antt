@@ -153,6 +153,7 @@ head_words (head.Generated events last nodes edges) =
     codes "ok" ∷ codes "workload" ∷ decimal events ∷ decimal last ∷ decimal nodes ∷ decimal edges ∷ []
 head_words (head.Tree l k function events leaves records) =
     codes "ok" ∷ codes "tree" ∷ decimal l ∷ decimal k ∷ (function_words function ++ decimal events ∷ decimal leaves ∷ decimal records ∷ [])
+head_words (head.Chosen handle weight) = codes "ok" ∷ codes "expression" ∷ decimal handle ∷ decimal weight ∷ []
 head_words (head.Refused r) = codes "refused" ∷ refusal_words r
 
 -- words with a space between each two, and a line feed

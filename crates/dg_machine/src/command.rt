@@ -1,4 +1,5 @@
 //! The commands of a script, and the queries of a handle.
+use crate::selection::Selection;
 use dg_graph::{Columns, Function};
 use dg_history::NodeId;
 
@@ -101,5 +102,10 @@ pub enum Command {
     Workload {
         seed: u64,
         count: u32,
+    },
+    /// Hold the elements that are selected from the history, in these columns, as a new handle.
+    Select {
+        what: Selection,
+        cols: Columns,
     },
 }

@@ -6,6 +6,7 @@ mod command;
 mod laws;
 mod limits;
 mod reply;
+mod selection;
 mod stands;
 
 pub use command::{Command, Query, TIMES_MAX};
@@ -14,4 +15,5 @@ pub use limits::{
     FIRST_HANDLE, HANDLE_MAX, LIVE_HANDLES_MAX, Limits, SCRIPT_BYTES_MAX, machine_limits,
 };
 pub use reply::{BodyLine, BodyLines, Head, Refusal, Reply};
+pub use selection::Selection;
 pub use stands::Stands;

@@ -125,6 +125,11 @@ pub enum Head {
         nodes: u64,
         edges: u64,
     },
+    /// The elements of which an expression holds are held as this handle: the weight of the tree of its instants.
+    Chosen {
+        handle: u32,
+        weight: u64,
+    },
     /// The command was refused, and nothing has changed.
     Refused(Refusal),
 }
@@ -166,7 +171,7 @@ pub enum Refusal {
     Damaged(Key, Column),
     /// 16: want of memory.
     OutOfMemory,
-    /// 17: the handle stands for a node of the index, and not for a graph as of an instant.
+    /// 17: the handle stands for a set, of a node of the index or selected, and not for a graph as of an instant.
     NotAnOverlay(u32),
     /// 18: the line has more than `LINE_BYTES_MAX` bytes.
     LineLong,

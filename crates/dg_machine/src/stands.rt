@@ -1,4 +1,5 @@
 //! What a live handle stands for.
+use crate::selection::Selection;
 use dg_graph::Columns;
 use dg_history::NodeId;
 
@@ -14,6 +15,11 @@ pub enum Stands {
     /// The set of a leaf or of an interior node of the index, in these columns. It rests on nothing.
     Base {
         node: NodeId,
+        cols: Columns,
+    },
+    /// The elements that were selected, in these columns. It rests on nothing, and nothing rests on it.
+    Selected {
+        what: Selection,
         cols: Columns,
     },
 }
