@@ -1,22 +1,29 @@
 -- The rows of the grammar of commands are those that the table of commands reads.
-use Rattle.std.proofs.Common.{◌≡◌, ℕ, ◌+◌, ◌-◌, ◌*◌, ◌<◌, List, [], ◌∷◌, ◌++◌, length, take, drop, codes, option_and_then, is_some, Option, Some, refl, sym, ap, ◌∙◌, subst, arith, zero, suc, length-append, append_assoc}
-use Rattle.std.specs.List.{AllByRecursion, Any}
+use Rattle.std.proofs.Common.{◌≡◌, ℕ, ◌+◌, ◌-◌, ◌<◌, ◌⊎◌, inl, inr, max, Bool, true, false, cond, None, List, [], ◌∷◌, ◌++◌, length, take, drop, codes, option_and_then, is_some, Option, Some, refl, sym, ap, ◌∙◌, subst, arith, zero, suc, length-append, append_assoc}
+use Rattle.std.specs.List.{AllByRecursion, Any, Contains}
+use Rattle.std.proofs.lemmas.Bool.{false≢true}
+use Rattle.std.proofs.lemmas.Slice.Eq.{bytes_eq-Decides}
 use Rattle.std.proofs.lemmas.Fmt.{decimal_digit}
 use Rattle.std.proofs.lemmas.List.{length-take-le, take-append-drop}
+use Rattle.dg_expr.specs.ExpressionGrammar.{IsExpressionText}
 use Rattle.dg_graph.specs.declared.limits.TheConstants.{TIME_MAX}
 use Rattle.dg_history.specs.declared.limits.TheConstants.{BATCH_LINES_MAX}
-use Rattle.dg_text.specs.Verbs.{Verb, read_by}
+use Rattle.dg_text.specs.Verbs.{Verb, is_word, look_up, read_by}
 use Rattle.dg_text.specs.Words.{words}
 use Rattle.dg_changes.specs.ChangeGrammar.{id_of, time_of}
 use Rattle.dg_machine.specs.declared.command.Command.{Command}
 use Rattle.dg_machine.specs.declared.command.Command.TheVariants as command
-use Rattle.dg_machine.specs.CommandGrammar.{BeginsCommand, IsColumn, columns_of, command_verbs, count_from_0, count_of, function_of, handle_of, heard_columns_of, held_node_verbs, n32_of, skewed_of, sweep_of}
+use Rattle.dg_machine.specs.CommandGrammar.{BeginsCommand, IsColumn, choice_of, columns_of, command_of, command_verbs, count_from_0, count_of, function_of, handle_of, heard_columns_of, held_node_verbs, n32_of, skewed_of, sweep_of}
 use Rattle.dg_grammar.specs.Prefixes.{IsLongestPrefix, IsPrefixOfOne}
 use Rattle.dg_grammar.specs.Symbols.{Terminal, One_of, Number, IsLineOfOne}
 use Rattle.dg_grammar.proofs.WordNumbers.{number_within}
 use Rattle.dg_line.proofs.CommandGrammarInstants.{several_row, zero_text, zero_words}
-use Rattle.dg_grammar.proofs.Symbols.{lines_short}
-use Rattle.dg_line.proofs.Verbs.{AreWordsOf, ReadsWord, ReadsEither, Rows, number_word, more_texts, no_text, no_words, one_row, two_row, three_row, four_row, text_or, either_rows, or_rows, row, filled_row, zeros, table, ◌▸◌}
+use Rattle.dg_grammar.proofs.Prefixes.{Plain, either}
+use Rattle.dg_grammar.proofs.Symbols.{Words_are, fine_word, lines_short, some_words}
+use Rattle.dg_line.specs.Tails.{IsLineThen}
+use Rattle.dg_line.proofs.CommandTails.{either_verb, expression_row, first_verbs, gives_expression, takes_expression}
+use Rattle.dg_line.proofs.LineTails.{then_short}
+use Rattle.dg_line.proofs.Verbs.{AreWordsOf, Is, ReadsWord, ReadsEither, Rows, number_word, more_texts, no_text, no_words, one_row, two_row, three_row, four_row, text_or, either_rows, or_rows, row, filled_row, zeros, table, ◌▸◌}
 
 pub n32 : ReadsWord n32_of (Number 0 4294967295)
 n32 = number_word 0 4294967295
@@ -58,8 +65,15 @@ each_held = row (two_row n32 columns _) ▸ row (three_row n32 n32 columns _) �
 abbrev pub held_nodes : Rows (read_by held_node_verbs)
 held_nodes = table held_node_verbs each_held refl
 
--- what each command takes, in the order of the table
-abbrev pub each_command : AllByRecursion (λ (v : Verb Command). Rows v.read) command_verbs
+-- the commands that are words alone, and the one behind them in the table
+abbrev pub row_verbs : List (Verb Command)
+row_verbs = take 19 command_verbs
+
+abbrev pub tail_verbs : List (Verb Command)
+tail_verbs = drop 19 command_verbs
+
+-- what each command takes that is words alone, in the order of the table
+abbrev pub each_command : AllByRecursion (λ (v : Verb Command). Rows v.read) row_verbs
 each_command =
     or_rows (row (three_row n32 n32 function _)) (row (four_row n32 n32 skewed n32 _))
     ▸ row (one_row count _)
@@ -82,8 +96,8 @@ each_command =
     ▸ row (two_row id count _)
     ▸ tt
 
-abbrev pub commands : Rows (read_by command_verbs)
-commands = table command_verbs each_command refl
+abbrev pub commands : Rows (read_by row_verbs)
+commands = table row_verbs each_command refl
 
 abbrev pub command_rows : List (List Terminal)
 command_rows = commands.rows
@@ -96,8 +110,42 @@ some_command = (
       (number_within 1 BATCH_LINES_MAX 1 (codes "1") (omega arith) (sym (decimal_digit 1 (omega arith))) (omega arith) (omega arith)),
 )
 
--- the column behind the longest prefix of a line of one of the rows
-pub column_is : (line : List ℕ) (longest column : ℕ) → IsLongestPrefix (IsLineOfOne command_rows) line longest → column ≡ longest + 1
+-- a line of words alone, or of some words with an expression behind them
+abbrev pub IsExpressionLine : List ℕ → Type 0
+IsExpressionLine line = IsLineThen expression_row IsExpressionText line
+
+abbrev pub IsCommandLine : List ℕ → Type 0
+IsCommandLine line = IsLineOfOne command_rows line ⊎ IsExpressionLine line
+
+-- which words of a command
+behind_rows : (line w : List ℕ) (ws : List (List ℕ)) → words line ≡ w ∷ ws → Is (look_up w tail_verbs ws) → IsExpressionLine line
+behind_rows line w ws e h = first (is_word w (codes "expression")) refl h
+  where
+    named : (text : List ℕ) → is_word w text ≡ true → words line ≡ text ∷ ws
+    named text same = e ∙ ap (λ (x : List ℕ). x ∷ ws) ((bytes_eq-Decides w text).0 same)
+
+    first : (b : Bool) → is_word w (codes "expression") ≡ b → Is (cond b (choice_of ws) None) → IsExpressionLine line
+    first true same h = takes_expression columns line ws (named (codes "expression") same) h
+    first false same h = absurd (false≢true h)
+
+plain_columns : (w : List ℕ) → Contains (codes "s" ∷ codes "sn" ∷ codes "se" ∷ codes "sne" ∷ []) w → Plain w
+plain_columns w h = (fine_word (One_of (codes "s" ∷ codes "sn" ∷ codes "se" ∷ codes "sne" ∷ [])) w refl h).plain
+
+-- a line of words alone is a command
+row_is : (line : List ℕ) → IsLineOfOne command_rows line → Is (command_of line)
+row_is line h = elim (some_words line) [
+  | Words_are w ws some ↦
+      let read = commands.gives (words line) h in
+      subst (λ l. Is (read_by command_verbs l)) (sym some)
+      (first_verbs row_verbs tail_verbs w ws (subst (λ l. Is (read_by row_verbs l)) some read))
+]
+
+line_is : (line : List ℕ) → IsCommandLine line → Is (command_of line)
+line_is line (inl h) = row_is line h
+line_is line (inr h) = gives_expression columns plain_columns line h
+
+-- the column behind the longest prefix of such a line
+pub column_is : (line : List ℕ) (longest column : ℕ) → IsLongestPrefix IsCommandLine line longest → column ≡ longest + 1
     → IsColumn line column
 column_is line longest column f is = record {
   from_one = omega arith;
@@ -108,23 +156,41 @@ column_is line longest column f is = record {
       omega (arith, length-take-le n line in_line);
 }
   where
-    fills : (bytes : List ℕ) → BeginsCommand bytes → IsPrefixOfOne (IsLineOfOne command_rows) bytes
-    fills bytes b =
-        let found = commands.takes (words (bytes ++ b.0)) b.1 in
-        let same : words (bytes ++ b.0) ++ zeros found.0 ≡ words (bytes ++ (b.0 ++ zero_text found.0)) =
-        sym (zero_words found.0 (bytes ++ b.0)) ∙ ap words (append_assoc bytes b.0 (zero_text found.0)) in
-        (b.0 ++ zero_text found.0, subst (λ (ws : List (List ℕ)). Any (AreWordsOf ws) command_rows) same found.1)
+    by_row : (bytes rest : List ℕ) → Is (read_by row_verbs (words (bytes ++ rest))) → IsPrefixOfOne IsCommandLine bytes
+    by_row bytes rest h =
+        let found = commands.takes (words (bytes ++ rest)) h in
+        let same : words (bytes ++ rest) ++ zeros found.0 ≡ words (bytes ++ (rest ++ zero_text found.0)) =
+        sym (zero_words found.0 (bytes ++ rest)) ∙ ap words (append_assoc bytes rest (zero_text found.0)) in
+        (rest ++ zero_text found.0, inl (subst (λ (ws : List (List ℕ)). Any (AreWordsOf ws) command_rows) same found.1))
 
-    begins : (n : ℕ) → IsLongestPrefix (IsLineOfOne command_rows) line n → BeginsCommand (take n line)
+    fills : (bytes : List ℕ) → BeginsCommand bytes → IsPrefixOfOne IsCommandLine bytes
+    fills bytes b = elim (some_words (bytes ++ b.0)) [
+      | Words_are w ws some ↦ elim (either_verb row_verbs tail_verbs w ws (subst (λ l. Is (read_by command_verbs l)) some b.1)) [
+        | inl h ↦ by_row bytes b.0 (subst (λ l. Is (read_by row_verbs l)) (sym some) h)
+        | inr h ↦ (b.0, inr (behind_rows (bytes ++ b.0) w ws some h))
+      ]
+    ]
+
+    begins : (n : ℕ) → IsLongestPrefix IsCommandLine line n → BeginsCommand (take n line)
     begins zero g = some_command
     begins (suc n) g =
         let b = g.begins (omega arith) in
-        (b.0, commands.gives (words (take (suc n) line ++ b.0)) b.1)
+        (b.0, line_is (take (suc n) line ++ b.0) b.1)
+
+-- the longest prefix, from those of the two kinds of line
+pub longest_of_both : (line : List ℕ) (n e k : ℕ) → IsLongestPrefix (IsLineOfOne command_rows) line n → IsLongestPrefix IsExpressionLine line e → k ≡ max n e
+    → IsLongestPrefix IsCommandLine line k
+longest_of_both line n e k rows expression is =
+    either (IsLineOfOne command_rows) IsExpressionLine IsCommandLine line n e k rows expression is (λ w h. inl h) (λ w h. inr h) (λ w h. h)
+
+line_short : (line : List ℕ) → IsCommandLine line → length line < 2100
+line_short line (inl h) = lines_short command_rows line 100 refl refl h
+line_short line (inr h) = let short = then_short expression_row line refl h in omega arith
 
 -- the longest prefix is short
-pub prefix_short : (line : List ℕ) (longest : ℕ) → IsLongestPrefix (IsLineOfOne command_rows) line longest → longest < 2100
+pub prefix_short : (line : List ℕ) (longest : ℕ) → IsLongestPrefix IsCommandLine line longest → longest < 2100
 prefix_short line zero f = omega arith
 prefix_short line (suc n) f =
     let b = f.begins (omega arith) in
-    let short : length (take (suc n) line ++ b.0) < 21 * 100 = lines_short command_rows (take (suc n) line ++ b.0) 100 refl refl b.1 in
+    let short = line_short (take (suc n) line ++ b.0) b.1 in
     omega (arith, length-append (take (suc n) line) b.0, length-take-le (suc n) line f.within)

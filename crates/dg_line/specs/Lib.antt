@@ -1,1 +1,2 @@
 pub mod TextChange
+pub mod Tails

@@ -8,9 +8,11 @@ use crate::handle_parsers::{
     at, clean, counts, list, materialise, neighbours, node, pool, release, several,
 };
 use crate::index_parsers::{append, certify, create, load, plan, tree, upgrade, verify, workload};
+use crate::selection_parsers::expression;
 use crate::symbols::{
     CELLS, COLUMNS, COUNT, COUNT_FROM_0, FUNCTION, HANDLE, HEARD_COLUMNS, ID, N32, TIME,
 };
+use crate::tails::then_expression_prefix;
 use crate::words::{Words, found, is};
 use dg_grammar::{Symbol, longest_prefix};
 use dg_machine::Command;
@@ -19,8 +21,8 @@ use thiserror::Error;
 /// The word `several`, whose row has many symbols.
 const SEVERAL: Symbol = Symbol::OneOf(&[b"several"]);
 
-/// The commands as rows of symbols: one for each, and two for `create`, for `materialise` and for `clean`. One space
-/// parts two words. A command of fewer instants than `TIMES_MAX` is a prefix of one of so many.
+/// The commands that are words alone, as rows of symbols: one for each, and two for `create`, for `materialise` and for
+/// `clean`. One space parts two words. A command of fewer instants than `TIMES_MAX` is a prefix of one of so many.
 const COMMANDS: &[&[Symbol]] = &[
     &[Symbol::OneOf(&[b"create"]), N32, N32, FUNCTION],
     &[
@@ -98,7 +100,10 @@ const COMMANDS: &[&[Symbol]] = &[
     &[Symbol::OneOf(&[b"workload"]), ID, COUNT],
 ];
 
-/// Every command has fewer bytes: at most 100 words, of at most 20 bytes and a space each.
+/// The words before an expression.
+const EXPRESSION: &[Symbol] = &[Symbol::OneOf(&[b"expression"]), COLUMNS];
+
+/// Every command has fewer bytes: at most 100 words, of at most 20 bytes and a space each, or two words and an expression.
 const COMMAND_BYTES: usize = 2100;
 
 /// The line is in no command; the column, from 1, at which it leaves the grammar.
@@ -134,7 +139,7 @@ fn command_prefix(line: &[u8]) -> usize
     ensures column { IsColumn line.now (result + 1) }
     ensures short { result < COMMAND_BYTES }
 {
-    longest_prefix(COMMANDS, line)
+    longest_prefix(COMMANDS, line).max(then_expression_prefix(EXPRESSION, line))
 }
 
 // The command that the line is.
@@ -202,6 +207,8 @@ fn index_command(verb: &[u8], words: Words) -> Option<Command>
         tree(words)
     } else if is(verb, b"workload") {
         workload(words)
+    } else if is(verb, b"expression") {
+        expression(words)
     } else {
         None
     }

@@ -8,7 +8,9 @@ mod command_words;
 mod handle_parsers;
 mod index_parsers;
 mod plan_line;
+mod selection_parsers;
 mod symbols;
+mod tails;
 mod text_change;
 mod words;
 

@@ -69,6 +69,9 @@ pub(crate) fn head_line(head: &Head) -> ReplyLine<'static>
             nodes,
             edges,
         } => generated_line(events, last, nodes, edges),
+        Head::Chosen { handle, weight } => {
+            numbers_line(b"expression", u64::from(handle), weight)
+        }
         Head::Refused(refusal) => refusal_line(refusal),
     }
 }
