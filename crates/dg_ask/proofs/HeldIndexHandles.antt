@@ -76,15 +76,25 @@ nodes_after (Ok x) index old new cols times bases added same h =
     subst (HasNodes index) (sym added) (nodes_with_overlays index old.table old.next cols times bases h)
 nodes_after (Err e) index old new cols times bases added same h = subst (λ (s : HandlesState). HasNodes index s.table) (sym same) h
 
+-- whether the handle of a set was added or not: of a node that the index has, or selected
+pub set_after : {A E : Type 0} (r : Result A E) (index : Option Opening) (old new : HandlesState) (stands : Stands)
+    → OnOk r (new.table ≡ old.table ++ (old.next, stands) ∷ []) → OnErr r (new ≡ old) → HasNodeOf index stands
+    → HasNodes index old.table → HasNodes index new.table
+set_after (Ok x) index old new stands added same has h =
+    let Has : ℕ × Stands → Type 0 = λ e. HasNodeOf index e.1 in
+    subst (HasNodes index) (sym added) (All-append Has old.table ((old.next, stands) ∷ []) h (All-cons Has (old.next, stands) [] has (All-nil Has)))
+set_after (Err e) index old new stands added same has h = subst (λ (s : HandlesState). HasNodes index s.table) (sym same) h
+
+-- the index has the node
+node_there : (index : Option Opening) (node : NodeId) (cols : Columns) → is_some index ≡ true → has_node_held index node ≡ true → HasNodeOf index (Base node cols)
+node_there None node cols there has = false≢true there
+node_there (Some o) node cols there has = has
+
 -- whether the handle of a node that the index has was added or not
 pub node_after : {A E : Type 0} (r : Result A E) (index : Option Opening) (old new : HandlesState) (node : NodeId) (cols : Columns)
     → OnOk r (new.table ≡ old.table ++ (old.next, Base node cols) ∷ []) → OnErr r (new ≡ old) → is_some index ≡ true → has_node_held index node ≡ true
     → HasNodes index old.table → HasNodes index new.table
-node_after (Ok x) None old new node cols added same there has h = absurd (false≢true there)
-node_after (Ok x) (Some o) old new node cols added same there has h =
-    let Has : ℕ × Stands → Type 0 = λ e. HasNodeOf (Some o) e.1 in
-    subst (HasNodes (Some o)) (sym added) (All-append Has old.table ((old.next, Base node cols) ∷ []) h (All-cons Has (old.next, Base node cols) [] has (All-nil Has)))
-node_after (Err e) index old new node cols added same there has h = subst (λ (s : HandlesState). HasNodes index s.table) (sym same) h
+node_after r index old new node cols added same there has h = set_after r index old new (Base node cols) added same (node_there index node cols there has) h
 
 pub kept_after : {A E : Type 0} (r : Result A E) (index : Option Opening) (old new : HandlesState) (kept : List (Columns × PlannerGraph)) (cols : Columns) (times : List ℕ) (bases : List (Option ℕ))
     → OnOk r (new.table ≡ old.table ++ numbered old.next (overlays_on cols times bases)) → OnErr r (new ≡ old) → IsKeptFor index old.table kept → IsKeptFor index new.table kept

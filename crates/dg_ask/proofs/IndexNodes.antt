@@ -11,7 +11,7 @@ use Rattle.dg_history.specs.declared.params.Params.{Params}
 use Rattle.dg_index.specs.Hierarchy.{leaves}
 use Rattle.dg_index.specs.OpenedIndex.{Opening, event_total}
 use Rattle.dg_machine.specs.declared.stands.Stands.{Stands}
-use Rattle.dg_machine.specs.declared.stands.Stands.TheVariants.{Overlay, Base}
+use Rattle.dg_machine.specs.declared.stands.Stands.TheVariants.{Overlay, Base, Selected}
 use Rattle.dg_machine.specs.Needs.{can_be_held}
 use Rattle.dg_machine.specs.Planning.{bases_in, includes, usable}
 use Rattle.dg_plan.specs.IndexGraph.{Ground, nodes_of}
@@ -49,4 +49,5 @@ bases_listed listed o wide g many arity cols (e ∷ table) has =
 
     one : (handle : ℕ) (s : Stands) → HasNodeOf (Some o) s → All (λ (b : ℕ × NodeId). Contains (nodes_of g) b.1) (usable cols (handle, s))
     one handle (Overlay t others on) has = All-nil (λ (b : ℕ × NodeId). Contains (nodes_of g) b.1)
+    one handle (Selected what others) has = All-nil (λ (b : ℕ × NodeId). Contains (nodes_of g) b.1)
     one handle (Base node all) has = by handle node (includes all cols) (node_listed listed o.params (event_total o.batches) wide g many arity node has)

@@ -9,7 +9,7 @@ use Rattle.dg_history.specs.declared.params.Params.{Params}
 use Rattle.dg_index.specs.declared.entry.Ends.{Ends}
 use Rattle.dg_index.specs.OpenedIndex.{Opening, event_total, span_in}
 use Rattle.dg_machine.specs.declared.stands.Stands.{Stands}
-use Rattle.dg_machine.specs.declared.stands.Stands.TheVariants.{Overlay, Base}
+use Rattle.dg_machine.specs.declared.stands.Stands.TheVariants.{Overlay, Base, Selected}
 use Rattle.dg_machine.specs.Needs.{can_be_held}
 use Rattle.dg_planner.specs.HistoryLaws.{first_time_in}
 use Rattle.dg_catalogue.specs.Entries.{Holdings}
@@ -56,6 +56,7 @@ has_node_held index node = can_be_held (params_held index) (events_held index) n
 -- there is an index, and it has the node that the handle holds, where it holds one
 abbrev pub HasNodeOf : Option Opening → Stands → Type 0
 HasNodeOf index (Overlay t cols on) = Unit {0}
+HasNodeOf index (Selected what cols) = Unit {0}
 HasNodeOf None (Base node cols) = ⊥
 HasNodeOf (Some o) (Base node cols) = has_node_held (Some o) node ≡ true
 

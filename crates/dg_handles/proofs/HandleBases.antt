@@ -10,7 +10,7 @@ use Rattle.dg_handles.proofs.HandleEntries.{Entries, handles_in}
 use Rattle.dg_handles.proofs.HandleAdditions.{entry_of, numbers_are}
 use Rattle.dg_history.specs.declared.node.NodeId.{NodeId}
 use Rattle.dg_machine.specs.declared.stands.Stands.{Stands}
-use Rattle.dg_machine.specs.declared.stands.Stands.TheVariants.{Overlay, Base}
+use Rattle.dg_machine.specs.declared.stands.Stands.TheVariants.{Overlay, Base, Selected}
 use Rattle.dg_machine.specs.MachineState.{stands_at}
 use Rattle.dg_machine.specs.Planning.{bases_in, includes}
 
@@ -38,6 +38,7 @@ module _ (cols : Columns) (high : ℕ) (entry : ℕ × Stands) (table : Entries)
 bases_held : (cols : Columns) (low high : ℕ) (table : Entries) → RiseWithin low high (handles_in table) → AllByRecursion (HoldsNode table cols) (bases_in cols table)
 bases_held cols low high [] rises = tt
 bases_held cols low high ((n, Overlay t others on) ∷ table) rises = all_behind cols high (n, Overlay t others on) table rises.1 (bases_in cols table) (bases_held cols (n + 1) high table rises.1)
+bases_held cols low high ((n, Selected what others) ∷ table) rises = all_behind cols high (n, Selected what others) table rises.1 (bases_in cols table) (bases_held cols (n + 1) high table rises.1)
 bases_held cols low high ((n, Base node all) ∷ table) rises =
     at (includes all cols) refl (all_behind cols high (n, Base node all) table rises.1 (bases_in cols table) (bases_held cols (n + 1) high table rises.1))
   where

@@ -5,10 +5,11 @@ use Rattle.dg_graph.specs.declared.element.Column.{Column}
 use Rattle.dg_graph.specs.declared.element.Column.TheVariants.{Structure, NodeAttr, EdgeAttr, Transient}
 use Rattle.dg_graph.specs.declared.element.Columns.{Columns}
 use Rattle.dg_graph.specs.Elements.{asks, column_of}
-use Rattle.dg_handles.specs.Handles.{HandlesState, SlotHolds, IsBaseHandle, IsGraphIn, IsNoSlot, IsTied, RestsOn, TieIsKept, at_slot, slot_graphs, held_by, members_at, slot_of, with_messages}
+use Rattle.dg_handles.specs.Handles.{HandlesState, SlotHolds, IsBaseHandle, IsGraphIn, IsNoSlot, IsTied, RestsOn, RestsOnNothing, TieIsKept, at_slot, slot_graphs, held_by, members_at, slot_of, with_messages}
 use Rattle.dg_handles.proofs.HandleEntries.{beside, graph_beside, handles_in, none_dependent, slot_apart, slot_beside, slot_listed, zip-each, zip-length}
 use Rattle.dg_machine.specs.declared.stands.Stands.{Stands}
-use Rattle.dg_machine.specs.declared.stands.Stands.TheVariants.{Overlay, Base}
+use Rattle.dg_machine.specs.declared.stands.Stands.TheVariants.{Overlay, Base, Selected}
+use Rattle.dg_machine.specs.Answer.{columns_if}
 use Rattle.dg_machine.specs.MachineState.{dependent_on, stands_at, is_overlay_on}
 use Rattle.dg_machine.specs.Planning.{includes}
 use Rattle.dg_pool.specs.declared.slots.Base.{Base as PoolBase}
@@ -33,6 +34,14 @@ some_in cols allowed (Some g) h = refl
 some_held : (h : HandlesState) (stands : Stands) (o : Option SlotGraph) → SlotHolds h stands o → IsSome o
 some_held h (Overlay t cols on) o held = some_in cols (RestsOn h cols on) o held
 some_held h (Base node cols) o held = some_in (with_messages cols) (λ b. b ≡ base.Nothing) o held
+some_held h (Selected what cols) o held = some_in (with_messages cols) (λ b. b ≡ base.Nothing) o held
+
+-- the slot of a set
+pub set_holds : (h : HandlesState) (stands : Stands) (g : SlotGraph) → RestsOnNothing stands → g.cols ≡ with_messages (columns_if (Some stands)) → g.base ≡ base.Nothing
+    → SlotHolds h stands (Some g)
+set_holds h (Overlay t cols on) g alone same rests = absurd alone
+set_holds h (Base node cols) g alone same rests = (same, rests)
+set_holds h (Selected what cols) g alone same rests = (same, rests)
 
 -- a set with the messages serves an overlay in fewer columns, or with them
 included : (all cols : Columns) → includes all cols ≡ true → Includes (with_messages all) cols
@@ -97,6 +106,7 @@ module _ (p : PoolState) (h : HandlesState) (t : IsTied p h) where
       let same : b.0 ≡ r.0 = ap slot_number (sym is ∙ held.1.1 ∙ ap at_slot r.1) in
       (handle, eq-eqb handle handle refl, r.1 ∙ ap (λ n. Some n) (sym same))
   rests_by (Base node cols) g b held is = absurd (subst IsNoSlot (sym held.1 ∙ is) tt)
+  rests_by (Selected what cols) g b held is = absurd (subst IsNoSlot (sym held.1 ∙ is) tt)
 
   -- a slot on which a live one rests is one of the handles'
   pub rests_among : (s : ℕ) (g : SlotGraph) (b : Slot) → slot_graph p s ≡ Some g → g.base ≡ base.Slot b → is_listed h.slots b.0 ≡ true
@@ -141,6 +151,7 @@ module _ (p : PoolState) (h k : HandlesState) (t : IsTied p h) where
       of_handle : (n : ℕ) → Some handle ≡ Some n → handle ≡ n
       of_handle n e = ap (λ o. unwrap_or o handle) e
   holds_still (Base node cols) o stays held = held
+  holds_still (Selected what cols) o stays held = held
 
 pub tie_is_kept : TieIsKept
 tie_is_kept = λ old new h same t. record {

@@ -6,7 +6,7 @@ use Rattle.dg_graph.specs.declared.element.Columns.{Columns}
 use Rattle.dg_graph.specs.declared.element.Element.{Element}
 use Rattle.dg_history.specs.declared.node.NodeId.{NodeId}
 use Rattle.dg_machine.specs.declared.stands.Stands.{Stands}
-use Rattle.dg_machine.specs.declared.stands.Stands.TheVariants.{Overlay, Base}
+use Rattle.dg_machine.specs.declared.stands.Stands.TheVariants.{Overlay, Base, Selected}
 use Rattle.dg_machine.specs.MachineState.{stands_at, union_of_sets}
 use Rattle.dg_machine.specs.Planning.{includes}
 use Rattle.dg_pool.specs.declared.slots.Base.{Base as PoolBase}
@@ -118,11 +118,19 @@ IsGraphIn cols allowed (Some g) = (g.cols ≡ cols) × allowed g.base
 abbrev pub with_messages : Columns → Columns
 with_messages cols = record cols { transient = true }
 
--- A slot has a graph in the columns of what a handle stands for: an overlay rests as it is entered, and the set of a
--- node rests on nothing. The set has the messages with its columns, so that overlays with messages can rest on it.
+-- A slot has a graph in the columns of what a handle stands for: an overlay rests as it is entered, and a set, of a node
+-- or selected, rests on nothing. A set has the messages with its columns, so that overlays with messages can rest on that of
+-- a node.
 abbrev pub SlotHolds : HandlesState → Stands → Option SlotGraph → Type 0
 SlotHolds h (Overlay t cols on) o = IsGraphIn cols (RestsOn h cols on) o
 SlotHolds h (Base node cols) o = IsGraphIn (with_messages cols) (λ b. b ≡ base.Nothing) o
+SlotHolds h (Selected what cols) o = IsGraphIn (with_messages cols) (λ b. b ≡ base.Nothing) o
+
+-- it stands for a set, which rests on nothing
+abbrev pub RestsOnNothing : Stands → Type 0
+RestsOnNothing (Overlay t cols on) = ⊥
+RestsOnNothing (Base node cols) = Unit {0}
+RestsOnNothing (Selected what cols) = Unit {0}
 
 -- There are as many slots as handles. Each handle has a slot of its own, whose graph rests as the handle's entry says,
 -- and no other slot is live.

@@ -6,11 +6,11 @@ ghost use Rattle.std.specs.Option.{option_map};
 ghost use Rattle.dg_graph.specs.Composition.{applied};
 ghost use Rattle.dg_graph.specs.Elements.{shown};
 ghost use Rattle.dg_handles.specs.Attached.{AreAttached, graph_begun, graph_led, resting};
-ghost use Rattle.dg_handles.specs.Handles.{BeginsOn, CanBegin, HoldsNode, IsTied, graph_among, slot_graphs, graphs_without, held_by, numbered, overlays_on, slot_of, with_messages};
+ghost use Rattle.dg_handles.specs.Handles.{BeginsOn, CanBegin, HoldsNode, IsTied, RestsOnNothing, graph_among, slot_graphs, graphs_without, held_by, numbered, overlays_on, slot_of, with_messages};
+ghost use Rattle.dg_machine.specs.Answer.{columns_if};
 ghost use Rattle.dg_machine.specs.MachineState.{dependent_on, stands_at, without_handle};
 ghost use Rattle.dg_machine.specs.Planning.{bases_in};
 ghost use Rattle.dg_machine.specs.declared.limits.TheConstants.{HANDLE_MAX, LIVE_HANDLES_MAX};
-ghost use Rattle.dg_machine.specs.declared.stands.Stands.TheVariants as stands;
 ghost use Rattle.dg_planner.specs.Bases.{base_of as node_of};
 ghost use Rattle.dg_pool.specs.Changes.{numbers_of};
 ghost use Rattle.dg_pool.specs.Graphs.{PoolState, SameGraphs, graph_now, slot_graph};
@@ -21,7 +21,6 @@ use crate::entries::{Entry, bases, dependent, enter, index_of_handle};
 use crate::write::write_all;
 use dg_delta::Delta;
 use dg_graph::Columns;
-use dg_history::NodeId;
 use dg_machine::{LIVE_HANDLES_MAX, Stands};
 use dg_pool::{Base, Pool, Slot};
 use dg_retrieval::{Beginning, Leads};
@@ -62,6 +61,17 @@ fn with_messages(cols: Columns) -> Columns
     Columns {
         transient: true,
         ..cols
+    }
+}
+
+// The columns of what a handle stands for.
+fn columns(stands: Stands) -> Columns
+    ensures { result ≡ columns_if (Some stands) }
+{
+    match stands {
+        Stands::Overlay { cols, .. } => cols,
+        Stands::Base { cols, .. } => cols,
+        Stands::Selected { cols, .. } => cols,
     }
 }
 
@@ -243,25 +253,25 @@ impl Handles {
         Ok(())
     }
 
-    /// A handle for the set of a node in these columns, to which the delta leads from the empty graph. The set gets a
-    /// slot of the pool, which rests on nothing and has the messages with its columns. An `Err` says that memory ran
-    /// out; then all handles and all graphs are as before.
-    pub fn add_base(
+    /// A handle for a set, of a node or selected, to which the delta leads from the empty graph. The set gets a slot of the
+    /// pool, which rests on nothing and has the messages with its columns. An `Err` says that memory ran out; then all
+    /// handles and all graphs are as before.
+    pub fn add_set(
         &mut self,
         pool: &mut Pool,
-        node: NodeId,
-        cols: Columns,
+        stands: Stands,
         delta: &Delta,
     ) -> Result<(), AllocError>
         requires tied { IsTied pool.old self.old }
         requires room { length self.old.table + 1 ≤ LIVE_HANDLES_MAX }
         requires numbers { self.old.next + 1 ≤ HANDLE_MAX + 1 }
+        requires alone { RestsOnNothing stands }
 
         // the handle and its graph
-        ensures table { OnOk result (self.new.table ≡ self.old.table ++ (self.old.next, stands.Base node cols) ∷ []) }
+        ensures table { OnOk result (self.new.table ≡ self.old.table ++ (self.old.next, stands) ∷ []) }
         ensures next { OnOk result (self.new.next ≡ self.old.next + 1) }
         ensures graphs { OnOk result (slot_graphs pool.new self.new.slots
-            ≡ slot_graphs pool.old self.old.slots ++ shown (applied delta.now []) (with_messages cols) ∷ []) }
+            ≡ slot_graphs pool.old self.old.slots ++ shown (applied delta.now []) (with_messages (columns_if (Some stands))) ∷ []) }
         ensures tied { IsTied pool.new self.new }
         ensures now { graph_now pool.new ≡ graph_now pool.old }
 
@@ -269,10 +279,10 @@ impl Handles {
         ensures err { OnErr result (self.new ≡ self.old) }
         ensures graphs_err { OnErr result (SameGraphs pool.old pool.new) }
     {
-        let slot = attach(pool, Base::Nothing, delta, with_messages(cols))?;
+        let slot = attach(pool, Base::Nothing, delta, with_messages(columns(stands)))?;
         self.entries.push_reserved(Entry {
             handle: self.next as u32,
-            stands: Stands::Base { node, cols },
+            stands,
             slot,
         });
         self.next += 1;
