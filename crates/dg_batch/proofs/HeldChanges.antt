@@ -21,7 +21,7 @@ use Rattle.dg_batch.specs.declared.held.Held.{Held}
 use Rattle.dg_handles.specs.Handles.{TieIsKept}
 use Rattle.dg_index.specs.OpenedIndex.{Opening}
 use Rattle.dg_retrieval.specs.NamesThere.{NamesAreThere}
-use Rattle.dg_start.specs.StoredHistory.{index_opening}
+use Rattle.dg_stored.specs.StoredHistory.{index_opening}
 
 module _ (tie : TieIsKept) (batch : Batch) (old : Held) (new : Live) (may : MayAdd batch old.live) (holds : HoldsHandles batch.known old) where
   -- the handles and adjacencies stay, over another history and pool

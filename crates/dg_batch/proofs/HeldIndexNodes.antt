@@ -20,10 +20,10 @@ use Rattle.dg_index.specs.FileOfHistory.{Segment}
 use Rattle.dg_index.specs.IndexGrowth.{index_with}
 use Rattle.dg_index.specs.OpenedIndex.{Opening, directory_of, event_total}
 use Rattle.dg_machine.specs.declared.stands.Stands.{Stands}
-use Rattle.dg_machine.specs.declared.stands.Stands.TheVariants.{Overlay, Base}
+use Rattle.dg_machine.specs.declared.stands.Stands.TheVariants.{Overlay, Base, Selected}
 use Rattle.dg_machine.specs.Needs.{can_be_held}
 use Rattle.dg_ask.specs.HeldIndex.{HasNodeOf, HasNodes}
-use Rattle.dg_start.specs.StoredHistory.{index_opening}
+use Rattle.dg_stored.specs.StoredHistory.{index_opening}
 
 -- a node that can be held is there with more events
 module _ (p : Params) (pos : 0 < p.l) (n more : ℕ) where
@@ -61,6 +61,7 @@ nodes_with o s pos table h = each_handle (HasNodeOf (Some o)) (HasNodeOf (Some (
 
     one : (x : Stands) → HasNodeOf (Some o) x → HasNodeOf (Some (index_with o s)) x
     one (Overlay t cols on) r = tt
+    one (Selected what cols) r = tt
     one (Base node cols) r =
         ap (λ n. can_be_held o.params n node) more ∙ held_more o.params pos (event_total o.batches) (directory_of s).batch.events node r
 

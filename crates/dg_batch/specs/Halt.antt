@@ -6,8 +6,6 @@ use Rattle.dg_retrieval.specs.declared.fault.RetrievalFault.{RetrievalFault}
 use Rattle.dg_retrieval.specs.declared.fault.RetrievalFault.TheVariants as retrieval_fault
 use Rattle.dg_append.specs.declared.fault.BatchFault.{BatchFault}
 use Rattle.dg_append.specs.declared.fault.BatchFault.TheVariants as batch_fault
-use Rattle.dg_verify.specs.declared.fault.VerifyFault.{VerifyFault}
-use Rattle.dg_verify.specs.declared.fault.VerifyFault.TheVariants as verify_fault
 use Rattle.dg_batch.specs.declared.halt.Halt.{Halt}
 use Rattle.dg_batch.specs.declared.halt.Halt.TheVariants as halt
 use Rattle.dg_batch.specs.declared.stop.Stop.TheVariants as stop
@@ -29,7 +27,3 @@ abbrev pub retrieval_halt : RetrievalFault → Halt
 retrieval_halt retrieval_fault.Disk = halt.Refusal refusal.StoreRead
 retrieval_halt (retrieval_fault.Damaged key column) = halt.Refusal (refusal.Damaged key column)
 retrieval_halt retrieval_fault.Memory = halt.Refusal refusal.OutOfMemory
-
-abbrev pub verify_halt : VerifyFault → Halt
-verify_halt verify_fault.Disk = halt.Refusal refusal.StoreRead
-verify_halt verify_fault.Memory = halt.Refusal refusal.OutOfMemory

@@ -9,7 +9,7 @@ use Rattle.dg_batch.specs.declared.held.Held.{Held}
 use Rattle.dg_graph.specs.declared.element.Element.{Element}
 use Rattle.dg_handles.specs.Handles.{IsTied, slot_graphs}
 use Rattle.dg_retrieval.specs.NamesThere.{NamesAreThere}
-use Rattle.dg_start.specs.StoredHistory.{index_opening}
+use Rattle.dg_stored.specs.StoredHistory.{index_opening}
 
 -- the graphs of the live handles, in their order
 abbrev pub graphs_held : Held → List (List Element)

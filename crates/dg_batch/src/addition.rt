@@ -6,13 +6,13 @@ ghost use Rattle.dg_append.specs.DiskLeft.{LeavesDisk};
 ghost use Rattle.dg_batch.specs.HandlesStay.{HandlesStay};
 ghost use Rattle.dg_batch.specs.Held.{HoldsHandles, IsHeld};
 ghost use Rattle.dg_history.specs.declared.limits.TheConstants.{FILE_BYTES_MAX};
-ghost use Rattle.dg_start.specs.StoredHistory.{IsHeldBy, index_opening};
+ghost use Rattle.dg_stored.specs.StoredHistory.{IsHeldBy, index_opening};
 
 use crate::held::Held;
 use dg_append::{AddedBatch, Batch, BatchFault, add_batch};
 use dg_disk::Disk;
 use dg_handles::law_tie_is_kept;
-use dg_start::StoredHistory;
+use dg_stored::StoredHistory;
 use std::alloc::Global;
 use std::thread::Threads;
 

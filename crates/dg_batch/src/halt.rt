@@ -3,14 +3,13 @@
 ghost use Rattle.std.specs.Prelude.{◌≡◌};
 ghost use Rattle.dg_machine.specs.declared.reply.Refusal.TheVariants as refusal;
 ghost use Rattle.dg_batch.specs.declared.halt.Halt.TheVariants as halt;
-ghost use Rattle.dg_batch.specs.Halt.{creation_halt, batch_halt, retrieval_halt, verify_halt};
+ghost use Rattle.dg_batch.specs.Halt.{batch_halt, creation_halt, retrieval_halt};
 
 use crate::stop::Stop;
 use dg_append::BatchFault;
 use dg_file::CreateFault;
 use dg_machine::Refusal;
 use dg_retrieval::RetrievalFault;
-use dg_verify::VerifyFault;
 use std::alloc::AllocError;
 
 /// Why a command is not carried out.
@@ -83,17 +82,6 @@ impl From<RetrievalFault> for Halt {
             RetrievalFault::Disk => Halt::Refusal(Refusal::StoreRead),
             RetrievalFault::Damaged(key, column) => { Halt::Refusal(Refusal::Damaged(key, column)) }
             RetrievalFault::Memory => Halt::Refusal(Refusal::OutOfMemory),
-        }
-    }
-}
-
-impl From<VerifyFault> for Halt {
-    ghost from_gives = { λ fault to. to ≡ verify_halt fault };
-
-    fn from(fault: VerifyFault) -> Halt {
-        match fault {
-            VerifyFault::Disk => Halt::Refusal(Refusal::StoreRead),
-            VerifyFault::Memory => Halt::Refusal(Refusal::OutOfMemory),
         }
     }
 }
