@@ -12,7 +12,7 @@ use Rattle.dg_fold.specs.BytesRead.{Takes}
 use Rattle.dg_index.specs.ImageOfHistory.{IsImageOf, StandsAs}
 use Rattle.dg_index.specs.OpenedIndex.{opened_of}
 use Rattle.dg_start.specs.Calls.{TakesStart}
-use Rattle.dg_start.specs.SessionStart.{PlansLastLeaf, start_bytes}
+use Rattle.dg_start.specs.SessionStart.{PlansLastLeaf, start_bytes, started_with}
 use Rattle.dg_machine.specs.declared.limits.Limits.{Limits}
 use Rattle.dg_io.specs.Told.{CountRose, Gives}
 use Rattle.dg_machine.specs.MachineState.{machine_at}
@@ -20,7 +20,6 @@ use Rattle.dg_machine.specs.Run.{last_state, texts_of}
 use Rattle.dg_machine.specs.Script.{script}
 use Rattle.dg_session.specs.Parts.{Parts}
 use Rattle.dg_session.specs.Session.{HoldsImage, StandsFor}
-use Rattle.dg_start.specs.StoredHistory.{started_with}
 use Rattle.dg_run.specs.declared.status.Status.{Status}
 use Rattle.dg_run.specs.declared.status.Status.TheVariants as status
 use Rattle.dg_run.specs.Outside.{Outside, IsUntouched}

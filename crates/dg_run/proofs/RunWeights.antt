@@ -56,6 +56,7 @@ reading_weighs command.Upgrade m got h l before after reads w = told_weighs (is_
 reading_weighs (command.At t cols) m got h l before after reads w = told_weighs (is_refusal h) m (command.At t cols) got h l before after reads w
 reading_weighs (command.Several cols times count) m got h l before after reads w = told_weighs (is_refusal h) m (command.Several cols times count) got h l before after reads w
 reading_weighs (command.Materialise node cols) m got h l before after reads w = told_weighs (is_refusal h) m (command.Materialise node cols) got h l before after reads w
+reading_weighs (command.Select what cols) m got h l before after reads w = told_weighs (is_refusal h) m (command.Select what cols) got h l before after reads w
 reading_weighs (command.Ask handle query) m got h l before after reads w = told_weighs (is_refusal h) m (command.Ask handle query) got h l before after reads w
 reading_weighs (command.Release handle) m got h l before after reads w = told_weighs (is_refusal h) m (command.Release handle) got h l before after reads w
 reading_weighs (command.Clean cells) m got h l before after reads w = told_weighs (is_refusal h) m (command.Clean cells) got h l before after reads w

@@ -24,7 +24,7 @@ use Rattle.dg_machine.specs.Script.{Entry, script}
 use Rattle.dg_machine.proofs.Runs.{run_more, last_more}
 use Rattle.dg_session.specs.Parts.{Parts}
 use Rattle.dg_session.specs.Session.{WhereBothTold, StandsFor}
-use Rattle.dg_start.specs.StoredHistory.{KeepsHistory}
+use Rattle.dg_stored.specs.StoredHistory.{KeepsHistory}
 use Rattle.dg_run.specs.declared.status.Status.{Status}
 use Rattle.dg_run.specs.declared.status.Status.TheVariants as status
 use Rattle.dg_run.specs.Outside.{Outside, IsUntouched}

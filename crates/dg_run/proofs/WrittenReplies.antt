@@ -1,5 +1,5 @@
 -- The replies written so far, whatever the image is, and what they come to where the run ends.
-use Rattle.std.proofs.Common.{◌≡◌, ℕ, ◌≤◌, Bool, List, [], ◌∷◌, ◌++◌, Option, Some, None, Result, Ok, Err, if◌then◌else◌, length, take, refl, sym, ◌∙◌, ap, subst, arith}
+use Rattle.std.proofs.Common.{◌≡◌, ℕ, ◌≤◌, Bool, List, [], ◌∷◌, ◌++◌, Option, Some, None, Result, Err, if◌then◌else◌, length, take, refl, sym, ◌∙◌, ap, subst, arith}
 use Rattle.std.specs.List.{All, flat_map}
 use Rattle.std.proofs.lemmas.List.{append-nil, length-take, take-take}
 use Rattle.std.proofs.lemmas.List.Concat.{flat_map-append}
@@ -13,7 +13,7 @@ use Rattle.dg_session.proofs.ReplyNames.{names_stay}
 use Rattle.dg_session.specs.Parts.{Parts}
 use Rattle.dg_session.specs.ReplyNames.{BeginWith, ReplyNamesAreThere}
 use Rattle.dg_session.specs.Session.{HoldsImage}
-use Rattle.dg_start.specs.StoredHistory.{IsHeldBy}
+use Rattle.dg_stored.specs.StoredHistory.{IsHeldBy}
 use Rattle.dg_run.specs.declared.status.Status.{Status}
 use Rattle.dg_run.specs.declared.status.Status.TheVariants as status
 use Rattle.dg_run.specs.GainedReplies.{GainsReplies, NamedReply, NamesGrowFrom, names_opened, names_told}

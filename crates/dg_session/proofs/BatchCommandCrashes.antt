@@ -36,7 +36,7 @@ use Rattle.dg_session.proofs.SessionSteps.{is_accepted}
 use Rattle.dg_session.specs.Crashes.{IsFirstByte, is_created}
 use Rattle.dg_session.specs.Parts.{Parts}
 use Rattle.dg_session.specs.Session.{CutsOff, LeavesAnswered, LeavesCommand, StandsFor}
-use Rattle.dg_start.specs.StoredHistory.{index_opening}
+use Rattle.dg_stored.specs.StoredHistory.{index_opening}
 
 module _ (from : Origin) (got : List ScriptLine) (p : Parts) (count limit : ℕ) (l : Live) (b : Batch) (asked : IsAsked from got p count limit l b) where
   abbrev index : Opening

@@ -16,7 +16,6 @@ use Rattle.dg_fold.specs.BytesRead.{TakesAtMost}
 use Rattle.dg_graph.specs.declared.element.Column.{Column}
 use Rattle.dg_graph.specs.CompletedChanges.{completed}
 use Rattle.dg_graph.specs.declared.element.Element.{Element}
-use Rattle.dg_graph.specs.declared.event.Change.{Change}
 use Rattle.dg_graph.specs.declared.event.Event.{Event}
 use Rattle.dg_text.specs.Lines.{ScriptLine}
 use Rattle.dg_history.specs.declared.node.Key.{Key}
@@ -58,8 +57,8 @@ use Rattle.dg_session.specs.Parts.{Parts}
 use Rattle.dg_session.specs.BatchReads.{is_early, older_for}
 use Rattle.dg_session.specs.Reads.{Reads, ReadsBy, ReadsIn, ReadsOlder, ReadsToWrite}
 use Rattle.dg_session.specs.Session.{StandsFor, is_of_read}
-use Rattle.dg_start.specs.declared.stored_history.StoredHistory.{StoredHistory}
-use Rattle.dg_start.specs.StoredHistory.{index_opening}
+use Rattle.dg_stored.specs.declared.stored_history.StoredHistory.{StoredHistory}
+use Rattle.dg_stored.specs.StoredHistory.{index_opening}
 
 -- ---- the bytes read
 

@@ -86,9 +86,9 @@ use Rattle.dg_pool.specs.Graphs.{PoolState, slot_graph}
 use Rattle.dg_ask.proofs.KeptAdjacencies.{graphs_same}
 use Rattle.dg_session.specs.Parts.{Parts}
 use Rattle.dg_session.specs.Session.{Accepts, ComesTo, CutsOff, Denies, Moves, StandsFor, TakesLines, is_reached, is_too_full, refusals_by, refused_by}
-use Rattle.dg_start.specs.declared.stored_history.StoredHistory.{StoredHistory}
+use Rattle.dg_stored.specs.declared.stored_history.StoredHistory.{StoredHistory}
 use Rattle.dg_sound_files.proofs.OpenedIndexRecords.{form_is}
-use Rattle.dg_start.specs.StoredHistory.{IsSoundHistory, index_opening}
+use Rattle.dg_stored.specs.StoredHistory.{IsSoundHistory, index_opening}
 
 -- ---- why the command is refused before its lines are completed
 

@@ -122,6 +122,7 @@ reads_undamaged (command.Append count) p image e = absurd (false≢true (sym e))
 reads_undamaged (command.At t cols) p image e = absurd (false≢true (sym e))
 reads_undamaged (command.Several cols times count) p image e = absurd (false≢true (sym e))
 reads_undamaged (command.Materialise node cols) p image e = absurd (false≢true (sym e))
+reads_undamaged (command.Select what cols) p image e = absurd (false≢true (sym e))
 reads_undamaged (command.Ask handle q) p image e = tt
 reads_undamaged (command.Release handle) p image e = tt
 reads_undamaged (command.Clean cells) p image e = tt

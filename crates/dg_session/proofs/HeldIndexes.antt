@@ -2,8 +2,6 @@
 use Rattle.std.proofs.Common.{◌≡◌, ℕ, ◌*◌, ◌-◌, ◌≤◌, false, List, [], Option, Some, None, get_or, length, sym, ◌∙◌, ap, subst, arith}
 use Rattle.std.specs.Prelude.{is_some}
 use Rattle.std.proofs.lemmas.Bool.{false≢true}
-use Rattle.std.specs.List.{All}
-use Rattle.dg_append.specs.LiveHistories.{IsLiveHistory}
 use Rattle.dg_ask.specs.HeldIndex.{HasNodeOf, HasNodes}
 use Rattle.dg_batch.specs.Held.{IsHeld}
 use Rattle.dg_batch.specs.declared.held.Held.{Held}
@@ -18,9 +16,9 @@ use Rattle.dg_index.specs.Hierarchy.{leaves}
 use Rattle.dg_index.specs.IndexGrowth.{index_upgraded, name_total}
 use Rattle.dg_index.specs.OpenedIndex.{Opening, bare, event_total, first_in, last_list}
 use Rattle.dg_machine.specs.declared.stands.Stands.{Stands}
-use Rattle.dg_machine.specs.declared.stands.Stands.TheVariants.{Overlay, Base}
+use Rattle.dg_machine.specs.declared.stands.Stands.TheVariants.{Overlay, Base, Selected}
 use Rattle.dg_session.specs.Upgrade.{with_index}
-use Rattle.dg_start.specs.StoredHistory.{IsSoundHistory, floor_of, index_opening}
+use Rattle.dg_stored.specs.StoredHistory.{IsSoundHistory, floor_of, index_opening}
 
 -- ---- an upgrade
 
@@ -39,6 +37,7 @@ sound_upgraded o names now recent s = record {
 node_stays : (o : Opening) (s : Stands) → HasNodeOf (Some o) s → HasNodeOf (Some (index_upgraded o)) s
 node_stays o (Overlay t cols on) h = tt
 node_stays o (Base node cols) h = h
+node_stays o (Selected what cols) h = tt
 
 nodes_stay : (o : Opening) (table : List (ℕ × Stands)) → HasNodes (Some o) table → HasNodes (Some (index_upgraded o)) table
 nodes_stay o table h = λ k d lt. node_stays o (get_or table k d).1 (h k d lt)
@@ -87,6 +86,7 @@ made_sound o names now recent none no_records s = record {
 no_node : (o : Opening) (s : Stands) → HasNodeOf None s → HasNodeOf (Some o) s
 no_node o (Overlay t cols on) h = tt
 no_node o (Base node cols) h = absurd h
+no_node o (Selected what cols) h = tt
 
 pub held_made : (h : Held) (i : IndexState) (params : Params) → is_some (index_opening h.live.history.index) ≡ false → i.opening ≡ (bare form.Two params).index → IsHeld h → IsHeld (with_index h i)
 held_made h i params none is held = by (index_opening h.live.history.index) none held.live.sound held.handles.nodes

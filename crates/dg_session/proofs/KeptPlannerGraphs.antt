@@ -10,7 +10,7 @@ use Rattle.dg_history.specs.declared.node.NodeId.{NodeId}
 use Rattle.dg_history.specs.declared.node.NodeId.TheVariants.{List}
 use Rattle.dg_index.specs.OpenedIndex.{Opening, event_total}
 use Rattle.dg_machine.specs.declared.stands.Stands.{Stands}
-use Rattle.dg_machine.specs.declared.stands.Stands.TheVariants.{Overlay, Base}
+use Rattle.dg_machine.specs.declared.stands.Stands.TheVariants.{Overlay, Base, Selected}
 use Rattle.dg_machine.specs.Planning.{bases_in, includes}
 use Rattle.dg_planner.specs.Whole.{PlannerGraph}
 use Rattle.dg_retrieval.specs.KeptGraph.{HoldNoList, kept_edges, kept_nodes}
@@ -19,7 +19,7 @@ use Rattle.dg_session.specs.declared.session.Session.TheInside.{Inside}
 use Rattle.dg_ask.specs.HeldIndex.{HasNodeOf, HasNodes, has_node_held}
 use Rattle.dg_ask.specs.KeptPlanner.{IsGraphFor, IsKeptFor, IsKeptIn}
 use Rattle.dg_session.specs.Parts.{Parts}
-use Rattle.dg_start.specs.StoredHistory.{index_opening}
+use Rattle.dg_stored.specs.StoredHistory.{index_opening}
 
 -- no handle holds a list
 no_list : (o : Opening) (v : NodeId) → has_node_held (Some o) v ≡ true → (i : ℕ) → v ≢ List i
@@ -29,6 +29,8 @@ pub no_lists : (o : Opening) (cols : Columns) (table : ListOf (ℕ × Stands)) �
 no_lists o cols [] h = All-nil (λ (b : ℕ × NodeId). (i : ℕ) → b.1 ≢ List i)
 no_lists o cols ((handle, Overlay t others on) ∷ table) h =
     no_lists o cols table (All-tail (λ (e : ℕ × Stands). HasNodeOf (Some o) e.1) (handle, Overlay t others on) table h)
+no_lists o cols ((handle, Selected what others) ∷ table) h =
+    no_lists o cols table (All-tail (λ (e : ℕ × Stands). HasNodeOf (Some o) e.1) (handle, Selected what others) table h)
 no_lists o cols ((handle, Base node all) ∷ table) h =
     by (includes all cols) (no_lists o cols table (All-tail (λ (e : ℕ × Stands). HasNodeOf (Some o) e.1) (handle, Base node all) table h))
   where

@@ -12,6 +12,7 @@ pub mod SessionRetrievals
 pub mod SessionLeads
 pub mod SessionInstantStep
 pub mod SessionSeveralStep
+pub mod SessionSelectionStep
 pub mod ReadsStep
 pub mod DamageStep
 pub mod RecordListingStep
@@ -20,6 +21,8 @@ pub mod SessionStartChecks
 pub mod SessionCreationStep
 pub mod NodeSets
 pub mod NodeLeads
+pub mod ChosenGraphs
+pub mod GraphSets
 pub mod SessionGraphs
 pub mod KeptPlannerGraphs
 pub mod SessionNodeStep

@@ -36,7 +36,7 @@ use Rattle.dg_session.proofs.NodeSets.{node_quiet}
 -- ---- what is shown of a set of a node
 
 -- two tests that agree on the elements of the set
-same_filter : (p q : Element → Bool) (set : ListOf Element) → ((x : Element) → has set x ≡ true → p x ≡ q x) → filter p set ≡ filter q set
+pub same_filter : (p q : Element → Bool) (set : ListOf Element) → ((x : Element) → has set x ≡ true → p x ≡ q x) → filter p set ≡ filter q set
 same_filter p q [] agree = refl
 same_filter p q (x ∷ set) agree =
     let rest = same_filter p q set (λ y there. agree y (or_right (same y x) (has set y) there)) in

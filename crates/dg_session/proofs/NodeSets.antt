@@ -13,6 +13,7 @@ use Rattle.dg_graph.specs.Columns.{same_column}
 use Rattle.dg_graph.specs.Effect.{added_by, moved}
 use Rattle.dg_graph.specs.Elements.{column_of, has, same, with_one}
 use Rattle.dg_graph.proofs.Sets.{element_exact, has-put}
+use Rattle.dg_graph.specs.Replay.{replay}
 use Rattle.dg_history.specs.declared.node.NodeId.{NodeId}
 use Rattle.dg_history.specs.declared.node.NodeId.TheVariants as node
 use Rattle.dg_history.specs.declared.params.Params.{Params}
@@ -53,6 +54,10 @@ put_quiet set (Some x) q quiet rest there = either_quiet q x (same q x) (has set
 ever_quiet : (events : List Event) (q : Element) → has (ever events) q ≡ true → IsNoMessage q
 ever_quiet [] q h = absurd (false≢true h)
 ever_quiet (e ∷ events) q h = put_quiet (ever events) (added_by e.body) q (added_quiet e.body) (ever_quiet events q) h
+
+-- nor does a graph that events lead to
+pub replay_quiet : (events : List Event) (q : Element) → has (replay events) q ≡ true → IsNoMessage q
+replay_quiet events q h = ever_quiet events q (replay_within [] events q h)
 
 pub node_quiet : (p : Params) (events : List Event) (v : NodeId) (q : Element) → has (set_of p events v) q ≡ true → IsNoMessage q
 node_quiet p events node.Root q h = absurd (false≢true h)

@@ -25,14 +25,14 @@ use Rattle.dg_machine.specs.declared.reply.Refusal.TheVariants as refusal
 use Rattle.dg_machine.specs.declared.stands.Stands.{Stands}
 use Rattle.dg_machine.specs.Answer.{with_handle}
 use Rattle.dg_machine.specs.MachineState.{MachineState, dependent_on, elements, stands_at, events_in_index, graphs_of, history_in, names_in}
-use Rattle.dg_machine.specs.Needs.{Needs, can_be_held, earliest, is_base, needs, of, refused, when}
+use Rattle.dg_machine.specs.Needs.{Needs, can_be_held, earliest, is_set, needs, of, refused, when}
 use Rattle.dg_ask.proofs.HeldIndexHistory.{count_is, span_is}
 use Rattle.dg_index.proofs.OpenedLegalHistories.{behind}
 use Rattle.dg_ask.specs.HeldIndex.{events_held, params_held, span_held}
 use Rattle.dg_session.specs.Parts.{Parts}
 use Rattle.dg_session.specs.Session.{StandsFor, WhereBothTold, is_reached, is_wide_held, refused_by}
 use Rattle.dg_sound_files.proofs.OpenedIndexRecords.{form_is}
-use Rattle.dg_start.specs.StoredHistory.{KeepsHistory}
+use Rattle.dg_stored.specs.StoredHistory.{KeepsHistory}
 
 -- what an image of the history is opened as, without the names
 abbrev pub opening_of : History → Opening
@@ -181,7 +181,7 @@ refusals_of there wide limits params events span names table next read n =
     ++ (when (nat_lt 0 n.changes && (nat_lt limits.events (events + n.changes) || nat_lt NAMES_MAX (names + 2 * n.changes))) (refusal.HistoryFull events n.changes)
     ++ (when (list_any (λ t. not (in_range span t)) n.instants) (refusal.OutOfRange span)
     ++ (of n.handle (λ h. when (not (is_some (stands_at h table))) (refusal.UnknownHandle h))
-    ++ (of n.handle (λ h. when (n.overlay && is_base (stands_at h table)) (refusal.NotAnOverlay h))
+    ++ (of n.handle (λ h. when (n.overlay && is_set (stands_at h table)) (refusal.NotAnOverlay h))
     ++ (of n.unused (λ h. of (dependent_on h table) (λ d. refusal.InUse d ∷ []))
     ++ (of n.node (λ v. when (not (can_be_held params events v)) refusal.UnknownNode)
     ++ (when (nat_lt 0 n.handles && nat_lt LIVE_HANDLES_MAX (length table + n.handles)) (refusal.PoolFull (length table) n.handles)

@@ -13,13 +13,13 @@ use Rattle.dg_batch.specs.declared.held.Held.{Held}
 use Rattle.dg_graph.specs.declared.element.Element.{Element}
 use Rattle.dg_handles.specs.Handles.{HandlesState, IsSweptWhole, IsTied, SlotHolds, TieIsKept, UnionOfHandles, graph_among, graphs_without, slot_graphs}
 use Rattle.dg_machine.specs.declared.stands.Stands.{Stands}
-use Rattle.dg_machine.specs.declared.stands.Stands.TheVariants.{Overlay, Base}
+use Rattle.dg_machine.specs.declared.stands.Stands.TheVariants.{Overlay, Base, Selected}
 use Rattle.dg_machine.specs.MachineState.{stands_at, union_of_sets, without_handle}
 use Rattle.dg_pool.specs.Graphs.{PoolState, graph_now, slot_graph}
 use Rattle.dg_pool.specs.Sweeps.{cells_of}
 use Rattle.dg_retrieval.specs.NamesThere.{NamesAreThere}
-use Rattle.dg_start.specs.declared.stored_history.StoredHistory.{StoredHistory}
-use Rattle.dg_start.specs.StoredHistory.{index_opening}
+use Rattle.dg_stored.specs.declared.stored_history.StoredHistory.{StoredHistory}
+use Rattle.dg_stored.specs.StoredHistory.{index_opening}
 
 -- ---- without a pool
 
@@ -27,6 +27,7 @@ use Rattle.dg_start.specs.StoredHistory.{index_opening}
 none_held : (h : HandlesState) (stands : Stands) → SlotHolds h stands None → ⊥
 none_held h (Overlay t cols on) held = held
 none_held h (Base node cols) held = held
+none_held h (Selected what cols) held = held
 
 -- so no handle lives
 no_handles : (h : HandlesState) → IsTied bare h → (h.table ≡ []) × (h.slots ≡ [])

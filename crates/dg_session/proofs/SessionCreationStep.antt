@@ -34,7 +34,7 @@ use Rattle.dg_session.specs.Decided.{IsHeadOf}
 use Rattle.dg_session.specs.declared.creation_command.AskedFunction.{AskedFunction}
 use Rattle.dg_session.specs.declared.creation_command.AskedFunction.TheVariants.{Named, Share}
 use Rattle.dg_session.specs.Parts.{Parts}
-use Rattle.dg_start.specs.StoredHistory.{AreCounted, IsHeldBy}
+use Rattle.dg_stored.specs.StoredHistory.{AreCounted, IsHeldBy}
 use Rattle.dg_session.specs.Session.{Accepts, ComesTo, CutsOff, StandsFor, refused_by}
 
 -- it needs no index yet, and parameters in their ranges

@@ -20,11 +20,14 @@ use Rattle.dg_index.proofs.RecentEvents.{replay_at_more}
 use Rattle.dg_index.proofs.HierarchyStability.{stable}
 use Rattle.dg_index.specs.Hierarchy.{leaves, set_of}
 use Rattle.dg_machine.specs.declared.stands.Stands.{Stands}
-use Rattle.dg_machine.specs.declared.stands.Stands.TheVariants.{Overlay, Base}
+use Rattle.dg_machine.specs.declared.stands.Stands.TheVariants.{Overlay, Base, Selected}
+use Rattle.dg_machine.specs.declared.selection.Selection.TheVariants.{Chosen}
 use Rattle.dg_machine.specs.MachineState.{elements}
-use Rattle.dg_machine.specs.Needs.{can_be_held}
+use Rattle.dg_machine.specs.Needs.{can_be_held, instants_asked}
 use Rattle.dg_batch.proofs.HeldIndexNodes.{held_more}
 use Rattle.dg_batch.proofs.LegalHistory.{events_with}
+use Rattle.dg_expr.specs.Expressions.{instants_of, words_of}
+use Rattle.dg_session.proofs.ChosenGraphs.{chosen_same, each_passes, same_at_each}
 use Rattle.dg_session.specs.Session.{is_reached}
 
 -- ---- instants
@@ -99,6 +102,13 @@ module _ (z : History) (pos : 0 < z.params.l) (b : Batch) (rises : RisesFrom (ea
   elements_more (Base node cols) r =
       ap (λ (es : List Event). shown (set_of z.params es node) cols) (events_with z b)
       ∙ ap (λ (es : List Element). shown es cols) (set_more z.params pos (events_of z) b.events node r)
+  elements_more (Selected (Chosen e) cols) r =
+      chosen_same (words_of e) (λ t. shown (replay_at (events_of (with_batch z b)) t) cols) (λ t. shown (replay_at (events_of z) t) cols)
+      (same_at_each (in_range (span_of (events_of z))) (λ t. shown (replay_at (events_of (with_batch z b)) t) cols) (λ t. shown (replay_at (events_of z) t) cols) (instants_of (words_of e))
+      (λ t within.
+      ap (λ (es : List Event). shown (replay_at es t) cols) (events_with z b)
+      ∙ ap (λ (graph : List Element). shown graph cols)
+      (replay_at_more (events_of z) b.events t (none_until (earliest_next (span_of (events_of z))) t b.events rises (before_next (events_of z) t within)))) r)
 
   pub reached_more : (s : Stands) → is_reached z s ≡ true → is_reached (with_batch z b) s ≡ true
   reached_more (Overlay t cols on) r = ap (λ (es : List Event). in_range (span_of es) t) (events_with z b) ∙ range_more (events_of z) b.events t rises r
@@ -106,6 +116,9 @@ module _ (z : History) (pos : 0 < z.params.l) (b : Batch) (rises : RisesFrom (ea
       ap (λ (es : List Event). can_be_held z.params (length es) node) (events_with z b)
       ∙ ap (λ n. can_be_held z.params n node) (length-append (events_of z) b.events)
       ∙ held_more z.params pos (length (events_of z)) (length b.events) node r
+  reached_more (Selected what cols) r =
+      each_passes (in_range (span_of (events_of z))) (in_range (span_of (events_of (with_batch z b)))) (instants_asked what)
+      (λ t within. ap (λ (es : List Event). in_range (span_of es) t) (events_with z b) ∙ range_more (events_of z) b.events t rises within) r
 
   -- of every live handle
   pub graphs_more : (table : List (ℕ × Stands)) → All (λ (e : ℕ × Stands). is_reached z e.1 ≡ true) table

@@ -22,7 +22,7 @@ use Rattle.dg_session.specs.Decided.{IsHeadOf}
 use Rattle.dg_session.specs.Parts.{Parts}
 use Rattle.dg_session.specs.Session.{Accepts, StandsFor, refused_by}
 use Rattle.dg_session.specs.Sweeps.{All_cells, IsNoSweep, No_cell, Some_cells, Sweep, SweepsOverlay, SweepsPool}
-use Rattle.dg_start.specs.StoredHistory.{IsHeldBy}
+use Rattle.dg_stored.specs.StoredHistory.{IsHeldBy}
 
 -- a command that needs nothing and changes nothing that the machine knows
 stays : (c : Command) (p q : Parts) (image : Option (List ℕ)) (reply : Reply) → IsUnplanned c → refused_by p 0 (needs c) ≡ None → q ≡ p

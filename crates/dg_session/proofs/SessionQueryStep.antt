@@ -13,7 +13,7 @@ use Rattle.dg_machine.specs.declared.reply.Reply.{Reply}
 use Rattle.dg_machine.specs.declared.stands.Stands.{Stands}
 use Rattle.dg_machine.specs.Answer.{accepted, columns_by, columns_if, elements_if, is_refusal, say, shown_by}
 use Rattle.dg_machine.specs.MachineState.{MachineState, elements, stands_at, history_in}
-use Rattle.dg_machine.specs.Needs.{earliest, is_base, needs, when}
+use Rattle.dg_machine.specs.Needs.{earliest, is_set, needs, when}
 use Rattle.dg_machine.specs.Planning.{no_plan}
 use Rattle.std.specs.List.{All}
 use Rattle.dg_retrieval.specs.NamesThere.{NamesAreThere}
@@ -57,7 +57,7 @@ is_unknown handle p = not (is_some (stands_at handle p.table))
 -- an instant, and this is its answer, by the columns of the handle and by its graph.
 pub record Asks (c : Command) (handle : ℕ) (overlay : Bool) (answer : Columns → List Element → Reply) : Type 0 where
   pub unplanned : IsUnplanned c
-  pub needed : (p : Parts) → refused_by p 0 (needs c) ≡ earliest (when (is_unknown handle p) (refusal.UnknownHandle handle) ++ (when (overlay && is_base (stands_at handle p.table)) (refusal.NotAnOverlay handle) ++ []))
+  pub needed : (p : Parts) → refused_by p 0 (needs c) ≡ earliest (when (is_unknown handle p) (refusal.UnknownHandle handle) ++ (when (overlay && is_set (stands_at handle p.table)) (refusal.NotAnOverlay handle) ++ []))
   pub due : (m : MachineState) → accepted m c [] no_plan ≡ say m (answer (columns_by m handle) (shown_by m handle))
   pub accepts : (cols : Columns) (graph : List Element) → is_refusal (answer cols graph).head ≡ false
   pub fits : (cols : Columns) (graph : List Element) → IsHeadOf c (answer cols graph).head
@@ -72,17 +72,17 @@ module _ (c : Command) (handle : ℕ) (overlay : Bool) (answer : Columns → Lis
   ask_refused none = asks.needed p ∙ hit (is_unknown handle p) (refusal.UnknownHandle handle) _ (ap not none)
 
   -- the handle is live, and stands for a node of the index
-  pub ask_base : is_some (stands_at handle p.table) ≡ true → (overlay && is_base (stands_at handle p.table)) ≡ true → refused_by p 0 (needs c) ≡ Some (refusal.NotAnOverlay handle)
+  pub ask_base : is_some (stands_at handle p.table) ≡ true → (overlay && is_set (stands_at handle p.table)) ≡ true → refused_by p 0 (needs c) ≡ Some (refusal.NotAnOverlay handle)
   ask_base some base =
       asks.needed p ∙ miss (is_unknown handle p) (refusal.UnknownHandle handle) _ (ap not some)
-      ∙ hit (overlay && is_base (stands_at handle p.table)) (refusal.NotAnOverlay handle) [] base
+      ∙ hit (overlay && is_set (stands_at handle p.table)) (refusal.NotAnOverlay handle) [] base
 
-  pub ask_free : is_some (stands_at handle p.table) ≡ true → (overlay && is_base (stands_at handle p.table)) ≡ false → refused_by p 0 (needs c) ≡ None
+  pub ask_free : is_some (stands_at handle p.table) ≡ true → (overlay && is_set (stands_at handle p.table)) ≡ false → refused_by p 0 (needs c) ≡ None
   ask_free some served =
       asks.needed p ∙ miss (is_unknown handle p) (refusal.UnknownHandle handle) _ (ap not some)
-      ∙ miss (overlay && is_base (stands_at handle p.table)) (refusal.NotAnOverlay handle) [] served
+      ∙ miss (overlay && is_set (stands_at handle p.table)) (refusal.NotAnOverlay handle) [] served
 
-  pub ask_answers : (graph : List Element) (image : Option (List ℕ)) (reply : Reply) → is_some (stands_at handle p.table) ≡ true → (overlay && is_base (stands_at handle p.table)) ≡ false
+  pub ask_answers : (graph : List Element) (image : Option (List ℕ)) (reply : Reply) → is_some (stands_at handle p.table) ≡ true → (overlay && is_set (stands_at handle p.table)) ≡ false
       → graph_among handle p.table p.graphs ≡ Some graph → reply ≡ answer asked_columns graph → All (NamesAreThere (length p.names)) p.graphs → Accepts c [] p image p image reply
   ask_answers graph image reply live served found reply_is there = record {
     moves =
@@ -113,6 +113,6 @@ module _ (c : Command) (handle : ℕ) (overlay : Bool) (answer : Columns → Lis
 
   -- memory lacks
   pub ask_lacks : (r : Result Reply Halt) (image : Option (List ℕ)) → (needs c).memory ≡ true → IsErr r × IsErrAnd r (λ y. y ≡ halt.Refusal refusal.OutOfMemory)
-      → is_some (stands_at handle p.table) ≡ true → (overlay && is_base (stands_at handle p.table)) ≡ false → ComesTo c [] p image p image r
+      → is_some (stands_at handle p.table) ≡ true → (overlay && is_set (stands_at handle p.table)) ≡ false → ComesTo c [] p image p image r
   ask_lacks r image memory err live served =
       handed_out r (halt.Refusal refusal.OutOfMemory) (ComesTo c [] p image p image) err (lacking_denies c [] p p image image refl refl memory (ask_free live served))

@@ -15,11 +15,11 @@ use Rattle.dg_machine.specs.declared.reply.Refusal.{Refusal}
 use Rattle.dg_machine.specs.declared.reply.Refusal.TheVariants as refusal
 use Rattle.dg_machine.specs.declared.reply.Reply.{Reply}
 use Rattle.dg_machine.specs.declared.stands.Stands.{Stands}
-use Rattle.dg_machine.specs.declared.stands.Stands.TheVariants.{Overlay, Base}
+use Rattle.dg_machine.specs.declared.stands.Stands.TheVariants.{Overlay, Base, Selected}
 use Rattle.dg_machine.specs.Answer.{Answered, headed, is_refusal}
 use Rattle.dg_machine.specs.MachineState.{MachineState, dependent_on, elements, stands_at, history_in, without_handle}
 use Rattle.dg_index.specs.OpenedIndex.{Opening}
-use Rattle.dg_machine.specs.Needs.{earliest, is_base, needs, of}
+use Rattle.dg_machine.specs.Needs.{earliest, needs, of}
 use Rattle.dg_machine.specs.Planning.{bases_in, usable}
 use Rattle.dg_planner.specs.Whole.{PlannerGraph}
 use Rattle.dg_ask.specs.KeptPlanner.{IsGraphOver, IsKeptFor}
@@ -29,8 +29,8 @@ use Rattle.dg_session.proofs.PartStates.{hit, kept, miss, one_image, parts_of, s
 use Rattle.dg_session.proofs.SessionSteps.{moved}
 use Rattle.dg_session.specs.Decided.{IsHeadOf}
 use Rattle.dg_session.specs.Parts.{Parts}
-use Rattle.dg_session.specs.Session.{Accepts, StandsFor, is_reached, refused_by}
-use Rattle.dg_start.specs.StoredHistory.{IsHeldBy}
+use Rattle.dg_session.specs.Session.{Accepts, StandsFor, is_of_node, is_reached, refused_by}
+use Rattle.dg_stored.specs.StoredHistory.{IsHeldBy}
 
 -- what holds of all handles holds of those without one
 pub all_without : (P : ℕ × Stands → Type 0) (handle : ℕ) (table : List (ℕ × Stands)) → All P table → All P (without_handle handle table)
@@ -43,28 +43,32 @@ all_without P handle (e ∷ table) h = by (e.0 == handle) (all_without P handle 
 
 -- ---- the planners that are kept
 
-none_usable : (cols : Columns) (e : ℕ × Stands) → is_base (Some e.1) ≡ false → usable cols e ≡ []
+none_usable : (cols : Columns) (e : ℕ × Stands) → is_of_node e.1 ≡ false → usable cols e ≡ []
 none_usable cols (handle, Overlay t others on) overlay = refl
 none_usable cols (handle, Base node all) overlay = absurd (false≢true (sym overlay))
+none_usable cols (handle, Selected what others) overlay = refl
 
--- without an overlay the same handles can serve
-bases_without : (cols : Columns) (handle : ℕ) (table : List (ℕ × Stands)) (s : Stands) → stands_at handle table ≡ Some s → is_base (Some s) ≡ false
+-- without a handle of no node the same handles can serve
+bases_without : (cols : Columns) (handle : ℕ) (table : List (ℕ × Stands)) (s : Stands) → stands_at handle table ≡ Some s → is_of_node s ≡ false
     → bases_in cols (without_handle handle table) ≡ bases_in cols table
 bases_without cols handle [] s is overlay = refl
 bases_without cols handle (e ∷ table) s is overlay = by (e.0 == handle) (λ r. bases_without cols handle table s r overlay) is
   where
+    same_kind : Some e.1 ≡ Some s → is_of_node e.1 ≡ is_of_node s
+    same_kind k = let one : e.1 ≡ s = cc in ap is_of_node one
+
     by : (here : Bool) → (stands_at handle table ≡ Some s → bases_in cols (without_handle handle table) ≡ bases_in cols table)
         → (if here then Some e.1 else stands_at handle table) ≡ Some s
         → bases_in cols (if here then table else e ∷ without_handle handle table) ≡ usable cols e ++ bases_in cols table
-    by true rest e_is = ap (λ (xs : List (ℕ × NodeId)). xs ++ bases_in cols table) (sym (none_usable cols e (ap is_base e_is ∙ overlay)))
+    by true rest e_is = ap (λ (xs : List (ℕ × NodeId)). xs ++ bases_in cols table) (sym (none_usable cols e (same_kind e_is ∙ overlay)))
     by false rest e_is = ap (λ (xs : List (ℕ × NodeId)). usable cols e ++ xs) (rest e_is)
 
 -- planners that are forgotten with a base are kept for the handles without one
 pub kept_without : (index : Option Opening) (handle : ℕ) (table : List (ℕ × Stands)) (s : Stands) (old new : List (Columns × PlannerGraph)) → stands_at handle table ≡ Some s
-    → (is_base (Some s) ≡ true → new ≡ []) → (is_base (Some s) ≡ false → new ≡ old) → IsKeptFor index table old → IsKeptFor index (without_handle handle table) new
-kept_without index handle table s old new is base overlay h = by (is_base (Some s)) refl
+    → (is_of_node s ≡ true → new ≡ []) → (is_of_node s ≡ false → new ≡ old) → IsKeptFor index table old → IsKeptFor index (without_handle handle table) new
+kept_without index handle table s old new is base overlay h = by (is_of_node s) refl
   where
-    by : (b : Bool) → is_base (Some s) ≡ b → IsKeptFor index (without_handle handle table) new
+    by : (b : Bool) → is_of_node s ≡ b → IsKeptFor index (without_handle handle table) new
     by true e = All-same (IsGraphOver index (without_handle handle table)) new [] (base e) (All-nil (IsGraphOver index (without_handle handle table)))
     by false e =
         subst (λ (k : List (Columns × PlannerGraph)). IsKeptFor index (without_handle handle table) k) (sym (overlay e))

@@ -50,7 +50,7 @@ use Rattle.dg_session.specs.Parts.{Parts}
 use Rattle.dg_session.specs.ReplyNames.{ReplyNamesAreThere}
 use Rattle.dg_session.specs.BatchReads.{is_early}
 use Rattle.dg_session.specs.Reads.{IsRetrieved, Reads, ReadsAsTold, ReadsBy, ReadsIn, with_new_handles}
-use Rattle.dg_start.specs.StoredHistory.{IsHeldBy, index_opening}
+use Rattle.dg_stored.specs.StoredHistory.{IsHeldBy, index_opening}
 use Rattle.dg_session.specs.Session.{Accepts, ComesTo, Moves, StandsFor, WhereBothTold, is_reached, refused_by, retrieval_needs}
 
 -- ---- what is refused
@@ -60,11 +60,10 @@ abbrev pub is_out : Option (ℕ × ℕ) → ℕ → Bool
 is_out span t = not (in_range span t)
 
 -- what a retrieval that is not refused finds: an index, instants that are in its history, and room for the handles
-pub retrieval_free : (p : Parts) (times : List ℕ) → 1 ≤ length times → refused_by p 0 (retrieval_needs times (length times)) ≡ None
-    → (is_some p.index ≡ true) × (list_any (is_out (span_held p.index)) times ≡ false) × (length p.table + length times ≤ LIVE_HANDLES_MAX)
-    × (p.next + length times ≤ HANDLE_MAX + 1)
-retrieval_free p times some none =
-    let n : ℕ = length times in
+pub retrieval_free : (p : Parts) (times : List ℕ) (n : ℕ) → 1 ≤ n → refused_by p 0 (retrieval_needs times n) ≡ None
+    → (is_some p.index ≡ true) × (list_any (is_out (span_held p.index)) times ≡ false) × (length p.table + n ≤ LIVE_HANDLES_MAX)
+    × (p.next + n ≤ HANDLE_MAX + 1)
+retrieval_free p times n some none =
     let a = passes (not (is_some p.index)) refusal.NoIndex _ none in
     let b = passes (list_any (is_out (span_held p.index)) times) (refusal.OutOfRange (span_held p.index)) _ a.1 in
     let c = passes (nat_lt 0 n && nat_lt LIVE_HANDLES_MAX (length p.table + n)) (refusal.PoolFull (length p.table) n) _ b.1 in
@@ -78,10 +77,9 @@ retrieval_free p times some none =
     )
 
 -- the first that holds of them is that the pool is full
-pub pool_refused : (p : Parts) (times : List ℕ) (live : ℕ) → is_some p.index ≡ true → list_any (is_out (span_held p.index)) times ≡ false → live ≡ length p.table → live ≤ LIVE_HANDLES_MAX
-    → LIVE_HANDLES_MAX < live + length times → refused_by p 0 (retrieval_needs times (length times)) ≡ Some (refusal.PoolFull live (length times))
-pool_refused p times live there out live_is most full =
-    let n : ℕ = length times in
+pub pool_refused : (p : Parts) (times : List ℕ) (n live : ℕ) → is_some p.index ≡ true → list_any (is_out (span_held p.index)) times ≡ false → live ≡ length p.table → live ≤ LIVE_HANDLES_MAX
+    → LIVE_HANDLES_MAX < live + n → refused_by p 0 (retrieval_needs times n) ≡ Some (refusal.PoolFull live n)
+pool_refused p times n live there out live_is most full =
     let many : nat_lt LIVE_HANDLES_MAX (length p.table + n) ≡ true = lt-ltb LIVE_HANDLES_MAX (length p.table + n) (omega (arith, live_is, full)) in
     let some : nat_lt 0 n ≡ true = lt-ltb 0 n (omega (arith, most, full)) in
     miss (not (is_some p.index)) refusal.NoIndex _ (ap (λ b. not b) there)
@@ -90,10 +88,9 @@ pool_refused p times live there out live_is most full =
     ∙ ap (λ k. Some (refusal.PoolFull k n)) (sym live_is)
 
 -- there is room, and the first that holds is that no handle is left
-pub handles_refused : (p : Parts) (times : List ℕ) (next : ℕ) → is_some p.index ≡ true → list_any (is_out (span_held p.index)) times ≡ false → length p.table + length times ≤ LIVE_HANDLES_MAX
-    → next ≡ p.next → next ≤ HANDLE_MAX + 1 → HANDLE_MAX + 1 < next + length times → refused_by p 0 (retrieval_needs times (length times)) ≡ Some refusal.HandlesSpent
-handles_refused p times next there out room next_is most spent =
-    let n : ℕ = length times in
+pub handles_refused : (p : Parts) (times : List ℕ) (n next : ℕ) → is_some p.index ≡ true → list_any (is_out (span_held p.index)) times ≡ false → length p.table + n ≤ LIVE_HANDLES_MAX
+    → next ≡ p.next → next ≤ HANDLE_MAX + 1 → HANDLE_MAX + 1 < next + n → refused_by p 0 (retrieval_needs times n) ≡ Some refusal.HandlesSpent
+handles_refused p times n next there out room next_is most spent =
     let some : nat_lt 0 n ≡ true = lt-ltb 0 n (omega (arith, most, spent)) in
     let many : nat_lt (HANDLE_MAX + 1) (p.next + n) ≡ true = lt-ltb (HANDLE_MAX + 1) (p.next + n) (omega (arith, next_is, spent)) in
     miss (not (is_some p.index)) refusal.NoIndex _ (ap (λ b. not b) there)
@@ -102,14 +99,20 @@ handles_refused p times next there out room next_is most spent =
     ∙ ap (λ b. earliest (when b refusal.HandlesSpent)) (λ i. some i && many i)
 
 -- none holds
-pub nothing_refused : (p : Parts) (times : List ℕ) → is_some p.index ≡ true → list_any (is_out (span_held p.index)) times ≡ false → length p.table + length times ≤ LIVE_HANDLES_MAX
-    → p.next + length times ≤ HANDLE_MAX + 1 → refused_by p 0 (retrieval_needs times (length times)) ≡ None
-nothing_refused p times there out room left =
-    let n : ℕ = length times in
+pub nothing_refused : (p : Parts) (times : List ℕ) (n : ℕ) → is_some p.index ≡ true → list_any (is_out (span_held p.index)) times ≡ false → length p.table + n ≤ LIVE_HANDLES_MAX
+    → p.next + n ≤ HANDLE_MAX + 1 → refused_by p 0 (retrieval_needs times n) ≡ None
+nothing_refused p times n there out room left =
     miss (not (is_some p.index)) refusal.NoIndex _ (ap (λ b. not b) there)
     ∙ miss (list_any (is_out (span_held p.index)) times) (refusal.OutOfRange (span_held p.index)) _ out
     ∙ miss (nat_lt 0 n && nat_lt LIVE_HANDLES_MAX (length p.table + n)) (refusal.PoolFull (length p.table) n) _ (and_right (nat_lt 0 n) _ (le-ltb LIVE_HANDLES_MAX (length p.table + n) room))
     ∙ ap (λ b. earliest (when b refusal.HandlesSpent)) (and_right (nat_lt 0 n) _ (le-ltb (HANDLE_MAX + 1) (p.next + n) left))
+
+-- where it is not refused for so many handles, it is not for none
+pub without_handles : (p : Parts) (times : List ℕ) (n : ℕ) → refused_by p 0 (retrieval_needs times n) ≡ None → refused_by p 0 (retrieval_needs times 0) ≡ None
+without_handles p times n none =
+    let a = passes (not (is_some p.index)) refusal.NoIndex _ none in
+    let b = passes (list_any (is_out (span_held p.index)) times) (refusal.OutOfRange (span_held p.index)) _ a.1 in
+    miss (not (is_some p.index)) refusal.NoIndex _ a.0 ∙ miss (list_any (is_out (span_held p.index)) times) (refusal.OutOfRange (span_held p.index)) _ b.0
 
 pub there_is : (i : Option Opening) → is_some i ≡ true → (o : Opening) × (i ≡ Some o)
 there_is None h = absurd (false≢true h)
@@ -145,10 +148,12 @@ points_there o recent cols times sound =
     (λ t h. point_there o recent t cols sound (not-false (in_range (span_held (Some o)) t) h))
 
 -- a retrieval that is not refused is of instants that are between those that the index tells
-pub instants_inside : (p : Parts) (o : Opening) (times : List ℕ) → p.index ≡ Some o → 1 ≤ length times → refused_by p 0 (retrieval_needs times (length times)) ≡ None
+pub instants_inside : (p : Parts) (o : Opening) (times : List ℕ) → p.index ≡ Some o → refused_by p 0 (retrieval_needs times 0) ≡ None
     → list_any (is_out (span_held (Some o))) times ≡ false
-instants_inside p o times there some none =
-    ap (λ (i : Option Opening). list_any (is_out (span_held i)) times) (sym there) ∙ (retrieval_free p times some none).1
+instants_inside p o times there none =
+    let a = passes (not (is_some p.index)) refusal.NoIndex _ none in
+    let b = passes (list_any (is_out (span_held p.index)) times) (refusal.OutOfRange (span_held p.index)) _ a.1 in
+    ap (λ (i : Option Opening). list_any (is_out (span_held i)) times) (sym there) ∙ b.0
 
 -- ---- the state that the session stands for
 
@@ -237,7 +242,7 @@ pub handles_stand : (p q : Parts) (x y : List ℕ) (m : MachineState) (times : L
     → StandsFor p x m → x ≡ y → 1 ≤ length times → refused_by p 0 (retrieval_needs times (length times)) ≡ None → IsRetrieved m times cols weight singles bases graphs
     → q ≡ with_new_handles p (overlays_on cols times bases) graphs → StandsFor q y (with_handles m (overlays_on cols times bases))
 handles_stand p q x y m times cols weight singles bases graphs s same some none r is =
-    let free = retrieval_free p times some none in
+    let free = retrieval_free p times (length times) some none in
     handles_taken p q y m (overlays_on cols times bases) (subst (λ image. StandsFor p image m) same s) free.0 (instants_reached p x m times bases cols s free.1)
     (is ∙ ap (λ gs. with_new_handles p (overlays_on cols times bases) gs) r.listed)
 

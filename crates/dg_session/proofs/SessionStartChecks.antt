@@ -22,8 +22,8 @@ use Rattle.dg_sound.specs.Soundness.{soundness_of}
 use Rattle.dg_sound_files.specs.SoundFiles.{SoundFilesStand, StandingFilesAreSound}
 use Rattle.dg_start.specs.declared.fault.StartFault.{StartFault}
 use Rattle.dg_start.specs.declared.fault.StartFault.TheVariants as start_fault
-use Rattle.dg_start.specs.SessionStart.{RefusesStart, Started, Starts, StartsAreDetermined}
-use Rattle.dg_start.specs.StoredHistory.{IsHeldBy, started_with}
+use Rattle.dg_start.specs.SessionStart.{RefusesStart, Started, Starts, StartsAreDetermined, started_with}
+use Rattle.dg_stored.specs.StoredHistory.{IsHeldBy}
 
 -- the fact holds of the image, where it is told, since another does
 pub told_so : (told : Option (List ℕ)) (P Q : List ℕ → Type 0) → ((image : List ℕ) → P image → Q image) → IfSome told P → IfSome told Q

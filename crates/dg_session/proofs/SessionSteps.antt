@@ -17,7 +17,7 @@ use Rattle.dg_machine.specs.CutImage.{IsAcceptedWrite}
 use Rattle.dg_machine.specs.MachineState.{MachineState, stands_at, dependent_on}
 use Rattle.dg_history.specs.History.{are_parameters, in_range}
 use Rattle.dg_machine.specs.declared.limits.TheConstants.{HANDLE_MAX, LIVE_HANDLES_MAX}
-use Rattle.dg_machine.specs.Needs.{Needs, earliest, following, is_followed, is_writing, needs, of, refused, when, is_base}
+use Rattle.dg_machine.specs.Needs.{Needs, earliest, following, is_followed, is_writing, needs, of, refused, when, is_set}
 use Rattle.dg_machine.specs.Planning.{Planned, IsPlanned, no_plan}
 use Rattle.dg_machine.specs.Run.{Step, Answers, Fails_to_read, Lacks_memory}
 use Rattle.dg_machine.specs.Script.{Asked}
@@ -138,7 +138,7 @@ never_read p read n =
     (when_not_read (nat_lt 0 n.changes && is_too_full p n.changes) (refusal.HistoryFull (events_held p.index) n.changes) _ refl
     (when_not_read (list_any (λ t. not (in_range (span_held p.index) t)) n.instants) (refusal.OutOfRange (span_held p.index)) _ refl
     (of_not_read n.handle (λ h. not (is_some (stands_at h p.table))) (λ h. refusal.UnknownHandle h) _ (λ h. refl)
-    (of_not_read n.handle (λ h. n.overlay && is_base (stands_at h p.table)) (λ h. refusal.NotAnOverlay h) _ (λ h. refl)
+    (of_not_read n.handle (λ h. n.overlay && is_set (stands_at h p.table)) (λ h. refusal.NotAnOverlay h) _ (λ h. refl)
     (used_not_read n.unused (λ h. dependent_on h p.table) _
     (of_not_read n.node (λ v. not (has_node_held p.index v)) (λ v. refusal.UnknownNode) _ (λ v. refl)
     (when_not_read (nat_lt 0 n.handles && nat_lt LIVE_HANDLES_MAX (length p.table + n.handles)) (refusal.PoolFull (length p.table) n.handles) _ refl
@@ -296,6 +296,7 @@ refuses_so (head.Appended events total last) r is = absurd (none-some r is)
 refuses_so (head.At handle weight) r is = absurd (none-some r is)
 refuses_so (head.Several weight sum) r is = absurd (none-some r is)
 refuses_so (head.Materialised handle weight) r is = absurd (none-some r is)
+refuses_so (head.Chosen handle weight) r is = absurd (none-some r is)
 refuses_so (head.List handle lines) r is = absurd (none-some r is)
 refuses_so (head.Counts handle counts with_messages) r is = absurd (none-some r is)
 refuses_so (head.NodeThere handle id degree) r is = absurd (none-some r is)

@@ -9,40 +9,40 @@ use Rattle.dg_batch.specs.declared.held.Held.{Held}
 use Rattle.dg_disk.specs.declared.disk.Disk.{Ghosts}
 use Rattle.dg_file.specs.declared.fault.CommitFault.{CommitFault}
 use Rattle.dg_file.specs.declared.fault.CommitFault.TheVariants as fault
-use Rattle.dg_file.specs.Calls.{Upgrades, UpgradesPart}
+use Rattle.dg_file.specs.Calls.{Upgrades}
 use Rattle.dg_file.specs.Images.{GainsMarker, GainsUpgrade, GainsUpgradeOrNot}
 use Rattle.dg_history.specs.declared.form.Form.{Form}
 use Rattle.dg_history.specs.declared.form.Form.TheVariants as form
 use Rattle.dg_history.specs.History.{History, is_wide, with_upgrade}
-use Rattle.dg_history.specs.LegalHistory.{IsLegal}
 use Rattle.dg_index.proofs.OpenedIndexGrowth.{opened_upgraded, used_is}
 use Rattle.dg_index.specs.FileOfHistory.{size}
 use Rattle.dg_index.specs.ImageOfHistory.{IsImageOf, StandsAs}
 use Rattle.dg_index.specs.IndexGrowth.{index_upgraded, needed_for_marker}
-use Rattle.dg_index.specs.OpenedIndex.{Opened, Opening, opening}
+use Rattle.dg_index.specs.OpenedIndex.{Opened, Opening}
 use Rattle.dg_machine.specs.declared.command.Command.TheVariants as command
 use Rattle.dg_machine.specs.declared.limits.Limits.{Limits}
 use Rattle.dg_machine.specs.declared.reply.Head.TheVariants as head
 use Rattle.dg_machine.specs.declared.reply.Refusal.TheVariants as refusal
 use Rattle.dg_machine.specs.declared.reply.Reply.{Reply}
 use Rattle.dg_machine.specs.declared.stands.Stands.{Stands}
-use Rattle.dg_machine.specs.declared.stands.Stands.TheVariants.{Overlay, Base}
+use Rattle.dg_machine.specs.declared.stands.Stands.TheVariants.{Overlay, Base, Selected}
+use Rattle.dg_machine.specs.declared.selection.Selection.TheVariants.{Chosen}
 use Rattle.dg_machine.specs.Answer.{Answered, answer, headed, is_refusal, refuse, upgrading}
 use Rattle.dg_machine.specs.CutImage.{IsAcceptedWrite, IsCut, As_before, As_after}
-use Rattle.dg_machine.specs.MachineState.{MachineState, elements, graphs_of, history_in}
+use Rattle.dg_machine.specs.MachineState.{MachineState, elements, history_in}
 use Rattle.dg_machine.specs.Needs.{needs, refused}
 use Rattle.dg_machine.specs.Planning.{no_plan}
 use Rattle.dg_machine.specs.Run.{Step}
 use Rattle.dg_machine.specs.Script.{Asked}
 use Rattle.dg_session.proofs.PartStates.{IsOf, both_told, is_of, opening_of, passes, refused_is, stands}
 use Rattle.dg_session.proofs.ReplyNames.{head_names, names_stay}
-use Rattle.dg_session.proofs.SessionSteps.{accepted_is, accepted_steps, denied_at, is_accepted, moved}
+use Rattle.dg_session.proofs.SessionSteps.{accepted_is, accepted_steps, denied_at, is_accepted}
 use Rattle.dg_session.specs.Decided.{IsHeadOf}
 use Rattle.dg_session.specs.Parts.{Parts}
 use Rattle.dg_session.specs.Session.{Accepts, ComesTo, CutsOff, Denies, HoldsImage, StandsFor, is_reached, is_wide_held, refused_by}
 use Rattle.dg_session.specs.Upgrade.{MarksHeld, upgrade_halt}
 use Rattle.dg_sound_files.proofs.OpenedIndexRecords.{form_is}
-use Rattle.dg_start.specs.StoredHistory.{IsHeldBy, index_opening}
+use Rattle.dg_stored.specs.StoredHistory.{IsHeldBy, index_opening}
 
 -- what a session keeps within these limits
 abbrev pub held_parts : Limits → Held → Parts
@@ -86,10 +86,12 @@ first_form form.Two e = absurd (false≢true (sym e))
 elements_stay : (z : History) (s : Stands) → elements z s ≡ elements (with_upgrade z) s
 elements_stay z (Overlay t cols on) = refl
 elements_stay z (Base node cols) = refl
+elements_stay z (Selected (Chosen e) cols) = refl
 
 reached_stays : (z : History) (s : Stands) → is_reached z s ≡ true → is_reached (with_upgrade z) s ≡ true
 reached_stays z (Overlay t cols on) r = r
 reached_stays z (Base node cols) r = r
+reached_stays z (Selected what cols) r = r
 
 -- the bytes that the marker needs are those of the upgraded file
 size_is : (z : History) → z.form ≡ form.One → needed_for_marker (opening_of z) ≡ size (with_upgrade z)

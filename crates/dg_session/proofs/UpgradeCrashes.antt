@@ -1,5 +1,5 @@
 -- What a crash may leave while the file is upgraded.
-use Rattle.std.proofs.Common.{◌≡◌, ◌⊎◌, inl, inr, ℕ, ◌≤◌, true, List, [], Option, None, Result, Ok, Err, refl, sym, subst}
+use Rattle.std.proofs.Common.{◌≡◌, ◌⊎◌, inl, inr, ℕ, ◌≤◌, true, List, [], None, Ok, Err, refl, sym, subst}
 use Rattle.dg_batch.specs.declared.held.Held.{Held}
 use Rattle.dg_disk.proofs.FrameLemmas.{reads_none}
 use Rattle.dg_disk.specs.Calls.{LeftByCrash}

@@ -46,14 +46,13 @@ use Rattle.dg_session.proofs.PartStates.{IsOf, hit, is_of, miss, one_image, one_
 use Rattle.dg_session.proofs.SessionSteps.{failing_accepted, lacking_denies, moved}
 use Rattle.dg_session.specs.Damage.{DamageIn}
 use Rattle.dg_session.specs.Decided.{IsHeadOf}
-use Rattle.dg_batch.specs.Halt.{verify_halt}
 use Rattle.dg_session.specs.Parts.{Parts}
 use Rattle.dg_session.specs.BatchReads.{is_early}
 use Rattle.dg_session.specs.HistoryBytes.{record_length, records_length}
 use Rattle.dg_session.specs.Reads.{Reads, ReadsBy, ReadsIn, ReadsRecords}
 use Rattle.dg_session.specs.Session.{Accepts, ComesTo, StandsFor, refused_by}
-use Rattle.dg_session.specs.Verified.{IsOfFile, VerifiesBy, VerifiesFile, is_verify}
-use Rattle.dg_start.specs.StoredHistory.{IsHeldBy}
+use Rattle.dg_session.specs.Verified.{IsOfFile, VerifiesBy, VerifiesFile, is_verify, verify_halt}
+use Rattle.dg_stored.specs.StoredHistory.{IsHeldBy}
 use Rattle.dg_verify.specs.declared.fault.VerifyFault.{VerifyFault}
 use Rattle.dg_verify.specs.declared.fault.VerifyFault.TheVariants as fault
 use Rattle.dg_verify.specs.RecordBytes.{columns_bytes, records_bytes}

@@ -3,6 +3,8 @@ use Rattle.std.specs.Prelude.{◌≡◌, ◌⊎◌, ℕ, true, false, List, [], 
 use Rattle.dg_append.specs.Fronts.{lines}
 use Rattle.dg_append.specs.OlderChildSteps.{IsNamedDamage}
 use Rattle.dg_append.specs.OlderGroups.{AreUndamaged, in_groups, older_children}
+use Rattle.dg_expr.specs.Expressions.{instants_of, words_of}
+use Rattle.dg_fold.specs.Parts.{graph_columns}
 use Rattle.dg_graph.specs.CompletedChanges.{completed}
 use Rattle.dg_graph.specs.declared.element.Column.{Column}
 use Rattle.dg_graph.specs.declared.element.Columns.{Columns}
@@ -18,6 +20,7 @@ use Rattle.dg_machine.specs.Answer.{refusal_of}
 use Rattle.dg_machine.specs.declared.reply.Head.{Head}
 use Rattle.dg_machine.specs.declared.reply.Refusal.{Refusal}
 use Rattle.dg_machine.specs.declared.reply.Reply.{Reply}
+use Rattle.dg_machine.specs.declared.selection.Selection.TheVariants.{Chosen}
 use Rattle.dg_messages.specs.Calls.{AreHeard, IsFirstMessageDamage}
 use Rattle.dg_plan.specs.declared.edge.Edge.{Edge}
 use Rattle.dg_retrieval.specs.declared.fault.RetrievalFault.{RetrievalFault}
@@ -32,7 +35,7 @@ use Rattle.dg_session.specs.Reads.{reply_head}
 use Rattle.dg_session.specs.Session.{damage_of}
 
 -- what a command reads records for: the graphs as of instants, in columns; the set of a node, in columns; the older
--- children of a batch of so many lines; or nothing
+-- children of a batch of so many lines; or nothing. Of the instants of an expression each is asked for once, and no message.
 pub data ReadsFor : Type 0 where
   Graphs : List ℕ → Columns → ReadsFor
   Node_set : NodeId → Columns → ReadsFor
@@ -43,6 +46,7 @@ abbrev pub reads_for : Command → ReadsFor
 reads_for (command.At t cols) = Graphs (t ∷ []) cols
 reads_for (command.Several cols times count) = Graphs (take count times) cols
 reads_for (command.Materialise node cols) = Node_set node cols
+reads_for (command.Select (Chosen e) cols) = Graphs (instants_of (words_of e)) (graph_columns cols)
 reads_for (command.Load count) = Batch_of count
 reads_for (command.Append count) = Batch_of count
 reads_for (command.Workload seed count) = Batch_of count

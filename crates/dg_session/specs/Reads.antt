@@ -1,5 +1,5 @@
 -- What a retrieval gives, the handles that it is given, and the bytes that commands read.
-use Rattle.std.specs.Prelude.{◌≡◌, ℕ, ◌+◌, Bool, true, false, List, [], ◌∷◌, ◌++◌, Option, Some, None, Result, Ok, Err, IfErr, IfOk, IfSome, length, map, sum_by}
+use Rattle.std.specs.Prelude.{◌≡◌, ℕ, ◌+◌, Bool, true, false, List, [], ◌∷◌, ◌++◌, Option, Some, None, Result, Ok, Err, IfErr, IfOk, IfSome, length, map}
 use Rattle.std.specs.List.{All, sum}
 use Rattle.dg_fold.specs.BytesRead.{Takes, TakesAtMost}
 use Rattle.dg_graph.specs.declared.element.Columns.{Columns}

@@ -1,6 +1,6 @@
 -- How the steps of a session are steps of the machine.
 use Rattle.std.specs.Prelude.{◌≡◌, ◌⊎◌, ℕ, ◌+◌, ◌*◌, Bool, true, false, ◌&&◌, ◌||◌, not, List, [], ◌∷◌, ◌++◌, Option, Some, None, Result, Ok, Err, IfSome, is_some, length, nat_le, nat_lt}
-use Rattle.std.specs.List.{All, list_any}
+use Rattle.std.specs.List.{All, list_all, list_any}
 use Rattle.dg_graph.specs.declared.element.Column.{Column}
 use Rattle.dg_graph.specs.declared.limits.TheConstants.{SKEW_MAX}
 use Rattle.dg_text.specs.declared.limits.TheConstants.{NAMES_MAX}
@@ -18,11 +18,11 @@ use Rattle.dg_machine.specs.declared.reply.Refusal.{Refusal}
 use Rattle.dg_machine.specs.declared.reply.Refusal.TheVariants as refusal
 use Rattle.dg_machine.specs.declared.reply.Reply.{Reply}
 use Rattle.dg_machine.specs.declared.stands.Stands.{Stands}
-use Rattle.dg_machine.specs.declared.stands.Stands.TheVariants.{Overlay, Base}
+use Rattle.dg_machine.specs.declared.stands.Stands.TheVariants.{Overlay, Base, Selected}
 use Rattle.dg_machine.specs.Answer.{headed, is_refusal, refusal_of}
 use Rattle.dg_machine.specs.CutImage.{IsCut}
 use Rattle.dg_machine.specs.MachineState.{MachineState, dependent_on, stands_at, graphs_of, history_in}
-use Rattle.dg_machine.specs.Needs.{Needs, can_be_held, earliest, is_base, is_followed, is_writing, needs, nothing_more, of, when}
+use Rattle.dg_machine.specs.Needs.{Needs, can_be_held, earliest, instants_asked, is_followed, is_set, is_writing, needs, nothing_more, of, when}
 use Rattle.dg_machine.specs.Run.{Step, is_failed_read}
 use Rattle.dg_machine.specs.Script.{Asked}
 use Rattle.dg_batch.specs.declared.halt.Halt.{Halt}
@@ -33,13 +33,20 @@ use Rattle.dg_session.specs.Decided.{IsHeadOf, is_late}
 use Rattle.dg_session.specs.Parts.{Parts}
 use Rattle.dg_session.specs.ReplyNames.{BeginWith, ReplyNamesAreThere}
 use Rattle.dg_ask.specs.HeldIndex.{events_held, has_node_held, span_held}
-use Rattle.dg_start.specs.StoredHistory.{IsHeldBy, KeepsHistory}
+use Rattle.dg_stored.specs.StoredHistory.{IsHeldBy, KeepsHistory}
 
--- the instant of what a handle stands for is in the history, or its index has the node, so that no later event
+-- the handle stands for a node of the index, with which plans may begin
+abbrev pub is_of_node : Stands → Bool
+is_of_node (Overlay t cols on) = false
+is_of_node (Base node cols) = true
+is_of_node (Selected what cols) = false
+
+-- the instants of what a handle stands for are in the history, or its index has the node, so that no later event
 -- changes it
 abbrev pub is_reached : History → Stands → Bool
 is_reached z (Overlay t cols on) = in_range (span_of (events_of z)) t
 is_reached z (Base node cols) = can_be_held z.params (length (events_of z)) node
+is_reached z (Selected what cols) = list_all (in_range (span_of (events_of z))) (instants_asked what)
 
 -- the session stands for this state of the machine, over the image
 pub record StandsFor (session : Parts) (image : List ℕ) (m : MachineState) : Type 0 where
@@ -103,7 +110,7 @@ refusals_by there p read n =
     ++ (when (nat_lt 0 n.changes && is_too_full p n.changes) (refusal.HistoryFull (events_held p.index) n.changes)
     ++ (when (list_any (λ t. not (in_range (span_held p.index) t)) n.instants) (refusal.OutOfRange (span_held p.index))
     ++ (of n.handle (λ h. when (not (is_some (stands_at h p.table))) (refusal.UnknownHandle h))
-    ++ (of n.handle (λ h. when (n.overlay && is_base (stands_at h p.table)) (refusal.NotAnOverlay h))
+    ++ (of n.handle (λ h. when (n.overlay && is_set (stands_at h p.table)) (refusal.NotAnOverlay h))
     ++ (of n.unused (λ h. of (dependent_on h p.table) (λ d. refusal.InUse d ∷ []))
     ++ (of n.node (λ v. when (not (has_node_held p.index v)) refusal.UnknownNode)
     ++ (when (nat_lt 0 n.handles && nat_lt LIVE_HANDLES_MAX (length p.table + n.handles)) (refusal.PoolFull (length p.table) n.handles)

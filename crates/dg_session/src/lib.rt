@@ -5,6 +5,7 @@
 
 mod batch_command;
 mod creation_command;
+mod graph_sets;
 mod laws;
 mod retrieval;
 mod session;

@@ -50,7 +50,7 @@ fn points_of(
 fn tree_leads<R: Threads, D: Disk>(
     rt: &R,
     alloc: Global,
-    index: &mut Index,
+    index: &Index,
     disk: &mut D,
     name_count: u32,
     recent: &[Event],
@@ -58,17 +58,17 @@ fn tree_leads<R: Threads, D: Disk>(
     times: &[u64],
     cols: Columns,
 ) -> Result<Retrieved, RetrievalFault>
-    requires image { IfSome (D.image disk.old) (λ image. IsOpenedAs image index.old.opening) }
-    requires edges { IsKeptGraph index.old.opening cols planner.now.edges }
-    requires nodes { planner.now.nodes ≡ kept_nodes index.old.opening (event_total index.old.opening.batches) cols }
+    requires image { IfSome (D.image disk.old) (λ image. IsOpenedAs image index.now.opening) }
+    requires edges { IsKeptGraph index.now.opening cols planner.now.edges }
+    requires nodes { planner.now.nodes ≡ kept_nodes index.now.opening (event_total index.now.opening.batches) cols }
     requires few { length times.now ≤ TIMES_MAX }
-    requires there { list_any (λ t. not (in_range (span_held (Some index.old.opening)) t)) times.now ≡ false }
-    ensures done { IfOk result (IsRetrieval name_count recent.now planner.now.edges (points_over index.old.opening recent.now times.now)) }
-    ensures over { IfSome (D.image disk.old) (λ image. (z : History) (now : List Element) → IsOver z image index.old.opening name_count now recent.now
-        → RetrievesOver z now planner.now.edges cols (points_over index.old.opening recent.now times.now) times.now (D.taken disk.old) (D.taken disk.new) result) }
+    requires there { list_any (λ t. not (in_range (span_held (Some index.now.opening)) t)) times.now ≡ false }
+    ensures done { IfOk result (IsRetrieval name_count recent.now planner.now.edges (points_over index.now.opening recent.now times.now)) }
+    ensures over { IfSome (D.image disk.old) (λ image. (z : History) (now : List Element) → IsOver z image index.now.opening name_count now recent.now
+        → RetrievesOver z now planner.now.edges cols (points_over index.now.opening recent.now times.now) times.now (D.taken disk.old) (D.taken disk.new) result) }
     ensures damage { IfSome (D.image disk.old) (λ image.
-        TellsDamage name_count planner.now.edges index.old.opening cols (points_over index.old.opening recent.now times.now) image result) }
-    ensures reads { ReadsRecords D.Disk index.old index.new disk.old disk.new result }
+        TellsDamage name_count planner.now.edges index.now.opening cols (points_over index.now.opening recent.now times.now) image result) }
+    ensures reads { ReadsRecords D.Disk disk.old disk.new result }
 {
     index.facts();
     let targets = points_of(alloc, index, recent, times)?;
@@ -83,7 +83,7 @@ fn tree_leads<R: Threads, D: Disk>(
 pub fn leads_at<R: Threads, D: Disk>(
     rt: &R,
     alloc: Global,
-    index: &mut Index,
+    index: &Index,
     disk: &mut D,
     name_count: u32,
     recent: &[Event],
@@ -91,25 +91,25 @@ pub fn leads_at<R: Threads, D: Disk>(
     times: &[u64],
     cols: Columns,
 ) -> Result<Retrieved, RetrievalFault>
-    requires image { IfSome (D.image disk.old) (λ image. IsOpenedAs image index.old.opening) }
-    requires edges { IsKeptGraph index.old.opening cols planner.now.edges }
-    requires nodes { planner.now.nodes ≡ kept_nodes index.old.opening (event_total index.old.opening.batches) cols }
+    requires image { IfSome (D.image disk.old) (λ image. IsOpenedAs image index.now.opening) }
+    requires edges { IsKeptGraph index.now.opening cols planner.now.edges }
+    requires nodes { planner.now.nodes ≡ kept_nodes index.now.opening (event_total index.now.opening.batches) cols }
     requires few { length times.now ≤ TIMES_MAX }
-    requires there { list_any (λ t. not (in_range (span_held (Some index.old.opening)) t)) times.now ≡ false }
+    requires there { list_any (λ t. not (in_range (span_held (Some index.now.opening)) t)) times.now ≡ false }
 
     // what it gives, of which the second holds over an image of a history
-    ensures done { IfOk result (LeadsToInstants name_count recent.now planner.now.edges index.old.opening
-        (points_over index.old.opening recent.now times.now) times.now cols) }
-    ensures over { IfSome (D.image disk.old) (λ image. (z : History) (now : List Element) → IsOver z image index.old.opening name_count now recent.now
-        → LeadsOver z now planner.now.edges index.old.opening (points_over index.old.opening recent.now times.now) times.now cols
+    ensures done { IfOk result (LeadsToInstants name_count recent.now planner.now.edges index.now.opening
+        (points_over index.now.opening recent.now times.now) times.now cols) }
+    ensures over { IfSome (D.image disk.old) (λ image. (z : History) (now : List Element) → IsOver z image index.now.opening name_count now recent.now
+        → LeadsOver z now planner.now.edges index.now.opening (points_over index.now.opening recent.now times.now) times.now cols
         (D.taken disk.old) (D.taken disk.new) result) }
 
     // where columns are damaged
-    ensures damage { IfSome (D.image disk.old) (λ image. TellsLeadDamage name_count planner.now.edges index.old.opening
-        (points_over index.old.opening recent.now times.now) times.now cols image result) }
+    ensures damage { IfSome (D.image disk.old) (λ image. TellsLeadDamage name_count planner.now.edges index.now.opening
+        (points_over index.now.opening recent.now times.now) times.now cols image result) }
 
     // what it leaves, and why a read failed
-    ensures reads { ReadsRecords D.Disk index.old index.new disk.old disk.new result }
+    ensures reads { ReadsRecords D.Disk disk.old disk.new result }
 {
     let retrieved = match tree_leads(
         rt, alloc, index, disk, name_count, recent, planner, times, cols,
@@ -128,20 +128,20 @@ pub fn leads_at<R: Threads, D: Disk>(
 pub fn node_lead<R: Threads + Sync, D: Disk>(
     rt: &R,
     alloc: Global,
-    index: &mut Index,
+    index: &Index,
     disk: &mut D,
     name_count: u32,
     node: NodeId,
     cols: Columns,
 ) -> Result<NodeLead, RetrievalFault>
-    requires image { IfSome (D.image disk.old) (λ image. IsOpenedAs image index.old.opening) }
-    requires node { has_node_held (Some index.old.opening) node ≡ true }
-    ensures done { IfOk result (LeadsToNode name_count (index_edges index.old.opening cols false []) index.old.opening cols node (D.image disk.old)) }
-    ensures over { IfSome (D.image disk.old) (λ image. (z : History) → IsIndexOver z image index.old.opening name_count
-        → LeadsToNodeOver z (index_edges index.old.opening cols false []) cols node (D.taken disk.old) (D.taken disk.new) result) }
+    requires image { IfSome (D.image disk.old) (λ image. IsOpenedAs image index.now.opening) }
+    requires node { has_node_held (Some index.now.opening) node ≡ true }
+    ensures done { IfOk result (LeadsToNode name_count (index_edges index.now.opening cols false []) index.now.opening cols node (D.image disk.old)) }
+    ensures over { IfSome (D.image disk.old) (λ image. (z : History) → IsIndexOver z image index.now.opening name_count
+        → LeadsToNodeOver z (index_edges index.now.opening cols false []) cols node (D.taken disk.old) (D.taken disk.new) result) }
     ensures damage { IfSome (D.image disk.old) (λ image.
-        TellsDamage name_count (index_edges index.old.opening cols false []) index.old.opening cols (node ∷ []) image result) }
-    ensures reads { ReadsRecords D.Disk index.old index.new disk.old disk.new result }
+        TellsDamage name_count (index_edges index.now.opening cols false []) index.now.opening cols (node ∷ []) image result) }
+    ensures reads { ReadsRecords D.Disk disk.old disk.new result }
 {
     index.facts();
     law_nodes_are_listed();

@@ -22,7 +22,8 @@ ghost use Rattle.dg_session.specs.SessionState.{handles_of};
 ghost use Rattle.dg_session.specs.SessionStart.{Begins, IsNew, IsStanding, RefusesSession};
 ghost use Rattle.dg_session.specs.Sweeps.{SweepsNothing, SweepsPool};
 ghost use Rattle.dg_start.specs.Calls.{TakesStart};
-ghost use Rattle.dg_start.specs.StoredHistory.{index_opening, started_with};
+ghost use Rattle.dg_start.specs.SessionStart.{started_with};
+ghost use Rattle.dg_stored.specs.StoredHistory.{index_opening};
 ghost use Rattle.dg_batch.specs.declared.stop.Stop.TheVariants as stop;
 
 mod bases;
@@ -32,6 +33,7 @@ mod opening;
 mod plans;
 mod queries;
 mod retrievals;
+mod selections;
 mod upgrades;
 mod verification;
 
@@ -52,6 +54,7 @@ use dg_seed::Seed;
 use dg_sound_files::{law_sound_files_stand, law_standing_files_are_sound};
 use dg_start::StartFault;
 use dg_verify::verify;
+use selections::expression_of;
 use std::alloc::{AllocError, Global};
 use std::marker::Model;
 use std::thread::Threads;
@@ -71,7 +74,7 @@ impl Model for Session {
     ghost use Rattle.dg_ask.specs.KeptPlanner.{IsKeptFor};
     ghost use Rattle.dg_batch.specs.Held.{IsHeld, graphs_held};
     ghost use Rattle.dg_session.specs.SessionState.{SessionState};
-    ghost use Rattle.dg_start.specs.StoredHistory.{index_opening};
+    ghost use Rattle.dg_stored.specs.StoredHistory.{index_opening};
 
     ghost Value = { SessionState };
 
@@ -261,6 +264,10 @@ impl Session {
                 self.several(rt, cols, times, count, disk)
             }
             Command::Materialise { node, cols } => self.materialise(rt, node, cols, disk),
+            Command::Select { what, cols } => {
+                let expr = expression_of(what);
+                self.choose(rt, expr, cols, disk)
+            }
             Command::Certify { t, cols, count } => self.certify(t, cols, count, lines, source),
             Command::Verify => self.verify(rt, disk),
             Command::Workload { seed, count } => self.workload(rt, seed, count, disk),

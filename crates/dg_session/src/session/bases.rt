@@ -30,7 +30,7 @@ use std::alloc::AllocError;
 use std::thread::Threads;
 
 impl Session {
-    // Why no node is held as a new handle.
+    // The refusal of a new handle for the node, where there is one.
     pub(super) fn refused_node(&self, node: NodeId) -> Option<Refusal>
         ensures { result ≡ refused_by self.now.parts 0 (node_needs node) }
     {
@@ -106,7 +106,9 @@ impl Session {
         let Some(pool) = &mut self.held.live.pool else {
             unreachable!()
         };
-        self.held.handles.add_base(pool, node, cols, delta)
+        self.held
+            .handles
+            .add_set(pool, Stands::Base { node, cols }, delta)
     }
 
     // A new handle that holds the set of a leaf or an interior node in these columns.

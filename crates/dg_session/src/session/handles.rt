@@ -8,9 +8,8 @@ ghost use Rattle.dg_handles.specs.Handles.{IsSweptWhole, IsTied, graphs_without,
 ghost use Rattle.dg_machine.specs.Answer.{headed};
 ghost use Rattle.dg_machine.specs.declared.stands.Stands.TheVariants as Stands;
 ghost use Rattle.dg_machine.specs.MachineState.{dependent_on, union_of_sets, without_handle};
-ghost use Rattle.dg_machine.specs.Needs.{is_base};
 ghost use Rattle.dg_pool.specs.Sweeps.{cells_of};
-ghost use Rattle.dg_session.specs.Session.{ComesTo};
+ghost use Rattle.dg_session.specs.Session.{ComesTo, is_of_node};
 ghost use Rattle.dg_session.specs.Sweeps.{SweepsPool};
 ghost use Rattle.dg_batch.specs.declared.stop.Stop.TheVariants as stop;
 
@@ -76,8 +75,8 @@ impl Session {
 
 // Forgets the planners, where this is among the bases that serve in them.
 fn forget_base(planner: &mut KeptPlanner, stands: Stands)
-    ensures base { is_base (Some stands) ≡ true → planner.new ≡ [] }
-    ensures overlay { is_base (Some stands) ≡ false → planner.new ≡ planner.old }
+    ensures base { is_of_node stands ≡ true → planner.new ≡ [] }
+    ensures other { is_of_node stands ≡ false → planner.new ≡ planner.old }
 {
     if matches!(stands, Stands::Base { .. }) {
         planner.forget();

@@ -11,8 +11,8 @@ ghost use Rattle.dg_pool.specs.Graphs.{slot_graph};
 ghost use Rattle.dg_session.specs.Session.{HoldsImage, StandsFor};
 ghost use Rattle.dg_session.specs.SessionStart.{FailsCheck, IsNew, IsSoundImage};
 ghost use Rattle.dg_start.specs.Calls.{TakesStart};
-ghost use Rattle.dg_start.specs.SessionStart.{RefusesStart, Starts};
-ghost use Rattle.dg_start.specs.StoredHistory.{IsHeldBy, KeepsHistory, index_opening, started_with};
+ghost use Rattle.dg_start.specs.SessionStart.{RefusesStart, Starts, started_with};
+ghost use Rattle.dg_stored.specs.StoredHistory.{IsHeldBy, KeepsHistory, index_opening};
 
 use super::Session;
 use crate::session_fault::SessionFault;

@@ -11,7 +11,7 @@ ghost use Rattle.dg_history.specs.History.{in_range};
 ghost use Rattle.dg_ask.specs.HeldIndex.{span_held};
 ghost use Rattle.dg_session.specs.Parts.{Parts};
 ghost use Rattle.dg_session.specs.Session.{ComesTo, TakesLines, refused_by, retrieval_needs};
-ghost use Rattle.dg_start.specs.StoredHistory.{index_opening};
+ghost use Rattle.dg_stored.specs.StoredHistory.{index_opening};
 ghost use Rattle.dg_batch.specs.declared.stop.Stop.TheVariants as stop;
 
 use super::{Session, headed};

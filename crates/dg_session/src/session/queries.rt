@@ -5,7 +5,7 @@ ghost use Rattle.dg_append.specs.Overlays.{pool_of};
 ghost use Rattle.dg_handles.specs.Handles.{IsTied, graph_among, slot_graphs};
 ghost use Rattle.dg_machine.specs.Answer.{columns_if, headed};
 ghost use Rattle.dg_machine.specs.declared.stands.Stands.TheVariants as Stands;
-ghost use Rattle.dg_machine.specs.Needs.{is_base, needs};
+ghost use Rattle.dg_machine.specs.Needs.{is_set, needs};
 ghost use Rattle.dg_machine.specs.MachineState.{stands_at};
 ghost use Rattle.dg_session.specs.Parts.{Parts};
 ghost use Rattle.dg_session.specs.Session.{ComesTo, refused_by};
@@ -108,7 +108,11 @@ fn has_messages(stands: Option<Stands>) -> bool
     ensures { result ≡ (columns_if stands).transient }
 {
     match stands {
-        Some(Stands::Overlay { cols, .. } | Stands::Base { cols, .. }) => cols.transient,
+        Some(
+            Stands::Overlay { cols, .. }
+            | Stands::Base { cols, .. }
+            | Stands::Selected { cols, .. },
+        ) => cols.transient,
         None => false,
     }
 }
@@ -134,14 +138,17 @@ fn overlay_of<'a>(
     requires tied { IsTied (pool_of pool.now) handles.now }
     ensures graph { IfOk result (λ graph. graph_among handle handles.now.table (slot_graphs (pool_of pool.now) handles.now.slots) ≡ Some graph) }
     ensures live { OnOk result (is_some (stands_at handle handles.now.table) ≡ true) }
-    ensures overlay { OnOk result (is_base (stands_at handle handles.now.table) ≡ false) }
+    ensures overlay { OnOk result (is_set (stands_at handle handles.now.table) ≡ false) }
     ensures refused { IfErr result (λ refusal. (p : Parts) → p.table ≡ handles.now.table
         → (id : ℕ) → refused_by p 0 (needs (Command.Ask handle (Query.Node id))) ≡ Some refusal) }
 {
     let Some(graph) = view_of(handles, pool, handle) else {
         return Err(Refusal::UnknownHandle(handle));
     };
-    if matches!(handles.stands(handle), Some(Stands::Base { .. })) {
+    if matches!(
+        handles.stands(handle),
+        Some(Stands::Base { .. } | Stands::Selected { .. })
+    ) {
         return Err(Refusal::NotAnOverlay(handle));
     }
     Ok(graph)

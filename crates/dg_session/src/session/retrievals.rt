@@ -33,10 +33,9 @@ use std::alloc::AllocError;
 use std::thread::Threads;
 
 impl Session {
-    // Why no graphs as of these instants are retrieved, each as a new handle.
-    pub(super) fn refused_retrieval(&self, times: &[u64]) -> Option<Refusal>
-        requires few { length times.now ≤ TIMES_MAX }
-        ensures { result ≡ refused_by self.now.parts 0 (retrieval_needs times.now (length times.now)) }
+    // Why no graphs as of these instants are retrieved for so many new handles.
+    pub(super) fn refused_retrieval(&self, times: &[u64], handles: u8) -> Option<Refusal>
+        ensures { result ≡ refused_by self.now.parts 0 (retrieval_needs times.now handles) }
     {
         if !self.has_index() {
             return Some(Refusal::NoIndex);
@@ -46,7 +45,7 @@ impl Session {
             return Some(Refusal::OutOfRange(ends));
         }
         let live = self.held.handles.live();
-        let asked = times.len() as u32;
+        let asked = u32::from(handles);
         if (live + asked) as usize > LIVE_HANDLES_MAX {
             return Some(Refusal::PoolFull(live, asked));
         }
@@ -65,9 +64,8 @@ impl Session {
         cols: Columns,
         disk: &mut D,
     ) -> Result<Retrieved, RetrievalFault>
-        requires some { 1 ≤ length times.now }
         requires few { length times.now ≤ TIMES_MAX }
-        requires free { refused_by self.old.parts 0 (retrieval_needs times.now (length times.now)) ≡ None }
+        requires free { refused_by self.old.parts 0 (retrieval_needs times.now 0) ≡ None }
         requires image { HoldsImage self.old.parts (D.image disk.old) }
 
         // what is retrieved, of which the second holds over an image that stands for a state
@@ -148,7 +146,7 @@ impl Session {
         ensures disk { ReadsDisk D.Disk disk.old disk.new }
     {
         let times = [t];
-        if let Some(refusal) = self.refused_retrieval(&times) {
+        if let Some(refusal) = self.refused_retrieval(&times, 1) {
             return Err(Halt::Refusal(refusal));
         }
         let Retrieved { leads, weight, .. } = self.retrieve(rt, &times, cols, disk)?;
@@ -182,7 +180,7 @@ impl Session {
         ensures disk { ReadsDisk D.Disk disk.old disk.new }
     {
         let asked = first_of(&times, count);
-        if let Some(refusal) = self.refused_retrieval(asked) {
+        if let Some(refusal) = self.refused_retrieval(asked, count) {
             return Err(Halt::Refusal(refusal));
         }
         let retrieved = self.retrieve(rt, asked, cols, disk)?;
@@ -207,7 +205,7 @@ fn is_any_out(ends: Option<(u64, u64)>, times: &[u64]) -> bool
 }
 
 // The first `count` of the instants.
-fn first_of<'a>(times: &'a [u64], count: u8) -> &'a [u64]
+pub(super) fn first_of<'a>(times: &'a [u64], count: u8) -> &'a [u64]
     requires { count ≤ length times.now }
     ensures times { result.now ≡ take count times.entry.now }
     ensures count { length result.now ≡ count }

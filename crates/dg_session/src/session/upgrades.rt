@@ -11,7 +11,7 @@ ghost use Rattle.dg_session.specs.Calls.{TreatsDisk};
 ghost use Rattle.dg_session.specs.Reads.{ReadsIn};
 ghost use Rattle.dg_session.specs.Session.{ComesTo, HoldsImage, LeavesCommand, refused_by};
 ghost use Rattle.dg_session.specs.Upgrade.{IsNarrow, MarksHeld, upgrade_halt};
-ghost use Rattle.dg_start.specs.StoredHistory.{index_opening};
+ghost use Rattle.dg_stored.specs.StoredHistory.{index_opening};
 
 use super::{Session, headed};
 use dg_batch::{Halt, Held, Stop};

@@ -6,7 +6,7 @@ ghost use Rattle.dg_machine.specs.Answer.{headed};
 ghost use Rattle.dg_session.specs.Calls.{ReadsFile};
 ghost use Rattle.dg_session.specs.Reads.{ReadsRecords};
 ghost use Rattle.dg_session.specs.Session.{ComesTo, HoldsImage};
-ghost use Rattle.dg_session.specs.Verified.{IsOfFile, VerifiesFile};
+ghost use Rattle.dg_session.specs.Verified.{IsOfFile, VerifiesFile, verify_halt};
 ghost use Rattle.dg_batch.specs.declared.stop.Stop.TheVariants as stop;
 
 use super::{Session, headed};
@@ -41,7 +41,10 @@ impl Session {
     {
         law_standing_files_are_sound();
         let _ = self.index()?;
-        let soundness = self.soundness(rt, disk)?;
+        let soundness = match self.soundness(rt, disk) {
+            Ok(soundness) => soundness,
+            Err(fault) => return Err(verify_halt(fault)),
+        };
         Ok(headed(self.alloc, Head::Verified(soundness)))
     }
 
@@ -65,5 +68,15 @@ impl Session {
             unreachable!()
         };
         verify(rt, self.alloc, index, disk, &self.held.live.history.names)
+    }
+}
+
+// Why the file is not verified.
+fn verify_halt(fault: VerifyFault) -> Halt
+    ensures { result ≡ verify_halt fault }
+{
+    match fault {
+        VerifyFault::Disk => Halt::Refusal(Refusal::StoreRead),
+        VerifyFault::Memory => Halt::Refusal(Refusal::OutOfMemory),
     }
 }

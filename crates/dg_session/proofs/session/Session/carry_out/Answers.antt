@@ -1,10 +1,13 @@
-use Rattle.std.proofs.Common.{◌≡◌, true, false, [], refl, rules, subst, sym}
+use Rattle.std.proofs.Common.{◌≡◌, ◌∙◌, ap, true, false, refl, rules, subst, sym}
 use Rattle.std.proofs.lemmas.Bool.{false≢true}
 use Rattle.dg_disk.proofs.FrameLemmas as frames
 use Rattle.dg_disk.specs.Calls.{LeftByCrash}
 use Rattle.dg_session.proofs.CommandCrashes.{reading_left}
 use Rattle.dg_cuts.specs.TakenLines.{CutsWithin, TakesBehind}
+use Rattle.dg_machine.specs.declared.command.Command.{Command}
 use Rattle.dg_machine.specs.declared.command.Command.TheVariants as command
+use Rattle.dg_machine.specs.declared.selection.Selection.{Selection}
+use Rattle.dg_machine.specs.declared.selection.Selection.TheVariants.{Chosen}
 use Rattle.dg_machine.specs.CommandGrammar.{CountIsInRange}
 use Rattle.dg_session.specs.Session.{is_at_hand}
 use Rattle.dg_session.specs.Verified.{is_verify}
@@ -41,6 +44,16 @@ workload-requires-clause-some g c = (subst CountIsInRange c.in-Workload.is c.req
 pub workload-requires-clause-few : goal.workload-requires-clause-few
 workload-requires-clause-few g c = (subst CountIsInRange c.in-Workload.is c.requires.command).1
 
+pub choose-requires-clause-expression : goal.choose-requires-clause-expression
+choose-requires-clause-expression g c =
+    let is : c.args.command.now ≡ command.Select (Chosen c.expression_of-expr.result) c.in-Select.cols = c.in-Select.is ∙ ap (λ (w : Selection). command.Select w c.in-Select.cols) c.expression_of-expr.ensures in
+    (subst CountIsInRange is c.requires.command).0
+
+pub choose-requires-clause-words : goal.choose-requires-clause-words
+choose-requires-clause-words g c =
+    let is : c.args.command.now ≡ command.Select (Chosen c.expression_of-expr.result) c.in-Select.cols = c.in-Select.is ∙ ap (λ (w : Selection). command.Select w c.in-Select.cols) c.expression_of-expr.ensures in
+    (subst CountIsInRange is c.requires.command).1
+
 pub returns-in-At-clause-carries : goal.returns-in-At-clause-carries
 returns-in-At-clause-carries g c =
     reading_carries {d = g.D.Disk} c.at.result g.met.D.Disk.only_now c.args.command.now (command.At c.in-At.t c.in-At.cols) c.in-At.is refl tt c.at.ensures.comes c.at.ensures.no_stop (unverified_all (command.At c.in-At.t c.in-At.cols) c.args.self.now.parts (g.D.Disk.image c.args.disk.now) c.at.result refl)
@@ -55,6 +68,13 @@ pub returns-in-Materialise-clause-carries : goal.returns-in-Materialise-clause-c
 returns-in-Materialise-clause-carries g c =
     reading_carries {d = g.D.Disk} c.materialise.result g.met.D.Disk.only_now c.args.command.now (command.Materialise c.in-Materialise.node c.in-Materialise.cols) c.in-Materialise.is refl tt c.materialise.ensures.comes c.materialise.ensures.no_stop (unverified_all (command.Materialise c.in-Materialise.node c.in-Materialise.cols) c.args.self.now.parts (g.D.Disk.image c.args.disk.now) c.materialise.result refl)
     c.materialise.ensures.store_read c.materialise.ensures.disk c.materialise.ensures.file
+
+pub returns-in-Select-clause-carries : goal.returns-in-Select-clause-carries
+returns-in-Select-clause-carries g c =
+    let done : Command = command.Select (Chosen c.expression_of-expr.result) c.in-Select.cols in
+    let is : c.args.command.now ≡ done = c.in-Select.is ∙ ap (λ (w : Selection). command.Select w c.in-Select.cols) c.expression_of-expr.ensures in
+    reading_carries {d = g.D.Disk} c.choose.result g.met.D.Disk.only_now c.args.command.now done is refl tt c.choose.ensures.comes c.choose.ensures.no_stop (unverified_all done c.args.self.now.parts (g.D.Disk.image c.args.disk.now) c.choose.result refl)
+    c.choose.ensures.store_read c.choose.ensures.disk c.choose.ensures.file
 
 pub returns-in-Verify-clause-carries : goal.returns-in-Verify-clause-carries
 returns-in-Verify-clause-carries g c =

@@ -5,7 +5,7 @@ use Rattle.dg_session.specs.SessionState.{SessionState}
 use Rattle.dg_machine.specs.Planning.{bases_in}
 use Rattle.dg_ask.specs.HeldIndex.{point_over, span_held}
 use Rattle.dg_session.specs.Session.{Accepts, Denies, refused_by, retrieval_needs}
-use Rattle.dg_start.specs.StoredHistory.{index_opening}
+use Rattle.dg_stored.specs.StoredHistory.{index_opening}
 use Rattle.std.proofs.Common.{◌≡◌, ℕ, true, [], ◌∷◌, Some, Err, List, map, sym, ◌∙◌, ap, subst, arith}
 use Rattle.dg_text.specs.Lines.{ScriptLine}
 use Rattle.dg_cuts.specs.TakenLines.{CutsWithin, TakesBehind}

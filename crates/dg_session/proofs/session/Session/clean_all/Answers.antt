@@ -1,6 +1,6 @@
 use Rattle.std.proofs.Common.{◌∙◌, ◌∷◌, ap, length, refl, subst}
 use Rattle.dg_append.proofs.Overlays.{overlay_stays, same_slots}
-use Rattle.dg_append.specs.Overlays.{overlaid, pool_in, pool_of}
+use Rattle.dg_append.specs.Overlays.{overlaid, pool_in}
 use Rattle.dg_ask.proofs.KeptAdjacencies.{graphs_same}
 use Rattle.dg_machine.specs.declared.command.Command.TheVariants as command
 use Rattle.dg_machine.specs.declared.reply.Reply.{Reply}

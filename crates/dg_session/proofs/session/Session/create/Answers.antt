@@ -8,7 +8,7 @@ use Rattle.dg_session.specs.CreationCommand.{making}
 use Rattle.dg_session.specs.Parts.{Parts}
 use Rattle.dg_session.specs.Reads.{ReadsIn}
 use Rattle.dg_session.specs.Session.{ComesTo, LeavesCommand, refused_by}
-use Rattle.dg_start.specs.StoredHistory.{index_opening}
+use Rattle.dg_stored.specs.StoredHistory.{index_opening}
 use Rattle.dg_session.specs.contracts.session.Session.{the_view}
 use Rattle.dg_disk.proofs.FrameLemmas.{reads_none}
 use Rattle.dg_disk.specs.Calls.{LeftByCrash}

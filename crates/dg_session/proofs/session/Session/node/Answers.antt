@@ -6,7 +6,7 @@ use Rattle.dg_machine.specs.declared.command.Command.TheVariants as command
 use Rattle.dg_machine.specs.declared.command.Query.TheVariants as query
 use Rattle.dg_machine.specs.Answer.{node_reply}
 use Rattle.dg_machine.specs.MachineState.{stands_at}
-use Rattle.dg_machine.specs.Needs.{is_base}
+use Rattle.dg_machine.specs.Needs.{is_set}
 use Rattle.dg_batch.specs.declared.halt.Halt.TheVariants as halt
 use Rattle.std.specs.List.{All}
 use Rattle.dg_retrieval.specs.NamesThere.{NamesAreThere}
@@ -40,7 +40,7 @@ returns-in_err-node-clause-comes c image =
     let p : Parts = c.args.self.now.parts in
     let r = c.from_residual-in_err-node in
     let live = ap (λ (x : SessionState). is_some (stands_at h x.parts.table)) (sym c.self.view_is) ∙ c.in_ok-graph.ensures.live in
-    let overlay = ap (λ (x : SessionState). is_base (stands_at h x.parts.table)) (sym c.self.view_is) ∙ c.in_ok-graph.ensures.overlay in
+    let overlay = ap (λ (x : SessionState). is_set (stands_at h x.parts.table)) (sym c.self.view_is) ∙ c.in_ok-graph.ensures.overlay in
     subst (λ (x : Parts). ComesTo (command.Ask h (query.Node id)) [] p image x image r.result) (sym (ap (λ (x : SessionState). x.parts) c.self.view_is))
     (ask_lacks (command.Ask h (query.Node id)) h true (λ cols. node_reply h id) (node_asks h id) p r.result image refl r.ensures live overlay)
 
@@ -51,7 +51,7 @@ returns-in_err-node_reply-clause-comes c image =
     let p : Parts = c.args.self.now.parts in
     let r = c.from_residual-in_err-node_reply in
     let live = ap (λ (x : SessionState). is_some (stands_at h x.parts.table)) (sym c.self.view_is) ∙ c.in_ok-graph.ensures.live in
-    let overlay = ap (λ (x : SessionState). is_base (stands_at h x.parts.table)) (sym c.self.view_is) ∙ c.in_ok-graph.ensures.overlay in
+    let overlay = ap (λ (x : SessionState). is_set (stands_at h x.parts.table)) (sym c.self.view_is) ∙ c.in_ok-graph.ensures.overlay in
     subst (λ (x : Parts). ComesTo (command.Ask h (query.Node id)) [] p image x image r.result) (sym (ap (λ (x : SessionState). x.parts) c.self.view_is))
     (ask_lacks (command.Ask h (query.Node id)) h true (λ cols. node_reply h id) (node_asks h id) p r.result image refl r.ensures live overlay)
 
@@ -63,7 +63,7 @@ returns-clause-comes c image =
     let graph = c.in_ok-graph.graph in
     let reply = c.in_ok-node_reply.field-0 in
     let live = ap (λ (x : SessionState). is_some (stands_at h x.parts.table)) (sym c.self.view_is) ∙ c.in_ok-graph.ensures.live in
-    let overlay = ap (λ (x : SessionState). is_base (stands_at h x.parts.table)) (sym c.self.view_is) ∙ c.in_ok-graph.ensures.overlay in
+    let overlay = ap (λ (x : SessionState). is_set (stands_at h x.parts.table)) (sym c.self.view_is) ∙ c.in_ok-graph.ensures.overlay in
     let found = ap (λ (x : SessionState). graph_among h x.parts.table x.parts.graphs) (sym c.self.view_is)
     ∙ c.in_ok-graph.ensures.graph in
     subst (λ (x : Parts). Accepts (command.Ask h (query.Node id)) [] p image x image reply) (sym (ap (λ (x : SessionState). x.parts) c.self.view_is))

@@ -2,8 +2,8 @@ use Rattle.std.proofs.Common.{subst, sym}
 use Rattle.dg_ask.specs.KeptPlanner.{IsKeptFor}
 use Rattle.dg_session.proofs.PoolOverlays.{held_over}
 use Rattle.dg_session.proofs.session.Session.overlay.Goals as goal
-use Rattle.dg_start.specs.declared.stored_history.StoredHistory.{StoredHistory}
-use Rattle.dg_start.specs.StoredHistory.{index_opening}
+use Rattle.dg_stored.specs.declared.stored_history.StoredHistory.{StoredHistory}
+use Rattle.dg_stored.specs.StoredHistory.{index_opening}
 
 pub invariant_of-self : goal.invariant_of-self
 invariant_of-self c =

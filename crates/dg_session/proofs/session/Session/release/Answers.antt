@@ -17,7 +17,7 @@ use Rattle.dg_session.specs.SessionState.{SessionState}
 use Rattle.dg_ask.proofs.KeptAdjacencies.{kept_without as adjacency_without}
 use Rattle.dg_session.proofs.SessionReleaseStep.{all_without, kept_without, parts_without, release_answers, release_refused, release_used}
 use Rattle.dg_session.proofs.SessionSteps.{refused_denies}
-use Rattle.dg_start.specs.StoredHistory.{index_opening}
+use Rattle.dg_stored.specs.StoredHistory.{index_opening}
 use Rattle.dg_session.proofs.session.Session.release.Goals as goal
 
 pub returns-in_default-clause-comes : goal.returns-in_default-clause-comes
@@ -66,5 +66,5 @@ invariant_of-self c =
         };
       },
       subst (λ t. IsKeptFor index t c.forget_base.new.planner) (sym c.give_up.ensures.table)
-          (kept_without index h s.held.handles.table c.in-Some.stands s.planner c.forget_base.new.planner (sym c.stands.ensures ∙ c.in-Some.is) c.forget_base.ensures.base c.forget_base.ensures.overlay c.self.invariant.2),
+          (kept_without index h s.held.handles.table c.in-Some.stands s.planner c.forget_base.new.planner (sym c.stands.ensures ∙ c.in-Some.is) c.forget_base.ensures.base c.forget_base.ensures.other c.self.invariant.2),
     )

@@ -20,7 +20,7 @@ leads_at-requires-clause-there g c =
     let o = c.in-Some.index.opening in
     let cols = c.args.cols in
     let is : IsSession p o c.len.result c.deref.result.now = is_session p c.self.inside c.in-Some.index c.len.result c.deref.result.now view c.in-Some.is c.len.ensures.len c.deref.ensures.value in
-    instants_inside p o c.args.times.now is.there c.requires.some c.requires.free
+    instants_inside p o c.args.times.now is.there c.requires.free
 
 pub leads_at-requires-clause-edges : goal.leads_at-requires-clause-edges
 leads_at-requires-clause-edges g c =
@@ -47,7 +47,7 @@ returns-clause-done g c =
     let o = c.in-Some.index.opening in
     let cols = c.args.cols in
     let is : IsSession p o c.len.result c.deref.result.now = is_session p c.self.inside c.in-Some.index c.len.result c.deref.result.now view c.in-Some.is c.len.ensures.len c.deref.ensures.value in
-    let inside = instants_inside p o c.args.times.now is.there c.requires.some c.requires.free in
+    let inside = instants_inside p o c.args.times.now is.there c.requires.free in
     let graph : IsPlanningIn p o cols c.planner.result.now = planning_in p c.self.inside c.in-Some.index cols c.keep.new.self c.planner.result.now view c.in-Some.is c.self.invariant.1.handles.nodes c.keep.ensures.kept c.planner.ensures.planner in
     let holds = holds_in p c.self.inside cols view (c.facts.ensures.held cols) in
     has_retrieved p o c.args.times.now cols (g.D.Disk.image c.args.disk.now) c.len.result c.deref.result.now is inside c.planner.result.now.edges graph.edges holds c.leads_at.result
@@ -63,7 +63,7 @@ returns-clause-over g c =
     let o = c.in-Some.index.opening in
     let cols = c.args.cols in
     let is : IsSession p o c.len.result c.deref.result.now = is_session p c.self.inside c.in-Some.index c.len.result c.deref.result.now view c.in-Some.is c.len.ensures.len c.deref.ensures.value in
-    let inside = instants_inside p o c.args.times.now is.there c.requires.some c.requires.free in
+    let inside = instants_inside p o c.args.times.now is.there c.requires.free in
     let graph : IsPlanningIn p o cols c.planner.result.now = planning_in p c.self.inside c.in-Some.index cols c.keep.new.self c.planner.result.now view c.in-Some.is c.self.invariant.1.handles.nodes c.keep.ensures.kept c.planner.ensures.planner in
     let holds = holds_in p c.self.inside cols view (c.facts.ensures.held cols) in
     retrieves_for p o c.args.times.now cols (g.D.Disk.image c.args.disk.now) c.len.result c.deref.result.now is inside c.planner.result.now.edges graph.edges holds c.law_heard_bytes_are_the_historys.ensures c.leads_at.result
@@ -76,7 +76,7 @@ returns-clause-damage g c =
     let o = c.in-Some.index.opening in
     let cols = c.args.cols in
     let is : IsSession p o c.len.result c.deref.result.now = is_session p c.self.inside c.in-Some.index c.len.result c.deref.result.now view c.in-Some.is c.len.ensures.len c.deref.ensures.value in
-    let inside = instants_inside p o c.args.times.now is.there c.requires.some c.requires.free in
+    let inside = instants_inside p o c.args.times.now is.there c.requires.free in
     let graph : IsPlanningIn p o cols c.planner.result.now = planning_in p c.self.inside c.in-Some.index cols c.keep.new.self c.planner.result.now view c.in-Some.is c.self.invariant.1.handles.nodes c.keep.ensures.kept c.planner.ensures.planner in
     let holds = holds_in p c.self.inside cols view (c.facts.ensures.held cols) in
     graph_damage_over p o c.args.times.now cols (g.D.Disk.image c.args.disk.now) c.len.result c.deref.result.now c.leads_at.result is c.planner.result.now.edges graph.edges c.leads_at.ensures.damage

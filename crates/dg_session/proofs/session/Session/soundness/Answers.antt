@@ -2,7 +2,7 @@ use Rattle.std.proofs.Common.{◌∙◌, sym, ap}
 use Rattle.dg_session.specs.SessionState.{SessionState}
 use Rattle.dg_session.proofs.VerifiedStep.{sound_over}
 use Rattle.dg_session.proofs.session.Session.soundness.Goals as goal
-use Rattle.dg_start.specs.StoredHistory.{index_opening}
+use Rattle.dg_stored.specs.StoredHistory.{index_opening}
 
 pub returns-clause-sound : goal.returns-clause-sound
 returns-clause-sound g c =

@@ -1,12 +1,12 @@
-use Rattle.std.proofs.Common.{◌≡◌, [], refl, sym, ap, subst}
+use Rattle.std.proofs.Common.{◌≡◌, [], Err, refl, sym, ap, subst}
 use Rattle.std.specs.Prelude.{IsErrAnd, is_some}
 use Rattle.dg_machine.specs.declared.command.Command.TheVariants as command
 use Rattle.dg_machine.specs.declared.reply.Head.TheVariants as head
 use Rattle.dg_machine.specs.declared.reply.Refusal.TheVariants as refusal
 use Rattle.dg_machine.specs.declared.reply.Reply.{Reply}
+use Rattle.dg_batch.specs.declared.halt.Halt.{Halt}
 use Rattle.dg_batch.specs.declared.halt.Halt.TheVariants as halt
 use Rattle.dg_session.specs.Damage.{DamageIn, DamageIs}
-use Rattle.dg_batch.specs.Halt.{verify_halt}
 use Rattle.dg_session.specs.Reads.{Reads, ReadsIn}
 use Rattle.dg_session.specs.Session.{ComesTo}
 use Rattle.dg_session.specs.SessionState.{SessionState}
@@ -25,19 +25,19 @@ returns-in_err-index-clause-comes g c =
 pub soundness-requires-clause-there : goal.soundness-requires-clause-there
 soundness-requires-clause-there g c = ap is_some c.in_ok-index.ensures.index
 
-pub returns-in_err-soundness-clause-comes : goal.returns-in_err-soundness-clause-comes
-returns-in_err-soundness-clause-comes g c =
-    handed_out c.from_residual-in_err-soundness.result (verify_halt c.in_err-soundness.field-0.0) (ComesTo command.Verify [] c.args.self.now.parts (g.D.Disk.image c.args.disk.now) c.soundness.new.self.parts (g.D.Disk.image c.soundness.new.disk)) c.from_residual-in_err-soundness.ensures
-    (verify_failed c.args.self.now.parts c.soundness.new.self.parts (g.D.Disk.image c.args.disk.now) (g.D.Disk.image c.soundness.new.disk) c.in_err-soundness.field-0.0 (ap is_some c.in_ok-index.ensures.index) (ap (λ (x : SessionState). x.parts) c.soundness.ensures.same) c.soundness.ensures.disk.same_image)
+pub returns-in-Err-clause-comes : goal.returns-in-Err-clause-comes
+returns-in-Err-clause-comes g c =
+    subst (λ (h : Halt). ComesTo command.Verify [] c.args.self.now.parts (g.D.Disk.image c.args.disk.now) c.soundness.new.self.parts (g.D.Disk.image c.soundness.new.disk) (Err h)) (sym c.verify_halt.ensures)
+    (verify_failed c.args.self.now.parts c.soundness.new.self.parts (g.D.Disk.image c.args.disk.now) (g.D.Disk.image c.soundness.new.disk) c.in-Err.fault (ap is_some c.in_ok-index.ensures.index) (ap (λ (x : SessionState). x.parts) c.soundness.ensures.same) c.soundness.ensures.disk.same_image)
 
 pub returns-clause-comes : goal.returns-clause-comes
 returns-clause-comes g c =
-    verify_answers c.law_standing_files_are_sound.ensures c.args.self.now.parts c.soundness.new.self.parts (g.D.Disk.image c.args.disk.now) (g.D.Disk.image c.soundness.new.disk) c.in_ok-soundness.soundness c.headed.result
-    (ap (λ (x : SessionState). x.parts) c.soundness.ensures.same) c.soundness.ensures.disk.same_image c.in_ok-soundness.ensures.sound c.headed.ensures
+    verify_answers c.law_standing_files_are_sound.ensures c.args.self.now.parts c.soundness.new.self.parts (g.D.Disk.image c.args.disk.now) (g.D.Disk.image c.soundness.new.disk) c.in-Ok.soundness c.headed.result
+    (ap (λ (x : SessionState). x.parts) c.soundness.ensures.same) c.soundness.ensures.disk.same_image c.in-Ok.ensures.sound c.headed.ensures
 
 pub returns-clause-verified : goal.returns-clause-verified
 returns-clause-verified g c =
-    subst (λ (r : Reply). VerifiesFile command.Verify c.args.self.now.parts (g.D.Disk.image c.args.disk.now) r.head) (sym c.headed.ensures) c.in_ok-soundness.ensures.sound
+    subst (λ (r : Reply). VerifiesFile command.Verify c.args.self.now.parts (g.D.Disk.image c.args.disk.now) r.head) (sym c.headed.ensures) c.in-Ok.ensures.sound
 
 pub returns-in_err-index-clause-file : goal.returns-in_err-index-clause-file
 returns-in_err-index-clause-file g c = record {
@@ -51,13 +51,15 @@ returns-in_err-index-clause-file g c = record {
       (verify_unread c.args.self.now.parts (g.D.Disk.image c.args.disk.now) (head.Refused refusal.NoIndex) (g.D.Disk.taken c.args.disk.now) (g.D.Disk.taken c.args.disk.now) refl);
 }
 
-pub returns-in_err-soundness-clause-file : goal.returns-in_err-soundness-clause-file
-returns-in_err-soundness-clause-file g c = record {
-  damaged = handed_out c.from_residual-in_err-soundness.result (verify_halt c.in_err-soundness.field-0.0) (λ r. DamageIn command.Verify c.args.self.now.parts (g.D.Disk.image c.args.disk.now) r) c.from_residual-in_err-soundness.ensures (failed_damage c.args.self.now.parts (g.D.Disk.image c.args.disk.now) c.in_err-soundness.field-0.0);
-  undamaged = met_nothing command.Verify c.args.self.now.parts (g.D.Disk.image c.args.disk.now) c.from_residual-in_err-soundness.result tt;
+pub returns-in-Err-clause-file : goal.returns-in-Err-clause-file
+returns-in-Err-clause-file g c = record {
+  damaged =
+      subst (λ (h : Halt). DamageIn command.Verify c.args.self.now.parts (g.D.Disk.image c.args.disk.now) (Err h)) (sym c.verify_halt.ensures)
+      (failed_damage c.args.self.now.parts (g.D.Disk.image c.args.disk.now) c.in-Err.fault);
+  undamaged = met_nothing {A = Reply} command.Verify c.args.self.now.parts (g.D.Disk.image c.args.disk.now) (Err c.verify_halt.result) tt;
   reads =
-      handed_out c.from_residual-in_err-soundness.result (verify_halt c.in_err-soundness.field-0.0) (λ r. ReadsIn command.Verify c.args.self.now.parts (g.D.Disk.image c.args.disk.now) r (g.D.Disk.taken c.args.disk.now) (g.D.Disk.taken c.soundness.new.disk)) c.from_residual-in_err-soundness.ensures
-      (failed_reads c.args.self.now.parts (g.D.Disk.image c.args.disk.now) c.in_err-soundness.field-0.0 (g.D.Disk.taken c.args.disk.now) (g.D.Disk.taken c.soundness.new.disk) c.soundness.ensures.takes);
+      subst (λ (h : Halt). ReadsIn command.Verify c.args.self.now.parts (g.D.Disk.image c.args.disk.now) (Err h) (g.D.Disk.taken c.args.disk.now) (g.D.Disk.taken c.soundness.new.disk)) (sym c.verify_halt.ensures)
+      (failed_reads c.args.self.now.parts (g.D.Disk.image c.args.disk.now) c.in-Err.fault (g.D.Disk.taken c.args.disk.now) (g.D.Disk.taken c.soundness.new.disk) c.soundness.ensures.takes);
 }
 
 pub returns-clause-file : goal.returns-clause-file
@@ -66,5 +68,5 @@ returns-clause-file g c = record {
   undamaged = tt;
   reads =
       subst (λ (r : Reply). Reads command.Verify c.args.self.now.parts (g.D.Disk.image c.args.disk.now) r.head (g.D.Disk.taken c.args.disk.now) (g.D.Disk.taken c.soundness.new.disk)) (sym c.headed.ensures)
-      (verified_reads c.args.self.now.parts (g.D.Disk.image c.args.disk.now) c.in_ok-soundness.soundness (g.D.Disk.taken c.args.disk.now) (g.D.Disk.taken c.soundness.new.disk) c.soundness.ensures.takes);
+      (verified_reads c.args.self.now.parts (g.D.Disk.image c.args.disk.now) c.in-Ok.soundness (g.D.Disk.taken c.args.disk.now) (g.D.Disk.taken c.soundness.new.disk) c.soundness.ensures.takes);
 }

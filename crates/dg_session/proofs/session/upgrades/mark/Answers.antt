@@ -1,7 +1,7 @@
 use Rattle.std.proofs.Common.{ap}
 use Rattle.dg_session.proofs.HeldIndexes.{held_upgraded}
 use Rattle.dg_session.proofs.session.upgrades.mark.Goals as goal
-use Rattle.dg_start.specs.StoredHistory.{index_opening}
+use Rattle.dg_stored.specs.StoredHistory.{index_opening}
 
 pub returns-in-Ok-clause-held : goal.returns-in-Ok-clause-held
 returns-in-Ok-clause-held g c =
