@@ -381,6 +381,7 @@ COMMANDS = [
     ("at 10 s", 0),
     ("at 45 sne", 0),
     ("several sne 20 30 45 60", 0),
+    ("expression sne and 45 not 20", 0),
     ("at 79 st", 0),
     ("several snet 79 45", 0),
     ("materialise inner 1 1 sne", 0),

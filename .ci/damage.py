@@ -39,6 +39,7 @@ REPLIES = {
     "append": (r"ok append \d+ \d+ \d+", None),
     "at": (r"ok at \d+ \d+", None),
     "several": (r"ok several \d+ \d+", r"handle \d+ \d+ \d+"),
+    "expression": (r"ok expression \d+ \d+", None),
     "materialise": (r"ok materialise \d+ \d+", None),
     "list": (r"ok list \d+ (\d+)", ELEMENT),
     "counts": (r"ok counts \d+ \d+ \d+ \d+ \d+(?: \d+)?", None),
@@ -88,6 +89,7 @@ def questions(times, leaves):
     for handle, time in enumerate(asked, 1):
         script += [f"at {time} {draw.choice(['st', 'sn', 'set', 'sne'])}", f"list {handle}"]
     script += [f"several snet {' '.join(map(str, asked))}", "list 6", "list 8", f"plan {asked[2]} sne", f"plan {first} s"]
+    script += [f"expression sne or and {asked[2]} not {asked[3]} and {asked[4]} not {asked[2]}", "list 11"]
     script += ["counts 2", "node 2 5", "neighbours 3 5", f"materialise leaf {max(1, leaves // 2)} sne"]
     script += [f"materialise inner 1 {max(1, leaves // 8)} s", "pool", "clean all"]
     batch = [f"{last + 2 + i} +node {7000 + i}" for i in range(ADDED)]
@@ -167,6 +169,15 @@ class Model:
         given = [self.give(self.graph_at(time, columns), columns) for time in times]
         rows = [f"handle {handle} {time} {single}" for handle, time, single in zip(given, times, singles)]
         return [f"ok several {graph.tree_weight(targets) + self.heard(columns, times)} {sum(singles)}", *rows]
+
+    def expression(self, columns, *words):
+        words = [int(word) if word.isdigit() else word for word in words]
+        times = list(dict.fromkeys(word for word in words if isinstance(word, int)))
+        if not all(map(self.is_in_range, times)):
+            return self.out_of_range()
+        weight = self.index(columns).tree_weight([model.point(self.history, time) for time in times])
+        graphs = {time: self.graph_at(time, columns) for time in times}
+        return [f"ok expression {self.give(model.holding(words, graphs), columns)} {weight}"]
 
     def heard(self, columns, times):
         """The bytes of the messages that are read for these instants."""

@@ -37,6 +37,7 @@ UNCACHED, CACHED = ("--cache", "0"), ("--cache", "64")
 MAKE = [CREATE, FIVE]
 SCRIPTS = {
     "several": ["several s 20 30 20", "several s 30 20"],
+    "expression": ["expression s and 30 not 20", "list 1", "expression s or 20 30", "list 2", "counts 1", "node 1 1"],
     "append": ["at 40 sn", "append 2\n60 -node 2\n70 +node 3", "list 1", "at 70 sn", "list 2", "at 40 s"],
     "bases": ["materialise inner 1 1 s", "at 20 s", "at 20 sn", "release 1", "node 1 1", "release 2", "release 1", "list 1"],
     "sweeps": ["at 20 s", "at 40 s", "pool", "release 2", "clean 1", "at 30 s", "clean all", "pool"]

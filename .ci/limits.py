@@ -442,6 +442,8 @@ ASK = [
     "append 2\n100000 +node 1000001\n100000 msg 1000000 1000001 hello",
     "at 100000 st",
     "counts 7",
+    "expression sne and 20000 not 10000",
+    "list 8",
 ]
 
 

@@ -546,6 +546,7 @@ class Case:
         self.handles, self.next = {}, 1  # the graphs of this run's live handles, and the number of the next one
         self.bases, self.rests = {}, {}  # the nodes that handles hold, with their columns; and what each handle rests on
         self.hearing = set()  # the handles whose columns have messages
+        self.formulas = set()  # the handles of expressions
 
     def reply(self, *lines):
         self.due += list(lines) + ["end"]
@@ -561,7 +562,7 @@ class Case:
         if ran.returncode != status or ran.stdout.decode() != due or not same:
             sys.exit(f"seed {self.seed}: status {ran.returncode}, replies {ran.stdout.decode() == due}, file {same}")
         self.script, self.due, self.handles, self.next, self.bases, self.rests = [], [], {}, 1, {}, {}
-        self.hearing = set()
+        self.hearing, self.formulas = set(), set()
 
     def give(self, graphs, rests, columns="s"):
         """Gives each of these graphs a handle, which rests on what stands beside it."""
@@ -617,6 +618,47 @@ def ask_graphs(rng, history, changes, case):
         case.give(graphs, graph_rests, columns)
 
 
+def any_expression(rng, times, depth=0):
+    """An expression over some times, as a list of its words."""
+    kind = rng.choice(["time", "time", "not", "and", "and", "or"]) if depth < 3 else "time"
+    if kind == "time":
+        return [rng.choice(times)]
+    return [kind, *(word for _ in range(1 if kind == "not" else 2) for word in any_expression(rng, times, depth + 1))]
+
+
+def holding(words, graphs):
+    """Which elements an expression holds for, among those that any of its graphs has. The words are taken off."""
+    word = words.pop(0)
+    if word == "not":
+        return set.union(*graphs.values()) - holding(words, graphs)
+    if word in ("and", "or"):
+        one, other = holding(words, graphs), holding(words, graphs)
+        return one & other if word == "and" else one | other
+    return graphs[word]
+
+
+def ask_expressions(rng, history, case):
+    """Asks what holds over several instants; some of them lie behind the history."""
+    for _ in range(rng.choice([0, 0, 1, 2])):
+        columns, (first, last) = rng.choice(ASKED), (history.events[0][0], history.events[-1][0])
+        some = [rng.randrange(first, last + 1) for _ in range(rng.choice([1, 2, 2, 3, 5]))]
+        if rng.random() < 0.05:
+            some[0] = last + 1
+        words = any_expression(rng, some)
+        times = list(dict.fromkeys(word for word in words if isinstance(word, int)))
+        case.script.append(f"expression {columns} {' '.join(map(str, words))}")
+        if max(times) > last:
+            case.reply(f"refused 7 out-of-range {first} {last}")
+        elif len(case.handles) == 127:
+            case.reply("refused 9 pool-full 127 1")
+        else:
+            weight = case.graph(history, columns).tree_weight([point(history, time) for time in times])
+            graphs = {time: cut(replay(e for e in history.events if e[0] <= time), columns) for time in times}
+            case.reply(f"ok expression {case.next} {weight}")
+            case.formulas.add(case.next)
+            case.give([holding(words, graphs)], [None])
+
+
 def hold_nodes(rng, history, case):
     """Holds leaves and interior nodes, some of which the index does not have."""
     for _ in range(rng.choice([0, 0, 1, 2])):
@@ -656,7 +698,7 @@ def ask_handles(rng, history, changes, case):
             resting = sorted(other for other, on in case.rests.items() if on == handle)
             if graph is None:
                 case.reply(f"refused 8 unknown-handle {handle}")
-            elif handle in case.bases and asked in ("node", "neighbours"):
+            elif (handle in case.bases or handle in case.formulas) and asked in ("node", "neighbours"):
                 case.reply(f"refused 17 not-an-overlay {handle}")
             elif asked == "release" and resting:
                 case.reply(f"refused 10 in-use {resting[0]}")
@@ -776,6 +818,7 @@ def check(program, index, seed):
         hold_nodes(rng, history, case)
         ask_plans(rng, history, case)
         ask_graphs(rng, history, changes, case)
+        ask_expressions(rng, history, case)
         ask_handles(rng, history, changes, case)
         if (seed + batch) % 2:
             case.script.append("verify")

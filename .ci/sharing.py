@@ -514,6 +514,8 @@ def calls_of_commands():
         ("at 10 s", 1),
         ("at 20 s", 1),
         ("several s 20 30", 2),
+        ("expression s and 30 not 20", 1),
+        ("expression s or 20 30", 2),
         ("materialise inner 1 1 s", 1),
         ("at 20 s", 0),
         ("plan 10 sne", 0),

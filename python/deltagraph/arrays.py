@@ -111,10 +111,15 @@ def column_of(values: Sequence[bytes], numbers: bool) -> Any:
 
 
 def spread_over(ids: Any, values: Values) -> Any:
-    """The values as a column over all ids, which are in order; what has none is None, or no number (nan)."""
-    if len(values.owners) == len(ids):
+    """The values as a column over all ids, which are in order; what has none is None, or no number (nan).
+
+    Values of owners that are not among the ids, as an expression may have them, are left out.
+    """
+    if len(values.owners) == len(ids) and (values.owners == ids).all():
         return values.values
     places = numpy.searchsorted(ids, values.owners)
+    kept = places < len(ids)
+    kept[kept] = ids[places[kept]] == values.owners[kept]
     column = numpy.full(len(ids), None, object) if values.values.dtype == object else numpy.full(len(ids), numpy.nan)
-    column[places] = values.values
+    column[places[kept]] = values.values[kept]
     return column

@@ -66,29 +66,33 @@ def made_networkx(snapshot: "Snapshot", label: Optional[str], numbers: bool) -> 
     import networkx
 
     nodes: AllValues = {}
-    edges: dict[int, Edge] = {}
+    edges: list[Edge] = []
     of_edges: AllValues = {}
     messages: list[Message] = []
     for element in snapshot.elements():
         if isinstance(element, int):
             nodes[element] = {}
         elif isinstance(element, Edge):
-            edges[element.id], of_edges[element.id] = element, {}
+            edges.append(element)
+            of_edges[element.id] = {}
+            if snapshot.time is None:  # its ends need not be there
+                nodes.setdefault(element.source, {})
+                nodes.setdefault(element.target, {})
         elif isinstance(element, NodeAttribute):
             if element.key != NOTE_KEY or noted(element.value) is None:
-                nodes[element.node][element.key] = element.value
+                nodes.setdefault(element.node, {})[element.key] = element.value
         elif isinstance(element, EdgeAttribute):
-            of_edges[element.edge][element.key] = element.value
+            of_edges.setdefault(element.edge, {})[element.key] = element.value
         else:
             messages.append(element)
     names = labels_of(nodes, label)
     if numbers:
         with_numbers(nodes)
         with_numbers(of_edges)
-    directed = bool(messages) or any(edge.directed for edge in edges.values())
+    directed = bool(messages) or any(edge.directed for edge in edges)
     graph = networkx.MultiDiGraph() if directed else networkx.MultiGraph()
     graph.add_nodes_from((names.get(node, node), values) for node, values in nodes.items())
-    arcs = [(names.get(edge.source, edge.source), names.get(edge.target, edge.target), edge) for edge in edges.values()]
+    arcs = [(names.get(edge.source, edge.source), names.get(edge.target, edge.target), edge) for edge in edges]
     # The attributes are a dictionary of their own, since a key may be called as a word of networkx.
     graph.add_edges_from((source, target, edge.id, of_edges[edge.id]) for source, target, edge in arcs)
     if directed:
@@ -145,7 +149,8 @@ def pandas_of(snapshot: "Snapshot", label: Optional[str], numbers: bool) -> tupl
     )
     columns = {"source": found.sources, "target": found.targets, "directed": found.directed}
     if label is not None:
-        columns.update(source=named(found, label, found.sources), target=named(found, label, found.targets))
+        whole = with_ends(snapshot, found)
+        columns.update(source=named(whole, label, found.sources), target=named(whole, label, found.targets))
     for key, values in found.edge_values.items():
         columns[f"value_{key}" if key in OF_EDGES else key] = spread_over(found.ids, values)
     return nodes, pandas.DataFrame(columns, index=pandas.Index(found.ids, name="id"))
@@ -162,6 +167,16 @@ def named(found: Any, label: str, ids: Any) -> Any:
     return names[numpy.searchsorted(found.nodes, ids)]
 
 
+def with_ends(snapshot: "Snapshot", found: Any) -> Any:
+    """The arrays with all nodes that something belongs to. Of an expression, ends of edges need not be among its nodes."""
+    if snapshot.time is not None:
+        return found
+    import numpy
+
+    owners = [values.owners for values in found.node_values.values()]
+    return found._replace(nodes=numpy.unique(numpy.concatenate((found.nodes, found.sources, found.targets, *owners))))
+
+
 def igraph_of(snapshot: "Snapshot", label: Optional[str], numbers: bool) -> Any:
     """As `Snapshot.to_igraph`."""
     import igraph
@@ -169,7 +184,7 @@ def igraph_of(snapshot: "Snapshot", label: Optional[str], numbers: bool) -> Any:
 
     from .arrays import arrays_of, spread_over
 
-    found = arrays_of(snapshot, numbers)
+    found = with_ends(snapshot, arrays_of(snapshot, numbers))
     arcs = numpy.column_stack([numpy.searchsorted(found.nodes, ends) for ends in (found.sources, found.targets)])
     directed = bool(found.directed.any())
     back = ~found.directed & (found.sources != found.targets) if directed else numpy.zeros(len(arcs), bool)

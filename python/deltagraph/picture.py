@@ -20,14 +20,14 @@ def shown(snapshot: "Snapshot") -> str:
     if snapshot.released or snapshot.store.ended:
         return f"<p>{escape(repr(snapshot))}, released</p>"
     counts = snapshot.counts()
-    of = snapshot.held or ""
+    of = snapshot.held or "the elements of " + " ".join(snapshot.words)
     if snapshot.time is not None:
         told = snapshot.store.told_calendar()
         of = f"the graph as of {told.text(snapshot.time) if told else f'instant {snapshot.time}'}"
     rows = [(name.replace("_", " "), value) for name, value in zip(counts._fields, counts) if value is not None]
     cells = "".join(f"<tr><th>{name}</th><td>{value:,}</td></tr>" for name, value in rows)
     picture = ""
-    if 0 < counts.nodes <= MOST_NODES and counts.edges <= MOST_EDGES and snapshot.held is None:
+    if 0 < counts.nodes <= MOST_NODES and counts.edges <= MOST_EDGES and snapshot.time is not None:
         picture = circle(snapshot)
     return f"<div><b>{escape(of)}</b><table>{cells}</table>{picture}</div>"
 

@@ -16,13 +16,14 @@ from .failures import DeltagraphError, ProgramEnded
 from .process import Reply
 from .refusals import BadChange, OutOfRange, Refused, refusal
 from .store import Store
-from .words import COLUMNS, NUMBER, bytes_of, lines_after, text_of
+from .words import COLUMNS, NUMBER, OPERATORS, bytes_of, lines_after, text_of
 
 HELP = """\
 The commands are those of the script language (docs/SCRIPT.md), as
   at TIME COLS    the graph as of an instant, as a handle; COLS is s, sn, se or sne, and with a t behind it, as st,
                   the messages of the instant are there too; at a prompt it is sne where it is left out
   several COLS TIMES    list HANDLE    counts HANDLE    node HANDLE ID    neighbours HANDLE ID    release HANDLE
+  expression COLS EXPR    what holds over several instants: EXPR is a TIME, `not EXPR`, `and EXPR EXPR` or `or EXPR EXPR`
   load COUNT, append COUNT    with the changes in the COUNT lines that follow
 TIME is an instant, first or last of the history, or a date as 2015-03 or 2015-03-01. HANDLE may be last, which is the
 last one that was given. And there are
@@ -43,6 +44,7 @@ PLACES: dict[str, tuple[tuple[str, ...], ...]] = {
     "counts": (HANDLES, NOTHING),
     "create": (NOTHING, NOTHING, ("balanced", "intersection", "skewed", "union"), NOTHING),
     "diff": (TIMES, TIMES, WITH_MESSAGES, NOTHING),
+    "expression": (COLUMNS, (*OPERATORS, *TIMES)),
     "find": (NOTHING,),
     "list": (HANDLES, NOTHING),
     "load": (NOTHING,),
@@ -232,7 +234,7 @@ class FrontEnd:
             words[1:2] = map(self._instant, words[1:2])
             if self.typed and len(words) == 2 and words[0] == "at":
                 words.append(ALL_COLUMNS)
-        elif words[0] == "several":
+        elif words[0] in ("several", "expression"):
             words[2:] = map(self._instant, words[2:])
         return " ".join(words)
 
@@ -255,7 +257,7 @@ class FrontEnd:
             if isinstance(refused, BadChange):
                 refused.text = text_of(following[refused.line - 1])
             raise refused
-        if head[1] in ("at", "materialise"):
+        if head[1] in ("at", "materialise", "expression"):
             self._last = head[2]
         told = self.typed and (head[1] in WITH_LAST or head[1] == "several")
         calendar = self.store.told_calendar() if told else None
@@ -303,6 +305,20 @@ class FrontEnd:
             raise Wrong("it is `diff TIME TIME` or `diff TIME TIME COLS`")
         columns = words[2] if len(words) == 3 else ALL_COLUMNS
         times = [int(self._whole(word)) for word in words[:2]]
+        if columns.endswith("t"):  # expressions are of no messages
+            gone, come = self._listed_apart(times, columns)
+        else:
+            first, second = map(str, times)
+            gone, come = (self._chosen(f"and {a} not {b}", columns) for a, b in ((first, second), (second, first)))
+        lines = [f"- {text_of(line)}" for line in gone] + [f"+ {text_of(line)}" for line in come]
+        self._answer(f"ok diff {len(gone)} {len(come)}", lines)
+
+    def _chosen(self, words: str, columns: str) -> list[bytes]:
+        with self.store.expression(words, columns) as found:
+            return list(found.lines())
+
+    def _listed_apart(self, times: list[int], columns: str) -> tuple[list[bytes], list[bytes]]:
+        """What only the first of two graphs has, and what only the second has, by their listings."""
         with self.store.several(times, columns) as (before, after):
             gone = dict.fromkeys(before.lines())
             come = []
@@ -311,8 +327,7 @@ class FrontEnd:
                     del gone[line]
                 else:
                     come.append(line)
-        lines = [f"- {text_of(line)}" for line in gone] + [f"+ {text_of(line)}" for line in come]
-        self._answer(f"ok diff {len(gone)} {len(come)}", lines)
+        return list(gone), come
 
     def top(self, rest: str) -> None:
         """`top COUNT degree TIME`: a line for each node, its degree and its value for the key `name`."""

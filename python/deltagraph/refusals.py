@@ -275,14 +275,14 @@ class OutOfMemory(Refused):
 
 
 class NotAnOverlay(Refused):
-    """17: `node` or `neighbours` of a handle that holds a node of the index, and no graph."""
+    """17: `node` or `neighbours` of a handle of a node of the index, or of an expression, which may be no graph."""
 
     @property
     def handle(self) -> int:
         return int(self.rest[0])
 
     def words(self) -> str:
-        return f"handle {self.handle} holds a node of the index, and not a graph as of an instant"
+        return f"handle {self.handle} holds a node of the index or an expression, and not a graph as of an instant"
 
 
 class LineLong(Refused):

@@ -4,7 +4,7 @@ from __future__ import annotations
 import operator
 from datetime import datetime
 from itertools import chain
-from typing import TYPE_CHECKING, Any, Callable, Iterator, NamedTuple, Optional, TypeVar, Union
+from typing import TYPE_CHECKING, Any, Callable, Iterator, NamedTuple, Optional, Sequence, TypeVar, Union
 
 from . import replies
 from .replies import Counts, Edge, EdgeAttribute, Message, Neighbour, Node, NodeAttribute
@@ -32,8 +32,11 @@ class Snapshot:
 
     `handle` is its number, `columns` what it has (`s`, with `n` or `e` the attributes of nodes or edges, and with `t` the
     messages of exactly its instant), `bytes_read` how much of the file led to it. `time` is its instant; of a node of the
-    index, which `Store.materialise` holds, it is None, and `held` is that node. Such a one may be no graph, so `node` and
-    `neighbours` are refused.
+    index, which `Store.materialise` holds, it is None, and `held` is that node. Of an expression, by `Store.expression`, it
+    is None too, and `words` are those of the expression. Both may be no graphs, so `node` and `neighbours` are refused.
+
+    Two snapshots with the same columns make an expression over their instants: `a & b` has what is in both, `a | b` what
+    is in any, `a - b` what is in the first alone, and `a ^ b` what is in just one.
 
     As in networkx, `len` is the number of nodes, `in` asks for a node, and a loop goes over the nodes. Where a node is
     asked for, it is its id, or as a text its name: the value for the key `name`.
@@ -43,15 +46,25 @@ class Snapshot:
     """
 
     def __init__(
-        self, store: "Store", handle: int, columns: str, bytes_read: int, time: Optional[int], held: Optional[str] = None
+        self,
+        store: "Store",
+        handle: int,
+        columns: str,
+        bytes_read: int,
+        time: Optional[int],
+        held: Optional[str] = None,
+        words: Sequence[str] = (),
     ) -> None:
         self.store, self.handle, self.columns, self.bytes_read = store, handle, columns, bytes_read
         self.time, self.held = time, held
+        self.words = list(words) if time is None else [str(time)]
         self.released = False
         self._ids: Optional[dict[str, list[int]]] = None  # of each name
 
     def __repr__(self) -> str:
-        of = f"time={self.time}" if self.held is None else f"held={self.held!r}"
+        of = f"time={self.time}" if self.time is not None else f"held={self.held!r}"
+        if self.time is None and self.held is None:
+            of = f"of={' '.join(self.words)!r}"
         return f"<Snapshot handle={self.handle} {of} columns={self.columns!r}>"
 
     def _repr_html_(self) -> str:
@@ -76,10 +89,35 @@ class Snapshot:
         return True  # also without a node
 
     def __contains__(self, node: object) -> bool:
+        if self.time is None:  # of which `node` is refused
+            found = self._id_of(node) if isinstance(node, str) else node
+            return any(found == other for other in self.nodes())
         return isinstance(node, (int, str)) and self.node(node) is not None
 
     def __iter__(self) -> Iterator[int]:
         return self.nodes()
+
+    def __and__(self, other: "Snapshot") -> "Snapshot":
+        return self._with(other, lambda a, b: ["and", *a, *b])
+
+    def __or__(self, other: "Snapshot") -> "Snapshot":
+        return self._with(other, lambda a, b: ["or", *a, *b])
+
+    def __sub__(self, other: "Snapshot") -> "Snapshot":
+        return self._with(other, lambda a, b: ["and", *a, "not", *b])
+
+    def __xor__(self, other: "Snapshot") -> "Snapshot":
+        return self._with(other, lambda a, b: ["or", "and", *a, "not", *b, "and", *b, "not", *a])
+
+    def _with(self, other: "Snapshot", made: Callable[[list[str], list[str]], list[str]]) -> "Snapshot":
+        """The elements of an expression over the instants of two snapshots."""
+        if not isinstance(other, Snapshot):
+            return NotImplemented
+        if other.store is not self.store or not self.words or not other.words:
+            raise ValueError("an expression is of graphs of one store, as of instants")
+        if other.columns != self.columns:
+            raise ValueError(f"an expression has one choice of columns, and these have {self.columns} and {other.columns}")
+        return self.store.expression(made(self.words, other.words), self.columns, instants=True)
 
     def counts(self) -> Counts:
         """How many elements of each kind there are, without listing them."""
@@ -110,17 +148,22 @@ class Snapshot:
 
         Raises KeyError for a node that is not there.
         """
-        if node is not None:
+        if node is not None and self.time is not None:
             found = self.node(node)
             if found is None:
                 raise KeyError(node)
             return found.degree
         degrees = dict.fromkeys(self.nodes(), 0)
         for _, source, target, _ in self.edges():
-            degrees[source] += 1
+            degrees[source] = degrees.get(source, 0) + 1
             if target != source:
-                degrees[target] += 1
-        return degrees
+                degrees[target] = degrees.get(target, 0) + 1
+        if node is None:
+            return degrees
+        number = self._id_of(node)
+        if number not in degrees:
+            raise KeyError(node)
+        return degrees[number]
 
     def find(self, name: str, key: str = "name") -> list[int]:
         """The ids of the nodes with this value for a key, in order."""
@@ -217,7 +260,9 @@ class Snapshot:
         values of a key are numbers where all are written as numbers are; with `numbers` false they are texts.
 
         It is a MultiGraph where no edge has a direction, else a MultiDiGraph; the key of an edge is its id. In a
-        MultiDiGraph an edge without a direction is two arcs of this key, both of them with its attributes. Messages are
+        MultiDiGraph an edge without a direction is two arcs of this key, both of them with its attributes. What an
+        expression has may be no graph: an end that is not among its nodes is a node without attributes, and the values of
+        an edge that is not there are left out. Messages are
         arcs of a MultiDiGraph too, with the keys `msg 0`, `msg 1` and so on, and the value as their attribute `message`;
         an end that was removed at that very instant, behind the message, is then a node without attributes.
         """

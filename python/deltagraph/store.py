@@ -40,7 +40,18 @@ from .replies import (
     step_or_potential,
 )
 from .snapshot import Snapshot, Snapshots
-from .words import COLUMNS, LARGEST_BATCH, LAST_INSTANT, MOST_INSTANTS, bytes_of, lines_after
+from .words import (
+    COLUMNS,
+    IS_NUMBER,
+    LARGEST_BATCH,
+    LAST_INSTANT,
+    MOST_INSTANTS,
+    MOST_TIMES,
+    MOST_WORDS,
+    OPERATORS,
+    bytes_of,
+    lines_after,
+)
 
 if TYPE_CHECKING:
     from .history import History
@@ -365,6 +376,38 @@ class Store:
             found.release()
             raise
         return found
+
+    def expression(
+        self, words: Union[str, Sequence[Union[Time, str]]], columns: str = "s", *, instants: bool = False
+    ) -> Snapshot:
+        """The elements for which an expression over times holds, as "and 2020-03-01 not 2020-06-01": what was there on the
+        first day and is not on the second.
+
+        An expression is a time, `not` and an expression, or `and` or `or` and two of them. It has at most 8 times and 31
+        words, and chooses among the elements that are there at one of its times, so that "not 2020-06-01" alone chooses
+        nothing. As a text its words are as at the prompt, where a number is an instant; in a list times are as in `at`.
+        Two snapshots have it by `&`, `|`, `-` and `^`. It may be no graph: an edge may be there without its ends.
+        """
+        if columns not in COLUMNS:
+            raise ValueError(f"{columns!r} are no columns of an expression: they are {', '.join(COLUMNS)}")
+        given = words.split() if isinstance(words, str) else list(words)
+        as_typed = isinstance(words, str) or instants
+        spelled = [self._spelled(word, as_typed) for word in given]
+        times = len([word for word in spelled if word not in OPERATORS])
+        if times > MOST_TIMES or len(spelled) > MOST_WORDS:
+            raise ValueError(
+                f"an expression has at most {MOST_TIMES} times and {MOST_WORDS} words, and this has {times} and {len(spelled)}"
+            )
+        command = f"expression {columns} {' '.join(spelled)}"
+        dates = [word for word, text in zip(given, spelled) if word != text and is_date(word)]
+        _, _, handle, read = self._ask_of(command, *dates).head()
+        return Snapshot(self, int(handle), columns, int(read), None, words=spelled)
+
+    def _spelled(self, word: Union[Time, str], as_typed: bool) -> str:
+        """A word of an expression in the script language."""
+        if isinstance(word, str) and (word in OPERATORS or (as_typed and IS_NUMBER.fullmatch(word))):
+            return word
+        return str(self.instant(word))
 
     def _run(self, times: Sequence[Time], columns: str) -> Snapshots:
         instants = [self.instant(time) for time in times]

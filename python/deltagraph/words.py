@@ -14,9 +14,12 @@ LONGEST_VALUE = 1024  # bytes
 LONGEST_LINE = 4096  # bytes
 LARGEST_BATCH = 1 << 20  # lines
 MOST_INSTANTS = 32  # of one `several`
+MOST_TIMES, MOST_WORDS = 8, 31  # of an expression
+OPERATORS = ("and", "or", "not")  # of expressions
 COLUMNS = ("s", "sn", "se", "sne")  # of a graph: structure, attributes of nodes, of edges
 
 NUMBER = r"(?:0|[1-9][0-9]*)"
+IS_NUMBER = re.compile(NUMBER, re.ASCII)
 WITH_LINES = re.compile(rf"(?:(load|append)|certify {NUMBER} (?:s|sn|se|sne)) ({NUMBER})", re.ASCII)
 
 

@@ -76,6 +76,18 @@ class Scripts(FrontEnd):
         self.assertIn(b"ok node 3 2 yes 2\nend\nok release 3\nend\nok plan ", replies)
         self.assertIn("line 10, `list last`: no handle was given yet", told)
 
+    def test_expressions(self) -> None:
+        script = b"expression s and 30 not 20\nlist last\nexpression s and last not first\nlist last\nnode last 3\n"
+        script += b":dates 2020-01-01 days\nexpression s and 2020-01-31 not 2020-01-21\ncounts last\nexpression s or 10\n"
+        status, replies, told = self.run_script(CHANGES + script)
+        for due in (
+            b"ok list 1 1\nedge 6 2 3 undir\nend\n",
+            b"ok list 2 3\nnode 3\nedge 5 1 2 dir\nedge 6 2 3 undir\nend\nrefused 17 not-an-overlay 2\n",
+            b"ok counts 4 0 1 0 0\nend\nrefused 1 syntax 19\n",
+        ):
+            self.assertIn(due, replies)
+        self.assertIn("handle 2 holds a node of the index or an expression", told)
+
     def test_find_diff_and_top(self) -> None:
         script = b"find Ada L\nfind Ada L @20\nfind \xff @40\nfind no one\ndiff 10 30\ndiff 30 10 s\ntop 2 degree 40\ntop 9 degree 10\n"
         status, replies, told = self.run_script(CHANGES + script)
@@ -178,6 +190,7 @@ class Completions(unittest.TestCase):
             ("at 5 s ", "", []),
             ("several se 5 6 7 ", "l", ["last"]),
             ("list ", "", ["last"]),
+            ("expression s and 5 ", "", ["and", "or", "not", "first", "last"]),
             ("top 5 ", "", ["degree"]),
             ("what ", "", []),
         ):
