@@ -1,4 +1,4 @@
-"""Runs the commands of docs/TUTORIAL.md, RECIPES.md and R.md and compares what they print.
+"""Runs the commands of docs/TUTORIAL.md, SCRIPT.md, RECIPES.md and R.md and compares what they print.
 
   python3 .ci/tutorial.py PROGRAM FOLDER            says where they differ
   python3 .ci/tutorial.py PROGRAM FOLDER --write    puts what they print into the documents
@@ -18,7 +18,7 @@ from pathlib import Path
 from typing import Iterator, NamedTuple, Union
 
 ROOT = Path(__file__).resolve().parent.parent
-DOCUMENTS = {"TUTORIAL": [], "RECIPES": ["numpy", "pandas", "igraph"], "R": ["numpy", "pandas", "Rscript"]}
+DOCUMENTS = {"TUTORIAL": [], "SCRIPT": [], "RECIPES": ["numpy", "pandas", "igraph"], "R": ["numpy", "pandas", "Rscript"]}
 MARK = "-- end of a command --"
 
 
