@@ -18,6 +18,7 @@ const SORTED_PER_WAITING: usize = 256;
 ///
 /// It keeps each value that comes to a node or goes from it as a turn. The first turns stand in the order of their
 /// values and nodes, so those of one value follow one another; the others wait until enough of them do.
+#[derive(Drop)]
 pub struct Aux {
     key: u32,
     turns: Vec<Turn>,
