@@ -5,3 +5,7 @@ pub mod ListRows
 pub mod ColumnRuns
 pub mod ValueTurns
 pub mod ValueLaws
+pub mod AddedPlaces
+pub mod AddedSets
+pub mod AddedWeights
+pub mod AddedLaws

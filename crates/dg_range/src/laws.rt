@@ -1,5 +1,6 @@
 //! The law of what is read over an image of a history. The function does nothing: its clause is the law, proved of the
 //! definitions.
+ghost use Rattle.dg_range.specs.AddedLaw.{ImagesHaveAdded};
 ghost use Rattle.dg_range.specs.ValueLaw.{ImagesHaveValues};
 
 use dg_aux::law_columns_have_turns;
@@ -15,4 +16,14 @@ pub fn law_images_have_values()
     law_events_are_read_back();
     law_legal_histories_are_indexed();
     law_columns_have_turns();
+}
+
+/// In an image of a history the asked columns of the lists of a range, with the recent events, add within the range what all
+/// events add.
+pub fn law_images_have_added()
+    ensures { ImagesHaveAdded }
+{
+    law_columns_are_kept();
+    law_events_are_read_back();
+    law_legal_histories_are_indexed();
 }

@@ -1,15 +1,17 @@
-//! Which lists of an index have events of some time, the events of one of their columns, and the values of a key over
+//! Which lists of an index have events of some time, what comes in of these, and the values of a key over
 //! all of them. The definitions stand in `specs/`.
 #![tactic(auto)]
 
+mod added;
 mod column;
 mod laws;
 mod lists;
 mod values;
 mod weight;
 
+pub use added::read_added;
 pub use column::read_column;
-pub use laws::law_images_have_values;
+pub use laws::{law_images_have_added, law_images_have_values};
 pub use lists::lists_between;
 pub use values::read_values;
 pub use weight::lists_bytes;

@@ -6,6 +6,8 @@ ghost use Rattle.dg_history.specs.declared.limits.TheConstants.{FILE_BYTES_MAX};
 ghost use Rattle.dg_history.specs.declared.node.Key.TheVariants as a_key;
 ghost use Rattle.dg_index.specs.Hierarchy.{numbers};
 ghost use Rattle.dg_index.specs.OpenedIndex.{entry_at, total};
+ghost use Rattle.dg_range.specs.Added.{asked_columns};
+ghost use Rattle.dg_range.specs.ColumnRuns.{bytes_along};
 ghost use Rattle.dg_range.specs.Weights.{asked_bytes, list_bytes};
 
 use dg_catalogue::Entry;
@@ -48,6 +50,7 @@ pub fn lists_bytes(index: &Index, low: u32, high: u32, cols: Columns) -> u64
     requires { low ≤ high }
     ensures bytes { result ≡ sum_by (list_bytes index.now.opening cols) (numbers low (high - low)) }
     ensures within { result ≤ FILE_BYTES_MAX }
+    ensures along { result ≡ bytes_along index.now.opening (asked_columns cols (numbers low (high - low))) }
 {
     // Its clauses tell that the columns of all records are together in the file.
     index.facts();

@@ -1,8 +1,9 @@
-use Rattle.std.proofs.Common.{◌≡◌, arith}
+use Rattle.std.proofs.Common.{◌≡◌, ◌∙◌, arith}
 use Rattle.std.specs.List.{sum_by}
 use Rattle.std.specs.Prelude.{◌-◌}
 use Rattle.dg_index.specs.Hierarchy.{numbers}
 use Rattle.dg_range.specs.Weights.{list_bytes}
+use Rattle.dg_range.proofs.AddedWeights.{lists_weigh}
 use Rattle.dg_range.proofs.Weights.{lists_within, next_list, no_list}
 use Rattle.dg_range.proofs.weight.lists_bytes.Goals as goal
 
@@ -29,4 +30,5 @@ returns c =
     record {
       bytes = all;
       within = omega (arith, all, lists_within o c.args.cols c.args.low (c.args.high - c.args.low), c.facts.ensures.columns, c.facts.ensures.within);
+      along = all ∙ lists_weigh o c.args.cols (numbers c.args.low (c.args.high - c.args.low));
     }
