@@ -16,7 +16,8 @@ use Rattle.dg_plan.specs.declared.edge.Via.TheVariants as via
 use Rattle.dg_plan.specs.declared.edge.Way.{Way}
 use Rattle.dg_fold.specs.declared.part.Part.{Part}
 use Rattle.dg_fold.specs.Parts.{bytes_in, graph_columns}
-use Rattle.dg_fold.specs.BytesRead.{ColumnBytes, IsPartOf, AreParts, HoldsWhatIsEntered, IsEntered, Takes, TakesAtMost, asked_column, asked_length, entered_along, entered_by, entered_length, kept_in, named_along, named_by, named_in}
+use Rattle.dg_fold.specs.BytesRead.{IsPartOf, AreParts, HoldsWhatIsEntered, IsEntered, entered_along, entered_by, entered_length, named_along, named_by, named_in}
+use Rattle.dg_records.specs.ColumnReads.{ColumnBytes, Takes, TakesAtMost, asked_column, asked_length, kept_in}
 
 -- ---- what is told of a value, if there is one
 

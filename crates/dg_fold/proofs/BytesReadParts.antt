@@ -16,10 +16,11 @@ use Rattle.dg_index.specs.OpenedIndex.{column_at, entry_or_none, opened_of}
 use Rattle.dg_index.proofs.IndexRecordColumns.{columns_are_kept}
 use Rattle.dg_plan.specs.declared.edge.Way.{Way}
 use Rattle.dg_fold.specs.declared.part.Part.{Part}
-use Rattle.dg_fold.specs.BytesRead.{ColumnBytes, AreParts, kept_in, read_of}
+use Rattle.dg_fold.specs.BytesRead.{AreParts}
 use Rattle.dg_fold.specs.Parts.{graph_columns}
 use Rattle.dg_fold.specs.HistoryTrees.{KeepsKey, KeptPartsAreTheRecords}
 use Rattle.dg_fold.proofs.ColumnFronts.{history_read}
+use Rattle.dg_records.specs.ColumnReads.{ColumnBytes, kept_in, read_of}
 
 -- parts of some bytes are parts of others that are the same at these keys
 pub parts_alike : (a b : ColumnBytes) (cols : Columns) (named : List (Key × Way)) → All (λ (n : Key × Way). (col : Column) → a n.0 col ≡ b n.0 col) named

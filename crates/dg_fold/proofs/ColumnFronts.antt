@@ -1,9 +1,13 @@
--- A column of events of a history is read to its end: it is no longer than events can be.
-use Rattle.std.proofs.Common.{◌≡◌, ℕ, ◌+◌, ◌*◌, ◌≤◌, Bool, true, false, cond, List, [], ◌∷◌, length, filter, Option, Some, None, refl, arith, length-append}
+-- A column of a history is read to its end: one of events is no longer than events can be, and the counts of a delta's fit
+-- its length.
+use Rattle.std.proofs.Common.{◌≡◌, ℕ, ◌+◌, ◌*◌, ◌<◌, ◌≤◌, ◌^◌, Bool, true, false, cond, List, [], ◌∷◌, length, filter, Option, Some, None, Result, Ok, Err, refl, sym, ap, ◌∙◌, arith, length-append}
 use Rattle.std.specs.List.{flat_map}
 use Rattle.std.proofs.lemmas.List.{take_all}
 use Rattle.dg_columns.specs.declared.layout.TheConstants.{EVENTS_FRONT}
 use Rattle.dg_columns.specs.Fronts.{front_of}
+use Rattle.dg_columns.proofs.ColumnLawDeltas.{deltas_back}
+use Rattle.dg_graph.specs.ColumnGrammar.{delta_in}
+use Rattle.dg_graph.specs.Composition.{Delta}
 use Rattle.dg_graph.specs.declared.element.Column.{Column}
 use Rattle.dg_graph.specs.declared.event.Body.{Body}
 use Rattle.dg_graph.specs.declared.event.Body.TheVariants as body
@@ -14,11 +18,14 @@ use Rattle.dg_history.specs.declared.node.Key.{Key}
 use Rattle.dg_history.specs.declared.node.Key.TheVariants as key
 use Rattle.dg_history.specs.History.{History, events_of, names_of}
 use Rattle.dg_history.specs.LegalHistory.{IsLegal}
-use Rattle.dg_index.specs.IndexRecords.{closed_list, column_in, piece_at, record_among}
-use Rattle.dg_fold.specs.BytesRead.{read_of}
+use Rattle.dg_index.specs.IndexRecords.{Exact, closed_list, column_in, exact_column, piece_at, record_among}
 use Rattle.dg_fold.specs.Parts.{RecordFits}
+use Rattle.dg_records.specs.DeltaFronts.{IsToldByRead, read_of_delta}
+use Rattle.dg_records.proofs.DeltaFronts.{deltas_are_told}
+use Rattle.dg_fold.proofs.PartColumns.{spelled}
 use Rattle.dg_fold.proofs.LegalHistories.{legal_is_indexed}
 use Rattle.dg_fold.proofs.RecordFits.{records_fit}
+use Rattle.dg_records.specs.ColumnReads.{read_of}
 
 value_long : (v : Option ℕ) → length (value_bytes v) ≡ 4
 value_long None = refl
@@ -60,15 +67,31 @@ events_short col events few = omega (arith, few, counted_short (placed_in col ev
 all_read : (col : Column) (events : List Event) → length events ≤ 65536 → front_of (events_column col events) ≡ events_column col events
 all_read col events few = take_all EVENTS_FRONT (events_column col events) (events_short col events few)
 
+-- what is read is the whole, where the whole can be decoded
+whole_read : {A : Type 0} (decoded : List ℕ → Result A ℕ) (read whole : List ℕ) → IsToldByRead decoded read whole → (x : A) → decoded whole ≡ Ok x → read ≡ whole
+whole_read decoded read whole told x e = by (decoded read) refl
+  where
+    by : (r : Result _ ℕ) → decoded read ≡ r → read ≡ whole
+    by (Ok y) is = told.all y is
+    by (Err m) is = let f = told.damaged m is in absurd (let clash : Ok x ≡ Err f.0 = sym e ∙ f.1 in cc)
+
+delta_read : (names : ℕ) (col : Column) (d : Delta) → names < 2 ^ 32 → RecordFits names (Exact d) → read_of_delta (exact_column col d) ≡ exact_column col d
+delta_read names col d few fits =
+    whole_read (delta_in col names) (read_of_delta (exact_column col d)) (exact_column col d) (deltas_are_told col names (exact_column col d)) _
+    (ap (delta_in col names) (spelled col d fits.5) ∙ deltas_back col names d few fits.0 fits.1 fits.2 fits.3 fits.4 fits.5)
+
 -- what is read of a column of a record of a history is the column
 pub history_read : (z : History) → IsLegal z → (k : Key) (col : Column) → read_of k (column_in z k col) ≡ column_in z k col
 history_read z legal k col = by k
   where
+    few : length (names_of z) < 2 ^ 32
+    few = (legal_is_indexed z legal).0.names_fit
+
     fit : (k : Key) → RecordFits (length (names_of z)) (record_among z.params (events_of z) z.batches k)
     fit k = let indexed = legal_is_indexed z legal in records_fit (length (names_of z)) z indexed.0.fits indexed.0.few indexed.0.lists indexed.0.short k
 
     by : (k : Key) → read_of k (column_in z k col) ≡ column_in z k col
     by (key.List i) = all_read col (closed_list z.params (events_of z) i) (fit (key.List i)).0
     by (key.Piece s) = all_read col (piece_at z.params [] z.batches s) (fit (key.Piece s)).0
-    by (key.Top h) = refl
-    by (key.Down h c) = refl
+    by (key.Top h) = delta_read (length (names_of z)) col _ few (fit (key.Top h))
+    by (key.Down h c) = delta_read (length (names_of z)) col _ few (fit (key.Down h c))

@@ -19,9 +19,10 @@ use Rattle.dg_fold.specs.declared.fault.FoldFault.{FoldFault}
 use Rattle.dg_fold.specs.declared.part.Part.{Part}
 use Rattle.dg_fold.specs.Foldings.{ArePushed, StandsOrFails}
 use Rattle.dg_fold.specs.Parts.{Folds, StandsOnTop, beside, graph_columns}
-use Rattle.dg_fold.specs.BytesRead.{ColumnBytes, AreParts, HoldsWhatIsEntered, IsEntered, Takes, TakesAtMost, asked_length, entered_along, entered_by, entered_length, kept_in, named_along, named_by}
+use Rattle.dg_fold.specs.BytesRead.{AreParts, HoldsWhatIsEntered, IsEntered, entered_along, entered_by, entered_length, named_along, named_by}
 use Rattle.dg_fold.proofs.PartCompositions.{Due, fails_behind, fails_first}
 use Rattle.dg_fold.proofs.BytesReadGrowth.{takes_both, takes_most}
+use Rattle.dg_records.specs.ColumnReads.{ColumnBytes, Takes, TakesAtMost, asked_length, kept_in}
 
 -- ---- what is held behind what is entered
 

@@ -19,9 +19,9 @@ use Rattle.dg_plan.specs.declared.edge.Via.TheVariants as via
 use Rattle.dg_plan.specs.declared.edge.Way.{Way}
 use Rattle.dg_plan.specs.IndexGraph.{edges_of}
 use Rattle.dg_fold.specs.declared.part.Part.{Part}
-use Rattle.dg_fold.specs.BytesRead.{ColumnBytes, IsPartOf, AreParts, named_along, named_by}
+use Rattle.dg_fold.specs.BytesRead.{IsPartOf, AreParts, named_along, named_by}
 use Rattle.dg_fold.specs.HistoryPaths.{HistoryPathsLead}
-use Rattle.dg_fold.specs.Parts.{is_events, are_events, RecordFits}
+use Rattle.dg_fold.specs.Parts.{are_events, RecordFits}
 use Rattle.dg_fold.specs.PathIndependence.{begun_at, contents, IsSoundEdge, IsWalk}
 use Rattle.dg_plan.specs.TreePaths.{edges_at}
 use Rattle.dg_fold.specs.Steps.{PartedStep, names_record, paired, StepHolds, PartHolds}
@@ -30,6 +30,7 @@ use Rattle.dg_fold.proofs.PathIndependencePlans.{plans_lead}
 use Rattle.dg_fold.proofs.PathIndependenceEdges.{edges_are_sound}
 use Rattle.dg_fold.proofs.Steps.{part_of, paired_first}
 use Rattle.dg_fold.proofs.PathIndependenceSteps.{steps_are_walks}
+use Rattle.dg_records.specs.ColumnReads.{ColumnBytes, is_events}
 
 -- the set of each node is a set
 pub node_set : (z : History) (n : NodeId) → IsSet (set_of z.params (events_of z) n)

@@ -26,10 +26,10 @@ use Rattle.dg_plan.specs.declared.edge.Way.TheVariants.{Forward}
 use Rattle.dg_plan.specs.IndexGraph.{Ground, edges_of}
 use Rattle.dg_plan.specs.InstantPoint.{point}
 use Rattle.dg_fold.specs.declared.part.Part.{Part}
-use Rattle.dg_fold.specs.BytesRead.{ColumnBytes, AreParts, asked_column, named_along, named_by}
+use Rattle.dg_fold.specs.BytesRead.{AreParts, named_along, named_by}
 use Rattle.dg_fold.specs.Ends.{last_in, list_part, part_until}
 use Rattle.dg_fold.specs.HistoryPaths.{IsIndexed, IsGraphOf}
-use Rattle.dg_fold.specs.Parts.{beside, bytes_in, graph_columns, is_events, taken_as, PartHasRecord, RecordFits}
+use Rattle.dg_fold.specs.Parts.{beside, bytes_in, graph_columns, taken_as, PartHasRecord, RecordFits}
 use Rattle.dg_fold.specs.PathIndependence.{contents, Contents, IsSoundEdge}
 use Rattle.dg_fold.specs.Steps.{FoldGoesOn, By_part, By_events, PartedStep, paired, part_deltas, step_by, steps_in, StepHolds, PartHolds}
 use Rattle.dg_fold.specs.Trees.{IsAmong, IsStepOf, PathIn, Begins_at_root, Steps_on}
@@ -42,6 +42,7 @@ use Rattle.dg_fold.specs.HistoryTrees.{HistoryTreesReach, HoldsNoList}
 use Rattle.dg_fold.specs.PointSplits.{next_of}
 use Rattle.dg_fold.proofs.IndexGraphLists.{EntersAs, Reads, all_read}
 use Rattle.dg_fold.proofs.PointSplits.{points_split}
+use Rattle.dg_records.specs.ColumnReads.{ColumnBytes, asked_column, is_events}
 
 -- ---- one of several edges
 

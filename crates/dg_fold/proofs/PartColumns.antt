@@ -302,7 +302,7 @@ record_silent names (Exact d) fits way.Back until x is =
     (λ i. word (absent x is d.minus fits.5.0 i) (absent x is d.plus fits.5.1 i))
 
 -- the column of a delta without messages
-spelled : (col : Column) (d : Delta) → HasNoMessage d → exact_column col d ≡ delta_column col d
+pub spelled : (col : Column) (d : Delta) → HasNoMessage d → exact_column col d ≡ delta_column col d
 spelled column.Structure d none = refl
 spelled column.NodeAttr d none = refl
 spelled column.EdgeAttr d none = refl

@@ -18,8 +18,9 @@ use Rattle.dg_net.proofs.ReplayNets.{composes_halves}
 use Rattle.dg_fold.specs.declared.fault.FoldFault.{FoldFault}
 use Rattle.dg_fold.specs.declared.fault.FoldFault.TheVariants as fault
 use Rattle.dg_fold.specs.declared.part.Part.{Part}
-use Rattle.dg_fold.specs.Parts.{and_then, fault_named, is_events, bytes_in, record_in, part_column_in, beside, deltas_in_part, parts_in, Folds, fault_at}
+use Rattle.dg_fold.specs.Parts.{and_then, fault_named, bytes_in, record_in, part_column_in, beside, deltas_in_part, parts_in, Folds, fault_at}
 use Rattle.dg_fold.proofs.TreeStepPaths.{beside_associates}
+use Rattle.dg_records.specs.ColumnReads.{is_events}
 
 abbrev pub Due : Type 0
 Due = Result (List Delta) (Key × Column)

@@ -18,10 +18,11 @@ use Rattle.dg_plan.specs.declared.edge.Way.{Way}
 use Rattle.dg_plan.specs.declared.edge.Way.TheVariants as way
 use Rattle.dg_fold.specs.declared.part.Part.{Part}
 use Rattle.dg_fold.specs.PathIndependence.{taken}
-use Rattle.dg_fold.specs.Parts.{is_events, bytes_in, beside, deltas_in_part, parts_in, StandsOnTop, ColumnStandsOnTop}
+use Rattle.dg_fold.specs.Parts.{bytes_in, beside, deltas_in_part, parts_in, StandsOnTop, ColumnStandsOnTop}
 use Rattle.dg_delta.proofs.Stacks.{joined_associates, joined_nothing, upper_joined, lower_below, upper_lower}
 use Rattle.dg_fold.proofs.PartCompositions.{Due, exact_is, folds_both}
 use Rattle.dg_fold.proofs.PartDeltas.{says_joined, turned_in}
+use Rattle.dg_records.specs.ColumnReads.{is_events}
 
 -- what holds where a call went well, and it did
 pub went_well : {T E P : Type 0} (r : Result T E) (x : T) → r ≡ Ok x → OnOk r P → P

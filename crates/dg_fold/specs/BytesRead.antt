@@ -1,40 +1,21 @@
--- Which bytes the records of a walk are read from, and how many.
-use Rattle.std.specs.Prelude.{◌≡◌, ◌≤◌, ℕ, true, List, [], ◌∷◌, ◌++◌, map, length, None, is_some, if◌then◌else◌, sum_by}
+-- From which records the parts of a walk are read, and how many bytes.
+use Rattle.std.specs.Prelude.{◌≡◌, ℕ, true, List, [], ◌∷◌, ◌++◌, map, None, is_some, sum_by}
 use Rattle.std.specs.List.{Contains, flat_map}
 use Rattle.std.specs.Map.{lookup}
-use Rattle.dg_columns.specs.Fronts.{front_of}
-use Rattle.dg_disk.specs.Counts.{raised_by}
 use Rattle.dg_graph.specs.declared.element.Column.{Column}
-use Rattle.dg_graph.specs.declared.element.Column.TheVariants.{Structure, NodeAttr, EdgeAttr, Transient}
 use Rattle.dg_graph.specs.declared.element.Columns.{Columns}
-use Rattle.dg_graph.specs.Elements.{asks}
 use Rattle.dg_history.specs.declared.node.Key.{Key}
 use Rattle.dg_history.specs.Keys.{same_key}
-use Rattle.dg_index.specs.OpenedIndex.{Opening, column_at, entry_at}
+use Rattle.dg_index.specs.OpenedIndex.{Opening}
 use Rattle.dg_plan.specs.declared.edge.Edge.{Edge}
 use Rattle.dg_plan.specs.declared.edge.Via.{Via}
 use Rattle.dg_plan.specs.declared.edge.Via.TheVariants as via
 use Rattle.dg_plan.specs.declared.edge.Way.{Way}
 use Rattle.dg_fold.specs.declared.part.Part.{Part}
-use Rattle.dg_fold.specs.Parts.{bytes_in, graph_columns, is_events}
+use Rattle.dg_fold.specs.Parts.{bytes_in, graph_columns}
+pub use Rattle.dg_records.specs.ColumnReads.{ColumnBytes, Takes, TakesAtMost, asked_column, asked_length, kept_in, read_of}
 
--- ---- what is read
-
--- the bytes of each column of each record
-abbrev pub ColumnBytes : Type 0
-ColumnBytes = Key → Column → List ℕ
-
--- what is read of a column: of one of events the front, which is all of it where it can be read as events
-abbrev pub read_of : Key → List ℕ → List ℕ
-read_of key bytes = if is_events key then front_of bytes else bytes
-
--- those that are read of what an index keeps in an image
-abbrev pub kept_in : List ℕ → Opening → ColumnBytes
-kept_in image o key col = read_of key (column_at image (entry_at o key) col)
-
--- of these the columns that are asked for; another one has no bytes
-abbrev pub asked_column : ColumnBytes → Columns → Key → Column → List ℕ
-asked_column bytes cols key col = if asks cols col then bytes key col else []
+-- ---- what is entered
 
 -- the records that an edge enters: the one that it reads, where it reads one
 abbrev pub entered_by : Via → List Key
@@ -100,19 +81,6 @@ abbrev pub named_in : List Part → List (Key × Way)
 named_in parts = map (λ (p : Part). (p.key, p.way)) parts
 
 -- ---- how many bytes are read
-
--- The count of bytes read rose by n; each stands at the last value of a u64 once it is there.
-abbrev pub Takes : ℕ → ℕ → ℕ → Type 0
-Takes n before after = raised_by 0 after ≡ raised_by n before
-
--- it rose by n or less
-abbrev pub TakesAtMost : ℕ → ℕ → ℕ → Type 0
-TakesAtMost n before after = raised_by 0 after ≤ raised_by n before
-
--- the bytes of the asked columns of a record
-abbrev pub asked_length : ColumnBytes → Columns → Key → ℕ
-asked_length bytes cols key =
-    sum_by (λ col. length (asked_column bytes cols key col)) (Structure ∷ NodeAttr ∷ EdgeAttr ∷ Transient ∷ [])
 
 -- the weight of a walk: the bytes of the asked columns, but of messages, of the records that it enters, each as often
 -- as it does

@@ -10,8 +10,9 @@ use Rattle.dg_index.specs.OpenedIndex.{Opening}
 use Rattle.dg_plan.specs.declared.edge.Edge.{Edge}
 use Rattle.dg_fold.specs.declared.fault.FoldFault.{FoldFault}
 use Rattle.dg_fold.specs.declared.part.Part.{Part}
-use Rattle.dg_fold.specs.BytesRead.{AreParts, kept_in, named_along}
+use Rattle.dg_fold.specs.BytesRead.{AreParts, named_along}
 use Rattle.dg_fold.specs.Parts.{Folds, StandsOnTop}
+use Rattle.dg_records.specs.ColumnReads.{kept_in}
 
 -- There are parts with P; where there is an image, they are those of the walk in it.
 abbrev pub HasParts : Option (List ℕ) → Opening → Columns → List Edge → (List Part → Type 0) → Type 0

@@ -24,10 +24,11 @@ use Rattle.dg_plan.specs.declared.edge.Way.{Way}
 use Rattle.dg_plan.specs.IndexGraph.{Ground, edges_of}
 use Rattle.dg_plan.specs.InstantPoint.{point}
 use Rattle.dg_fold.specs.declared.part.Part.{Part}
-use Rattle.dg_fold.specs.BytesRead.{AreParts, kept_in, named_along}
+use Rattle.dg_fold.specs.BytesRead.{AreParts, named_along}
 use Rattle.dg_fold.specs.Ends.{LeadsUntil, last_in}
 use Rattle.dg_fold.specs.HistoryPaths.{IsIndexed, IsGraphOf}
 use Rattle.dg_fold.specs.Steps.{paired, steps_in}
+use Rattle.dg_records.specs.ColumnReads.{kept_in}
 
 -- ---- histories
 

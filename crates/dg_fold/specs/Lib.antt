@@ -1,3 +1,4 @@
+pub mod Faults
 pub mod PathIndependence
 pub mod Parts
 pub mod Steps

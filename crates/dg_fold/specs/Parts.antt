@@ -5,7 +5,6 @@ use Rattle.dg_graph.specs.declared.element.Column.TheVariants.{Structure, NodeAt
 use Rattle.dg_graph.specs.declared.element.Columns.{Columns}
 use Rattle.dg_graph.specs.declared.element.Element.{Element}
 use Rattle.dg_history.specs.declared.node.Key.{Key}
-use Rattle.dg_history.specs.declared.node.Key.TheVariants as key
 use Rattle.dg_graph.specs.declared.placed.Placed.{Placed}
 use Rattle.dg_graph.specs.Composition.{Delta, IsDelta, Composes, Says, As_it_was, composition}
 use Rattle.dg_graph.specs.Elements.{asks, column_of}
@@ -16,6 +15,7 @@ use Rattle.dg_columns.specs.ReadFits.{IsIn}
 use Rattle.dg_graph.specs.ColumnGrammar.{events_in, delta_in}
 use Rattle.dg_columns.specs.declared.fault.ReadFault.{ReadFault}
 use Rattle.dg_columns.specs.declared.fault.ReadFault.TheVariants as read
+pub use Rattle.dg_records.specs.ColumnReads.{is_events}
 use Rattle.dg_fold.specs.declared.part.Bytes.{Bytes}
 use Rattle.dg_fold.specs.declared.part.Part.{Part}
 use Rattle.dg_fold.specs.declared.fault.FoldFault.{FoldFault}
@@ -33,13 +33,6 @@ and_then (Err f) next = Err f
 abbrev pub fault_named : {A F G : Type 0} → (F → G) → Result A F → Result A G
 fault_named f (Ok x) = Ok x
 fault_named f (Err e) = Err (f e)
-
--- the record's key names events
-abbrev pub is_events : Key → Bool
-is_events (key.List n) = true
-is_events (key.Piece s) = true
-is_events (key.Top h) = false
-is_events (key.Down h c) = false
 
 -- the bytes of a column; messages are not read
 abbrev pub bytes_in : Bytes → Column → List ℕ

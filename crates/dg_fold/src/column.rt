@@ -8,8 +8,9 @@ ghost use Rattle.dg_graph.specs.declared.placed.Placed.{Placed};
 ghost use Rattle.dg_index.specs.IndexRecords.{Exact};
 ghost use Rattle.dg_plan.specs.declared.edge.Way.{Way};
 ghost use Rattle.dg_fold.specs.PathIndependence.{taken};
-ghost use Rattle.dg_fold.specs.Parts.{is_events, bytes_in, part_column_in, beside, deltas_in_part, ColumnStandsOnTop, Folds, StandsOnTop, fault_at, taken_as};
+ghost use Rattle.dg_fold.specs.Parts.{bytes_in, part_column_in, beside, deltas_in_part, ColumnStandsOnTop, Folds, StandsOnTop, fault_at, taken_as};
 ghost use Rattle.dg_delta.specs.Stacks.{stacked};
+ghost use Rattle.dg_records.specs.ColumnReads.{is_events};
 
 use crate::fault::FoldFault;
 use crate::net::{joined, net_of, turned};
@@ -19,18 +20,9 @@ use dg_delta::{Delta, DeltaStack};
 use dg_graph::{Column, Event, Placed};
 use dg_history::Key;
 use dg_plan::Way;
+use dg_records::is_events;
 use std::alloc::{AllocError, Global};
 use std::thread::Threads;
-
-/// Whether the record with the key holds events.
-pub(crate) fn is_events(key: Key) -> bool
-    ensures { result ≡ is_events key }
-{
-    match key {
-        Key::List(_) | Key::Piece(_) => true,
-        Key::Top(_) | Key::Down(_, _) => false,
-    }
-}
 
 // The bytes of a column; that of messages is not read.
 fn bytes_of(bytes: &Bytes, col: Column) -> &[u8]

@@ -2,9 +2,11 @@
 
 ghost use Rattle.std.specs.Prelude.{◌≡◌};
 ghost use Rattle.dg_fold.specs.declared.fault.FoldFault.TheVariants.{Memory};
+ghost use Rattle.dg_fold.specs.Faults.{of_fold};
 
 use dg_graph::Column;
 use dg_history::Key;
+use dg_records::RecordFault;
 use std::alloc::{AllocError, AllocFailed};
 use thiserror::Error;
 
@@ -32,5 +34,16 @@ impl<T: Drop> From<AllocFailed<T>> for FoldFault {
 
     fn from(_error: AllocFailed<T>) -> FoldFault {
         FoldFault::Memory
+    }
+}
+
+impl From<FoldFault> for RecordFault {
+    ghost from_gives = { λ folded fault. fault ≡ of_fold folded };
+
+    fn from(folded: FoldFault) -> RecordFault {
+        match folded {
+            FoldFault::Damaged(key, column) => RecordFault::Damaged(key, column),
+            FoldFault::Memory => RecordFault::Memory,
+        }
     }
 }

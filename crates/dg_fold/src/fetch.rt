@@ -10,8 +10,9 @@ ghost use Rattle.dg_history.specs.declared.node.Key.{Key};
 ghost use Rattle.dg_plan.specs.declared.edge.Edge.{Edge};
 ghost use Rattle.dg_plan.specs.declared.edge.Way.{Way};
 ghost use Rattle.dg_fold.specs.declared.part.Part.{Part};
-ghost use Rattle.dg_fold.specs.BytesRead.{AreParts, HoldsWhatIsEntered, IsEntered, IsKept, Takes, TakesAtMost, asked_length, entered_by, entered_length, kept_in, named_along, named_by, named_in};
+ghost use Rattle.dg_fold.specs.BytesRead.{AreParts, HoldsWhatIsEntered, IsEntered, IsKept, entered_by, entered_length, named_along, named_by, named_in};
 ghost use Rattle.dg_fold.specs.Parts.{bytes_in, graph_columns};
+ghost use Rattle.dg_records.specs.ColumnReads.{Takes, TakesAtMost, asked_length, kept_in};
 
 use crate::part::{Bytes, Part};
 use crate::record::read_record;

@@ -10,9 +10,10 @@ ghost use Rattle.dg_graph.specs.Composition.{Delta as Deltas};
 ghost use Rattle.dg_history.specs.declared.node.Key.{Key};
 ghost use Rattle.dg_plan.specs.declared.edge.Edge.{Edge};
 ghost use Rattle.dg_fold.specs.declared.part.Part.{Part};
-ghost use Rattle.dg_fold.specs.BytesRead.{HoldsWhatIsEntered, IsEntered, IsKept, Takes, TakesAtMost, entered_along, entered_length, kept_in};
+ghost use Rattle.dg_fold.specs.BytesRead.{HoldsWhatIsEntered, IsEntered, IsKept, entered_along, entered_length};
 ghost use Rattle.dg_fold.specs.Foldings.{ArePushed, HasParts, StandsOrFails};
 ghost use Rattle.dg_fold.specs.Parts.{beside, parts_in, Folds};
+ghost use Rattle.dg_records.specs.ColumnReads.{Takes, TakesAtMost, kept_in};
 
 use crate::fault::FoldFault;
 use crate::fetch::{fetch_walk, is_same};

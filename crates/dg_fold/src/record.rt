@@ -1,27 +1,25 @@
 //! Reading a record of an index.
 
-ghost use Rattle.std.specs.Prelude.{◌≡◌, true, length, is_some, IfOk, IfSome, OnOk, OnErr, IsErrOf};
+ghost use Rattle.std.specs.Prelude.{◌≡◌, true, length, is_some, IfOk, IfSome, OnOk, IsErrOf};
 ghost use Rattle.std.specs.Map.{lookup};
 ghost use Rattle.std.specs.Option.{ForSome};
 ghost use Rattle.dg_disk.specs.Calls.{Fails, ReadsDisk};
 ghost use Rattle.dg_file.specs.Images.{IsOpenedAs};
 ghost use Rattle.dg_graph.specs.declared.element.Column.{Column};
 ghost use Rattle.dg_history.specs.Keys.{same_key};
-ghost use Rattle.dg_fold.specs.BytesRead.{Takes, TakesAtMost, asked_column, asked_length, kept_in};
 ghost use Rattle.dg_fold.specs.Parts.{bytes_in, graph_columns};
+ghost use Rattle.dg_records.specs.ColumnReads.{Takes, TakesAtMost, TakesOrFails, asked_column, asked_length, kept_in};
 
-use crate::column::is_events;
 use crate::part::Bytes;
-use dg_columns::EVENTS_FRONT;
 use dg_disk::Disk;
 use dg_event::asks;
 use dg_file::{FetchFault, Index};
 use dg_graph::{Column, Columns};
 use dg_history::Key;
+use dg_records::read_bytes;
 use std::alloc::Global;
 
-// A column of a record, and no bytes where it is not asked for. Of a column of events that is longer than events can be the
-// front is read, which tells that it is damaged.
+// What is read of a column of a record, and no bytes where it is not asked for.
 fn read_column<D: Disk>(
     alloc: Global,
     index: &Index,
@@ -33,10 +31,9 @@ fn read_column<D: Disk>(
     requires held { is_some (lookup (same_key key) index.now.opening.records) ≡ true }
     requires image { IfSome (D.image disk.old) (λ image. IsOpenedAs image index.now.opening) }
     ensures bytes { IfOk result (λ v. ForSome (D.image disk.old) (λ image. v.items ≡ asked_column (kept_in image index.now.opening) cols key col)) }
-    ensures takes { IfOk result (λ v. Takes (length v.items) (D.taken disk.old) (D.taken disk.new)) }
+    ensures takes { ForSome (D.image disk.old) (λ image. TakesOrFails result (length (asked_column (kept_in image index.now.opening) cols key col)) (D.taken disk.old) (D.taken disk.new)) }
 
     // errors
-    ensures none_taken { OnErr result (D.taken disk.new ≡ D.taken disk.old) }
     ensures cause { IsErrOf result FetchFault.Disk → Fails D.Disk disk.old disk.new }
 
     // frame
@@ -45,10 +42,7 @@ fn read_column<D: Disk>(
     if !asks(cols, col) {
         return Ok(Vec::new(alloc));
     }
-    if is_events(key) {
-        return index.fetch_front(disk, key, col, EVENTS_FRONT);
-    }
-    index.fetch(disk, key, col)
+    read_bytes(alloc, index, disk, key, col)
 }
 
 /// Reads the asked columns of a record that the index keeps, but no messages. `FetchFault::Disk` where the disk

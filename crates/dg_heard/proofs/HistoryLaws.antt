@@ -15,6 +15,7 @@ use Rattle.dg_graph.specs.Columns.{events_column}
 use Rattle.dg_graph.specs.declared.element.Column.TheVariants.{Transient}
 use Rattle.dg_graph.specs.declared.event.Event.{Event}
 use Rattle.dg_graph.specs.Replay.{told_at}
+use Rattle.dg_heard.specs.ListColumns.{events_or}
 use Rattle.dg_history.specs.declared.node.Key.TheVariants.{List}
 use Rattle.dg_history.specs.History.{History, events_of, names_of}
 use Rattle.dg_history.proofs.LegalHistories.{events_rise}
@@ -27,7 +28,7 @@ use Rattle.dg_index.specs.OpenedIndex.{Opening, column_at, entry_at, opened_of}
 use Rattle.dg_index.specs.declared.entry.Entry.{Entry}
 use Rattle.dg_index.proofs.HeldRecords.{IsHeld, held_at}
 use Rattle.dg_index.proofs.IndexRecordColumns.{Each}
-use Rattle.dg_heard.specs.Heard.{and_others, before_others, events_or, heard_events, messages_along, messages_in}
+use Rattle.dg_heard.specs.Heard.{and_others, before_others, heard_events, messages_along, messages_in}
 use Rattle.dg_heard.specs.HistoryLaw.{HeardBytesAreTheHistorys, HistoriesAreHeard}
 use Rattle.dg_heard.proofs.Told.{told_append_alike}
 use Rattle.dg_heard.proofs.ToldLists.{list_rises, lists_whole, messages_of, told_along, told_messages_of, told_outside}

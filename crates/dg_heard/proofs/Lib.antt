@@ -4,3 +4,4 @@ pub mod KeptLists
 pub mod HistoryLaws
 pub mod HeardLists
 pub mod HeardBytes
+pub mod ListColumns

@@ -3,14 +3,13 @@
 use Rattle.std.specs.Prelude.{ℕ, ◌+◌, Bool, false, ◌&&◌, List as ListOf, [], ◌∷◌, ◌++◌, Option, Some, None, Result, Ok, Err, filter, map, nat_le, nat_lt, sum}
 use Rattle.std.specs.List.{list_any}
 use Rattle.dg_catalogue.specs.Entries.{column_length_in}
-use Rattle.dg_graph.specs.ColumnGrammar.{events_in}
 use Rattle.dg_graph.specs.declared.element.Column.TheVariants.{Transient}
 use Rattle.dg_graph.specs.declared.event.Event.{Event}
-use Rattle.dg_graph.specs.declared.placed.Placed.{Placed}
+use Rattle.dg_heard.specs.ListColumns.{events_at}
 use Rattle.dg_history.specs.declared.node.Key.TheVariants.{List}
 use Rattle.dg_index.specs.declared.entry.Ends.{Ends}
 use Rattle.dg_index.specs.Hierarchy.{leaves, numbers}
-use Rattle.dg_index.specs.OpenedIndex.{Opening, column_at, entry_at, event_total}
+use Rattle.dg_index.specs.OpenedIndex.{Opening, entry_at, event_total}
 
 -- the instant is one of these or between them
 abbrev pub lies_between : ℕ → Option Ends → Bool
@@ -46,14 +45,9 @@ with_heard_bytes o (t ∷ times) (single ∷ singles) = (single + heard_bytes o 
 
 -- ---- what they spell
 
--- the events without their positions; damage is named by the number of the list
-abbrev pub events_or : ℕ → Result (ListOf Placed) ℕ → Result (ListOf Event) ℕ
-events_or i (Err offset) = Err i
-events_or i (Ok placed) = Ok (map (λ (p : Placed). p.event) placed)
-
 -- what the column of messages of a list is read as in an image, with so many names
 abbrev pub messages_in : ℕ → ListOf ℕ → Opening → ℕ → Result (ListOf Event) ℕ
-messages_in names image o i = events_or i (events_in Transient names (column_at image (entry_at o (List i)) Transient))
+messages_in names image o i = events_at names image o i Transient
 
 -- the first events and then the others, unless either has damage
 abbrev pub and_others : ListOf Event → Result (ListOf Event) ℕ → Result (ListOf Event) ℕ

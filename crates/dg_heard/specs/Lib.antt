@@ -1,2 +1,3 @@
+pub mod ListColumns
 pub mod Heard
 pub mod HistoryLaw

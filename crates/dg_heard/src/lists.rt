@@ -33,15 +33,14 @@ fn is_between(lists: &Catalogue, list: u32, t: u64) -> bool
     }
 }
 
-// The first of the lists with the numbers from `from` on between whose times the instant lies, or `to`
-// where none below it is one. No list begins before an earlier one has ended, so only the first that has
-// not ended before the instant can be the one, and it is found by halves.
-fn next_between(lists: &Catalogue, from: u32, to: u32, t: u64) -> u32
+/// The first list from the number `from` on that has not ended before the instant, or `to` where each one below it has. No
+/// list ends before an earlier one, so it is found by halves.
+pub fn first_open(lists: &Catalogue, from: u32, to: u32, t: u64) -> u32
     requires rise { ListsRise lists.now }
     requires ordered { from ≤ to }
-    ensures reached { (from ≤ result) × (result ≤ to) }
-    ensures between { result < to → lies_between t (ends_of lists.now result) ≡ true }
-    ensures before { (k : ℕ) → from ≤ k → k < result → lies_between t (ends_of lists.now k) ≡ false }
+    ensures within { (from ≤ result) × (result ≤ to) }
+    ensures ended { (i : ℕ) → from ≤ i → i < result → end_before t (ends_of lists.now i) ≡ true }
+    ensures rest { (i : ℕ) → result ≤ i → i < to → end_before t (ends_of lists.now i) ≡ false }
 {
     let mut low = from;
     let mut high = to;
@@ -53,11 +52,29 @@ fn next_between(lists: &Catalogue, from: u32, to: u32, t: u64) -> u32
             high = middle;
         }
     }
-    if is_between(lists, low, t) { low } else { to }
+    low
 }
 
-// How many lists the index keeps.
-fn list_total(index: &Index) -> u32
+// The first of the lists with the numbers from `from` on between whose times the instant lies, or `to`
+// where none below it is one. No list begins before an earlier one has ended, so only the first that has
+// not ended before the instant can be the one.
+fn next_between(lists: &Catalogue, from: u32, to: u32, t: u64) -> u32
+    requires rise { ListsRise lists.now }
+    requires ordered { from ≤ to }
+    ensures reached { (from ≤ result) × (result ≤ to) }
+    ensures between { result < to → lies_between t (ends_of lists.now result) ≡ true }
+    ensures before { (k : ℕ) → from ≤ k → k < result → lies_between t (ends_of lists.now k) ≡ false }
+{
+    let first = first_open(lists, from, to, t);
+    if is_between(lists, first, t) {
+        first
+    } else {
+        to
+    }
+}
+
+/// How many lists the index keeps.
+pub fn list_total(index: &Index) -> u32
     ensures { result ≡ list_total index.now.opening }
 {
     // Its clauses tell that the parameters are those of an index.

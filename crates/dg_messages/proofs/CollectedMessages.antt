@@ -10,7 +10,8 @@ use Rattle.dg_graph.specs.Replay.{told_at}
 use Rattle.dg_graph.specs.Sets.{unioned}
 use Rattle.dg_messages.specs.Collected.{AreAdded, AreCollected, message_at, messages_at}
 use Rattle.dg_messages.proofs.ToldSets.{told_is, told_named}
-use Rattle.dg_retrieval.specs.NamesThere.{BodyHasNamesThere, EventNamesAreThere, NamesAreThere}
+use Rattle.dg_records.specs.EventNames.{BodyHasNamesThere, EventNamesAreThere}
+use Rattle.dg_retrieval.specs.NamesThere.{NamesAreThere}
 
 messages-append : (t : ℕ) (before events : List Event) → messages_at t (before ++ events) ≡ messages_at t before ++ messages_at t events
 messages-append t before events = flat_map-append (λ (e : Event). option_to_list (message_at t e)) before events

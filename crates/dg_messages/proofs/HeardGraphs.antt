@@ -20,8 +20,8 @@ use Rattle.dg_messages.proofs.ShownMessages.{replayed_of, shown_behind}
 use Rattle.dg_messages.specs.Calls.{HearsOver, IsFirstMessageDamage}
 use Rattle.dg_messages.specs.Told.{AreToldIn, TellBehind, TellsBehind}
 use Rattle.dg_retrieval.specs.Beginnings.{GraphLead, begun_with, leads_in, led_to}
-use Rattle.dg_retrieval.specs.declared.fault.RetrievalFault.{RetrievalFault}
-use Rattle.dg_retrieval.specs.declared.fault.RetrievalFault.TheVariants as fault
+use Rattle.dg_records.specs.declared.fault.RecordFault.{RecordFault}
+use Rattle.dg_records.specs.declared.fault.RecordFault.TheVariants as fault
 use Rattle.dg_retrieval.specs.declared.retrieval.Retrieved.{Retrieved}
 use Rattle.dg_retrieval.specs.Retrieval.{IsNoDamage, IsOver}
 
@@ -77,7 +77,7 @@ module _ (z : History) (image : List ℕ) (o : Opening) (names : ℕ) (now : Lis
       ∙ told_each (told_at (hears.events ++ recent_of z.params (events_of z))) (told_at (events_of z)) times hears.told
 
   -- no column that is heard is damaged
-  pub none_damaged : (f : RetrievalFault) → IsFirstMessageDamage names image o times f → IsNoDamage f
+  pub none_damaged : (f : RecordFault) → IsFirstMessageDamage names image o times f → IsNoDamage f
   none_damaged fault.Disk first = inl refl
   none_damaged fault.Memory first = inr refl
   none_damaged (fault.Damaged k col) first = absurd (let both : Err first.0 ≡ Ok hears.events = sym first.1 ∙ heard_is in cc)
@@ -91,6 +91,6 @@ module _ (z : History) (image : List ℕ) (o : Opening) (names : ℕ) (now : Lis
   }
 
 -- where nothing is given, no damage is told
-pub hears_nothing : {z : History} {times : List ℕ} {old : Retrieved} (r : Result Retrieved RetrievalFault) (f : RetrievalFault) → IsErr r × IsErrAnd r (λ y. y ≡ f) → IsNoDamage f → HearsOver z times old r
+pub hears_nothing : {z : History} {times : List ℕ} {old : Retrieved} (r : Result Retrieved RecordFault) (f : RecordFault) → IsErr r × IsErrAnd r (λ y. y ≡ f) → IsNoDamage f → HearsOver z times old r
 hears_nothing (Ok new) f h none = cc
 hears_nothing (Err y) f h none = record { graphs = tt; never = subst IsNoDamage (sym h.1) none }

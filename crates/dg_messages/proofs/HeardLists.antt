@@ -4,19 +4,25 @@ use Rattle.std.specs.Prelude.{IfSome, IfOk, IsErr, IsErrAnd}
 use Rattle.std.proofs.lemmas.Bool.{false≢true}
 use Rattle.std.proofs.lemmas.List.Elements.{All-append, All-nil}
 use Rattle.std.proofs.lemmas.List.Sums.{sum_by-cons}
-use Rattle.dg_fold.specs.BytesRead.{Takes, TakesAtMost}
+use Rattle.dg_graph.specs.declared.element.Column.TheVariants.{Transient}
 use Rattle.dg_graph.specs.declared.element.Element.{Element}
 use Rattle.dg_graph.specs.declared.event.Event.{Event}
 use Rattle.dg_heard.specs.Heard.{and_others, before_others, heard_bytes, heard_events, heard_over, is_heard, list_total, messages_along, messages_in}
+use Rattle.dg_heard.specs.ListColumns.{IsColumnRead, bytes_at}
+use Rattle.dg_heard.proofs.ListColumns.{both_told, takes_less, told_so}
 use Rattle.dg_index.specs.Hierarchy.{numbers}
 use Rattle.dg_index.specs.OpenedIndex.{Opening}
 use Rattle.dg_messages.specs.Calls.{TakesHeard, TellsMessageDamage}
-use Rattle.dg_messages.specs.Collected.{AreAdded, AreCollected, IsListRead, message_bytes}
+use Rattle.dg_messages.specs.Collected.{AreAdded, AreCollected}
 use Rattle.dg_messages.proofs.CollectedMessages.{collected_more}
-use Rattle.dg_messages.proofs.ListColumns.{both_told, takes_less, told_so}
-use Rattle.dg_retrieval.specs.declared.fault.RetrievalFault.{RetrievalFault}
-use Rattle.dg_retrieval.specs.declared.fault.RetrievalFault.TheVariants as fault
-use Rattle.dg_retrieval.specs.NamesThere.{BodyHasNamesThere, EventNamesAreThere}
+use Rattle.dg_records.specs.ColumnReads.{Takes, TakesAtMost}
+use Rattle.dg_records.specs.declared.fault.RecordFault.{RecordFault}
+use Rattle.dg_records.specs.declared.fault.RecordFault.TheVariants as fault
+use Rattle.dg_records.specs.EventNames.{BodyHasNamesThere, EventNamesAreThere}
+
+-- the bytes of the column of messages of a list
+abbrev pub message_bytes : Opening → ℕ → ℕ
+message_bytes o i = bytes_at o i Transient
 
 -- ---- the lists from a number on
 
@@ -189,12 +195,12 @@ IsLast o times from = (k : ℕ) → from ≤ k → k < list_total o → is_heard
 abbrev pub HandsOn : {A E : Type 0} → Result A E → E → Type 0
 HandsOn r fault = IsErr r × IsErrAnd r (λ y. y ≡ fault)
 
-pub takes_fails : {A : Type 0} (told : Option (List ℕ)) (o : Opening) (times : List ℕ) (before after : ℕ) (r : Result A RetrievalFault) → IsErr r
+pub takes_fails : {A : Type 0} (told : Option (List ℕ)) (o : Opening) (times : List ℕ) (before after : ℕ) (r : Result A RecordFault) → IsErr r
     → IfSome told (λ image. TakesAtMost (heard_bytes o times) before after) → IfSome told (λ image. TakesHeard o times before after r)
 takes_fails told o times before after r err most =
     told_so told (λ image. TakesAtMost (heard_bytes o times) before after) (λ image. TakesHeard o times before after r) (λ image most. record { takes = by r err; most = most }) most
   where
-    by : {A : Type 0} (r : Result A RetrievalFault) → IsErr r → IfOk r (λ x. Takes (heard_bytes o times) before after)
+    by : {A : Type 0} (r : Result A RecordFault) → IsErr r → IfOk r (λ x. Takes (heard_bytes o times) before after)
     by (Ok x) err = absurd (false≢true err)
     by (Err f) err = tt
 
@@ -207,15 +213,15 @@ takes_done {A = A} told o times before after x all =
 module _ (A : Type 0) (names : ℕ) (told : Option (List ℕ)) (o : Opening) (times : List ℕ) (from i : ℕ) (lists : List (Vec Element Global)) (before now : ℕ) (h : HeardSoFar names told o times from lists before now)
     (next : rest_from o times from ≡ i ∷ rest_from o times (i + 1)) where
   -- where the next list was not read
-  damage_told : (f : RetrievalFault) → IfSome told (λ image. IsListRead names image o i (Err f)) → IfSome told (λ image. TellsMessageDamage {A = A} names o times image (Err f))
+  damage_told : (f : RecordFault) → IfSome told (λ image. IsColumnRead names image o i Transient (Err f)) → IfSome told (λ image. TellsMessageDamage {A = A} names o times image (Err f))
   damage_told fault.Disk read = always names told o times (λ image. Unit {0}) (λ image. tt)
   damage_told fault.Memory read = always names told o times (λ image. Unit {0}) (λ image. tt)
   damage_told (fault.Damaged k col) read =
-      both_told told (λ image. heard_events names image o times ≡ Err i) (λ image. IsListRead names image o i (Err (fault.Damaged k col)))
+      both_told told (λ image. heard_events names image o times ≡ Err i) (λ image. IsColumnRead names image o i Transient (Err (fault.Damaged k col)))
       (λ image. TellsMessageDamage {A = A} names o times image (Err (fault.Damaged k col))) (λ image all one. (i, all, one.1, one.2))
       (heard_damaged names told o times from i lists before now h next
-      (told_so told (λ image. IsListRead names image o i (Err (fault.Damaged k col))) (λ image. messages_in names image o i ≡ Err i) (λ image one. one.0) read)) read
+      (told_so told (λ image. IsColumnRead names image o i Transient (Err (fault.Damaged k col))) (λ image. messages_in names image o i ≡ Err i) (λ image one. one.0) read)) read
 
-  pub damage_fails : (r : Result A RetrievalFault) (f : RetrievalFault) → HandsOn r f → IfSome told (λ image. IsListRead names image o i (Err f)) → IfSome told (λ image. TellsMessageDamage names o times image r)
+  pub damage_fails : (r : Result A RecordFault) (f : RecordFault) → HandsOn r f → IfSome told (λ image. IsColumnRead names image o i Transient (Err f)) → IfSome told (λ image. TellsMessageDamage names o times image r)
   damage_fails (Ok x) f on read = absurd on.1
-  damage_fails (Err e) f on read = subst (λ (g : RetrievalFault). IfSome told (λ image. TellsMessageDamage {A = A} names o times image (Err g))) (sym on.1) (damage_told f read)
+  damage_fails (Err e) f on read = subst (λ (g : RecordFault). IfSome told (λ image. TellsMessageDamage {A = A} names o times image (Err g))) (sym on.1) (damage_told f read)

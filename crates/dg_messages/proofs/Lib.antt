@@ -1,6 +1,5 @@
 mod ToldSets
 mod CollectedMessages
-mod ListColumns
 mod HeardLists
 mod MessagesBehind
 mod MessageWeights

@@ -6,21 +6,21 @@ use Rattle.std.proofs.lemmas.Bool.{eqb-false, eqb-true, false≢true, or_parts, 
 use Rattle.std.proofs.lemmas.List.Elements.{All-head, All-map, All-tail}
 use Rattle.std.proofs.lemmas.List.Folds.{list_any-append}
 use Rattle.dg_catalogue.specs.Entries.{column_length_in}
-use Rattle.dg_fold.specs.BytesRead.{Takes, TakesAtMost}
 use Rattle.dg_graph.specs.declared.element.Column.TheVariants.{Transient}
 use Rattle.dg_graph.specs.declared.element.Element.{Element}
 use Rattle.dg_graph.specs.declared.event.Event.{Event}
 use Rattle.dg_graph.specs.Replay.{told_at}
 use Rattle.dg_heard.specs.Heard.{heard_bytes, heard_events, heard_over, lies_between, list_total, messages_along}
+use Rattle.dg_records.specs.ColumnReads.{Takes, TakesAtMost}
 use Rattle.dg_history.specs.declared.node.Key.TheVariants as key
 use Rattle.dg_index.specs.Hierarchy.{numbers}
 use Rattle.dg_index.specs.OpenedIndex.{Opening, entry_at}
 use Rattle.dg_messages.specs.Calls.{AreHeard, IsFirstMessageDamage, TakesHeard, TellsMessageDamage}
 use Rattle.dg_messages.specs.Once.{each_once, is_among, once_behind, set_of, sets_for, with_instant}
 use Rattle.dg_messages.specs.Told.{AreToldIn}
-use Rattle.dg_messages.proofs.ListColumns.{told_so}
-use Rattle.dg_retrieval.specs.declared.fault.RetrievalFault.{RetrievalFault}
-use Rattle.dg_retrieval.specs.declared.fault.RetrievalFault.TheVariants as fault
+use Rattle.dg_heard.proofs.ListColumns.{told_so}
+use Rattle.dg_records.specs.declared.fault.RecordFault.{RecordFault}
+use Rattle.dg_records.specs.declared.fault.RecordFault.TheVariants as fault
 use Rattle.dg_retrieval.specs.NamesThere.{NamesAreThere}
 
 -- ---- truth values
@@ -116,7 +116,7 @@ module _ (told : Option (List ℕ)) (o : Opening) (times instants : List ℕ) (i
       told_so told (λ image. TakesHeard {A = A} o instants before after (Ok x)) (λ image. TakesHeard {A = B} o times before after (Ok y))
       (λ image h. record { takes = subst (λ n. Takes n before after) same h.takes; most = subst (λ n. TakesAtMost n before after) same h.most }) h
 
-  pub most_once : {A : Type 0} (r : Result A RetrievalFault) → IfSome told (λ image. TakesHeard {A = A} o instants before after r) → IfSome told (λ image. TakesAtMost (heard_bytes o times) before after)
+  pub most_once : {A : Type 0} (r : Result A RecordFault) → IfSome told (λ image. TakesHeard {A = A} o instants before after r) → IfSome told (λ image. TakesAtMost (heard_bytes o times) before after)
   most_once {A} r h =
       told_so told (λ image. TakesHeard {A = A} o instants before after r) (λ image. TakesAtMost (heard_bytes o times) before after)
       (λ image h. subst (λ n. TakesAtMost n before after) (ap (heard_bytes o) is ∙ same_bytes o times) h.most) h
@@ -130,16 +130,16 @@ module _ (names : ℕ) (told : Option (List ℕ)) (o : Opening) (times instants 
   sound_once h =
       told_so told (λ image. AreHeard names image o instants) (λ image. AreHeard names image o times) (λ image h. (h.0, same_heard image ∙ h.1)) h
 
-  first_once : (image : List ℕ) (f : RetrievalFault) → IsFirstMessageDamage names image o instants f → IsFirstMessageDamage names image o times f
+  first_once : (image : List ℕ) (f : RecordFault) → IsFirstMessageDamage names image o instants f → IsFirstMessageDamage names image o times f
   first_once image fault.Disk h = tt
   first_once image fault.Memory h = tt
   first_once image (fault.Damaged k col) h = (h.0, same_heard image ∙ h.1, h.2, h.3)
 
-  pub damage_once : {A : Type 0} (r : Result A RetrievalFault) (f : RetrievalFault) → IsErr r × IsErrAnd r (λ y. y ≡ f) → IfSome told (λ image. IsFirstMessageDamage names image o instants f)
+  pub damage_once : {A : Type 0} (r : Result A RecordFault) (f : RecordFault) → IsErr r × IsErrAnd r (λ y. y ≡ f) → IfSome told (λ image. IsFirstMessageDamage names image o instants f)
       → IfSome told (λ image. TellsMessageDamage names o times image r)
   damage_once {A} (Ok x) f on h = absurd (false≢true on.0)
   damage_once {A} (Err e) f on h =
-      subst (λ (g : RetrievalFault). IfSome told (λ image. IsFirstMessageDamage names image o times g)) (sym on.1)
+      subst (λ (g : RecordFault). IfSome told (λ image. IsFirstMessageDamage names image o times g)) (sym on.1)
       (told_so told (λ image. IsFirstMessageDamage names image o instants f) (λ image. IsFirstMessageDamage names image o times f) (λ image. first_once image f) h)
 
 -- ---- what the times have

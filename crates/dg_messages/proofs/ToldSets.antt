@@ -13,7 +13,8 @@ use Rattle.dg_graph.specs.Replay.{message_of, told_at}
 use Rattle.dg_graph.specs.Sets.{unioned}
 use Rattle.dg_graph.proofs.Sets.{element_exact, has-put}
 use Rattle.dg_messages.specs.Collected.{message_at, messages_at}
-use Rattle.dg_retrieval.specs.NamesThere.{BodyHasNamesThere, EventNamesAreThere, HasNamesThere, NamesAreThere}
+use Rattle.dg_records.specs.EventNames.{BodyHasNamesThere, EventNamesAreThere}
+use Rattle.dg_retrieval.specs.NamesThere.{HasNamesThere, NamesAreThere}
 
 first_put : (set : List Element) (o : Option Element) (xs : List Element) → unioned set (option_to_list o ++ xs) ≡ with_one (unioned set xs) o
 first_put set None xs = refl

@@ -1,27 +1,28 @@
 -- What the calls answer: over whatever image, and over that of a history.
 use Rattle.std.specs.Prelude.{◌≡◌, ℕ, ◌+◌, true, List, Option, Result, Ok, Err, IfErr, IfOk, IfSome, length, map}
 use Rattle.std.specs.List.{All, sum}
-use Rattle.dg_fold.specs.BytesRead.{Takes, TakesAtMost}
 use Rattle.dg_graph.specs.declared.element.Column.TheVariants.{Transient}
 use Rattle.dg_graph.specs.declared.element.Columns.{Columns}
 use Rattle.dg_graph.specs.declared.element.Element.{Element}
 use Rattle.dg_graph.specs.declared.event.Event.{Event}
 use Rattle.dg_graph.specs.Elements.{IsSet}
 use Rattle.dg_heard.specs.Heard.{heard_bytes, heard_events, with_heard_bytes}
+use Rattle.dg_records.specs.ColumnReads.{Takes, TakesAtMost}
 use Rattle.dg_history.specs.declared.node.Key.TheVariants as key
 use Rattle.dg_history.specs.History.{History}
 use Rattle.dg_index.specs.OpenedIndex.{Opening}
 use Rattle.dg_messages.specs.Told.{AreToldIn, TellBehind, shown_with_messages}
 use Rattle.dg_retrieval.specs.Beginnings.{GraphLead, begun_with, leads_in, led_to}
-use Rattle.dg_retrieval.specs.declared.fault.RetrievalFault.{RetrievalFault}
-use Rattle.dg_retrieval.specs.declared.fault.RetrievalFault.TheVariants as fault
+use Rattle.dg_records.specs.declared.fault.RecordFault.{RecordFault}
+use Rattle.dg_records.specs.declared.fault.RecordFault.TheVariants as fault
+use Rattle.dg_records.specs.EventNames.{EventNamesAreThere}
 use Rattle.dg_retrieval.specs.declared.retrieval.Retrieved.{Retrieved}
-use Rattle.dg_retrieval.specs.NamesThere.{EventNamesAreThere, NamesAreThere}
+use Rattle.dg_retrieval.specs.NamesThere.{NamesAreThere}
 use Rattle.dg_retrieval.specs.Retrieval.{IsNoDamage, graphs_at}
 
 -- The fault names the first list, by its number, whose column of messages is in no spelling, of those that are heard for
 -- the instants; or a read failed, or memory ran out.
-abbrev pub IsFirstMessageDamage : ℕ → List ℕ → Opening → List ℕ → RetrievalFault → Type 0
+abbrev pub IsFirstMessageDamage : ℕ → List ℕ → Opening → List ℕ → RecordFault → Type 0
 IsFirstMessageDamage name_count image o times fault.Disk = Unit {0}
 IsFirstMessageDamage name_count image o times fault.Memory = Unit {0}
 IsFirstMessageDamage name_count image o times (fault.Damaged k col) =
@@ -32,12 +33,12 @@ abbrev pub AreHeard : ℕ → List ℕ → Opening → List ℕ → Type 0
 AreHeard name_count image o times = (events : List Event) × (heard_events name_count image o times ≡ Ok events)
 
 -- What a call tells of damage in this image.
-abbrev pub TellsMessageDamage : {A : Type 0} → ℕ → Opening → List ℕ → List ℕ → Result A RetrievalFault → Type 0
+abbrev pub TellsMessageDamage : {A : Type 0} → ℕ → Opening → List ℕ → List ℕ → Result A RecordFault → Type 0
 TellsMessageDamage name_count o times image (Ok r) = AreHeard name_count image o times
 TellsMessageDamage name_count o times image (Err f) = IsFirstMessageDamage name_count image o times f
 
 -- as many bytes are read as the columns have that are heard for the instants, and no more where the call fails
-pub record TakesHeard {A : Type 0} (o : Opening) (times : List ℕ) (before after : ℕ) (result : Result A RetrievalFault) : Type 0 where
+pub record TakesHeard {A : Type 0} (o : Opening) (times : List ℕ) (before after : ℕ) (result : Result A RecordFault) : Type 0 where
   pub takes : IfOk result (λ r. Takes (heard_bytes o times) before after)
   pub most : TakesAtMost (heard_bytes o times) before after
 
@@ -56,7 +57,7 @@ pub record HasMessages (name_count : ℕ) (o : Opening) (image : Option (List �
 
 -- With the image, the index and the memory of a history: where the leads came to the graphs as of the instants, they come
 -- to them with the messages of these; and no damage is met.
-pub record HearsOver (z : History) (times : List ℕ) (old : Retrieved) (result : Result Retrieved RetrievalFault) : Type 0 where
+pub record HearsOver (z : History) (times : List ℕ) (old : Retrieved) (result : Result Retrieved RecordFault) : Type 0 where
   pub graphs : IfOk result (λ r. (now : List Element) (held : ℕ → List Element) (cols : Columns) → cols.transient ≡ true
       → All (λ (l : GraphLead). IsSet (begun_with now held l.begins)) (leads_in old.leads)
       → map (led_to now held cols) (leads_in old.leads) ≡ graphs_at z times cols

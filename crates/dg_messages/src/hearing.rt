@@ -9,8 +9,8 @@ ghost use Rattle.dg_messages.specs.Calls.{HasMessages, HearsOver, TakesHeard, Te
 ghost use Rattle.dg_messages.specs.Once.{each_once, sets_for};
 ghost use Rattle.dg_messages.specs.Told.{TellBehind, telling};
 ghost use Rattle.dg_planner.specs.Whole.{TREE_WEIGHT_MAX};
+ghost use Rattle.dg_records.specs.Calls.{ReadsRecords};
 ghost use Rattle.dg_retrieval.specs.Beginnings.{leads_in};
-ghost use Rattle.dg_retrieval.specs.Calls.{ReadsRecords};
 ghost use Rattle.dg_retrieval.specs.Retrieval.{IsOver};
 
 use crate::told::{Heard, messages_once};
@@ -20,7 +20,8 @@ use dg_file::Index;
 use dg_fold::Writing;
 use dg_graph::Event;
 use dg_heard::{heard_bytes, law_histories_are_heard};
-use dg_retrieval::{Leads, RetrievalFault, Retrieved};
+use dg_records::RecordFault;
+use dg_retrieval::{Leads, Retrieved};
 use dg_set::Set;
 use std::alloc::{AllocError, Global};
 
@@ -157,7 +158,7 @@ pub fn hear<D: Disk>(
     recent: &[Event],
     times: &[u64],
     retrieved: Retrieved,
-) -> Result<Retrieved, RetrievalFault>
+) -> Result<Retrieved, RecordFault>
     requires image { IfSome (D.image disk.old) (λ image. IsOpenedAs image index.now.opening) }
     requires few { length times.now ≤ 32 }
     requires count { length (leads_in retrieved.leads) ≡ length times.now }

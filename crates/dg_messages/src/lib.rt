@@ -4,7 +4,6 @@
 
 mod collected;
 mod hearing;
-mod list;
 mod once;
 mod sets;
 mod told;

@@ -6,18 +6,18 @@ ghost use Rattle.dg_messages.specs.Calls.{TakesHeard, TellsMessageDamage};
 ghost use Rattle.dg_messages.specs.Collected.{AreCollected, AreHeardIn};
 ghost use Rattle.dg_messages.specs.Once.{each_once, sets_for};
 ghost use Rattle.dg_messages.specs.Told.{AreToldIn};
-ghost use Rattle.dg_retrieval.specs.Calls.{ReadsRecords};
-ghost use Rattle.dg_retrieval.specs.NamesThere.{EventNamesAreThere, NamesAreThere};
+ghost use Rattle.dg_records.specs.Calls.{ReadsRecords};
+ghost use Rattle.dg_records.specs.EventNames.{EventNamesAreThere};
+ghost use Rattle.dg_retrieval.specs.NamesThere.{NamesAreThere};
 
 use crate::collected::push_all;
-use crate::list::read_list;
 use crate::once::each_once;
 use crate::sets::sets_of;
 use dg_disk::Disk;
 use dg_file::Index;
-use dg_graph::{Element, Event};
-use dg_heard::next_heard;
-use dg_retrieval::RetrievalFault;
+use dg_graph::{Column, Element, Event};
+use dg_heard::{next_heard, read_column};
+use dg_records::RecordFault;
 use dg_set::Set;
 use std::alloc::{AllocError, Global};
 
@@ -42,7 +42,7 @@ fn push_heard<D: Disk>(
     name_count: u32,
     times: &[u64],
     lists: &mut [Vec<Element>],
-) -> Result<(), RetrievalFault>
+) -> Result<(), RecordFault>
     requires image { IfSome (D.image disk.old) (λ image. IsOpenedAs image index.now.opening) }
     requires empty { AreCollected [] times.now lists.old }
 
@@ -59,7 +59,7 @@ fn push_heard<D: Disk>(
     index.facts();
     let mut from = 0;
     while let Some(list) = next_heard(index, from, times) {
-        let events = read_list(alloc, index, disk, name_count, list)?;
+        let events = read_column(alloc, index, disk, name_count, list, Column::Transient)?;
         push_all(lists, &events, times)?;
         from = list + 1;
     }
@@ -79,7 +79,7 @@ pub fn messages<D: Disk>(
     name_count: u32,
     recent: &[Event],
     times: &[u64],
-) -> Result<Vec<Set>, RetrievalFault>
+) -> Result<Vec<Set>, RecordFault>
     requires image { IfSome (D.image disk.old) (λ image. IsOpenedAs image index.now.opening) }
 
     // what it gives
@@ -117,7 +117,7 @@ pub(crate) fn messages_once<D: Disk>(
     name_count: u32,
     recent: &[Event],
     times: &[u64],
-) -> Result<Heard, RetrievalFault>
+) -> Result<Heard, RecordFault>
     requires image { IfSome (D.image disk.old) (λ image. IsOpenedAs image index.now.opening) }
 
     // what it gives

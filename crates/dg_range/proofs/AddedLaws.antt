@@ -29,9 +29,9 @@ use Rattle.dg_graph.specs.declared.event.Body.TheVariants as body
 use Rattle.dg_graph.specs.declared.event.Event.{Event}
 use Rattle.dg_graph.specs.declared.placed.Placed.{Placed}
 use Rattle.dg_graph.proofs.Sets.{IsSet-filter, IsSet-unioned, element_exact, has-filter, has-unioned, same_members}
-use Rattle.dg_heard.specs.Heard.{events_or}
 use Rattle.dg_heard.proofs.KeptLists.{IsKept, each_list}
 use Rattle.dg_heard.proofs.ToldLists.{list_rises, lists_whole}
+use Rattle.dg_heard.specs.ListColumns.{events_or, events_at}
 use Rattle.dg_history.specs.EventTimes.{RisesFrom}
 use Rattle.dg_history.specs.declared.node.Key.TheVariants.{List}
 use Rattle.dg_history.specs.History.{History, events_of, first_time_of, last_time_from, names_of}
@@ -48,7 +48,6 @@ use Rattle.dg_index.proofs.IndexRecordColumns.{Each}
 use Rattle.dg_range.specs.Added.{asked_columns, range_columns}
 use Rattle.dg_range.specs.AddedLaw.{ImagesHaveAdded}
 use Rattle.dg_range.specs.ColumnRuns.{and_more, before_more, events_along}
-use Rattle.dg_range.specs.ListColumns.{events_at}
 use Rattle.dg_range.specs.Ranges.{meets}
 
 -- ---- the column of a list

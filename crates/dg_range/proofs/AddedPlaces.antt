@@ -14,7 +14,7 @@ use Rattle.dg_graph.specs.declared.element.Element.{Element}
 use Rattle.dg_graph.specs.declared.event.Event.{Event}
 use Rattle.dg_index.specs.Hierarchy.{numbers}
 use Rattle.dg_range.specs.Added.{asked_columns, following, list_columns, place_after}
-use Rattle.dg_retrieval.specs.NamesThere.{BodyHasNamesThere, EventNamesAreThere}
+use Rattle.dg_records.specs.EventNames.{BodyHasNamesThere, EventNamesAreThere}
 
 -- the columns behind one
 abbrev columns_behind : Column → ListOf Column

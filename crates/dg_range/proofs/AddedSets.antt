@@ -18,7 +18,8 @@ use Rattle.dg_graph.specs.declared.event.Body.{Body}
 use Rattle.dg_graph.specs.declared.event.Body.TheVariants as body
 use Rattle.dg_graph.specs.declared.event.Event.{Event}
 use Rattle.dg_graph.proofs.Sets.{IsSet-filter, IsSet-unioned, element_exact, has-filter, has-put, has-unioned, same_members}
-use Rattle.dg_retrieval.specs.NamesThere.{BodyHasNamesThere, EventNamesAreThere, HasNamesThere, NamesAreThere}
+use Rattle.dg_records.specs.EventNames.{BodyHasNamesThere, EventNamesAreThere}
+use Rattle.dg_retrieval.specs.NamesThere.{HasNamesThere, NamesAreThere}
 
 -- a part of a list, as a set, is that part of the set
 pub part_of_set : (p : Element → Bool) (xs : ListOf Element) → unioned [] (filter p xs) ≡ filter p (unioned [] xs)

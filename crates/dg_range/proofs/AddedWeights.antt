@@ -9,12 +9,12 @@ use Rattle.dg_graph.specs.declared.element.Column.{Column}
 use Rattle.dg_graph.specs.declared.element.Column.TheVariants.{Structure, NodeAttr, EdgeAttr, Transient}
 use Rattle.dg_graph.specs.declared.element.Columns.{Columns}
 use Rattle.dg_history.specs.declared.node.Key.TheVariants as key
+use Rattle.dg_heard.specs.ListColumns.{bytes_at}
 use Rattle.dg_history.specs.Keys.{same_key}
 use Rattle.dg_index.specs.declared.entry.Entry.{Entry}
 use Rattle.dg_index.specs.OpenedIndex.{Opening, entry_or_none}
 use Rattle.dg_range.specs.Added.{asked_columns, list_columns}
 use Rattle.dg_range.specs.ColumnRuns.{bytes_along}
-use Rattle.dg_range.specs.ListColumns.{bytes_at}
 use Rattle.dg_range.specs.Weights.{bytes_if, list_bytes}
 
 -- of one list

@@ -1,39 +1,31 @@
 -- Columns of lists, read one after another: what is read so far, then the rest, is all.
-use Rattle.std.proofs.Common.{◌≡◌, ℕ, suc, ◌+◌, ◌-◌, ◌<◌, ◌≤◌, List as ListOf, [], ◌∷◌, ◌++◌, Option, Some, None, Result, Ok, Err, refl, sym, ap, ◌∙◌, subst, append_assoc, arith}
+use Rattle.std.proofs.Common.{◌≡◌, ℕ, ◌+◌, List as ListOf, [], ◌∷◌, ◌++◌, Option, Some, None, Result, Ok, Err, refl, sym, ap, ◌∙◌, subst, append_assoc, arith}
 use Rattle.std.specs.Prelude.{IfSome, IfOk, IsErr, IsErrAnd}
 use Rattle.std.proofs.lemmas.Bool.{false≢true}
 use Rattle.std.proofs.lemmas.List.Sums.{sum_by-cons}
-use Rattle.dg_fold.specs.BytesRead.{Takes, TakesAtMost}
 use Rattle.dg_graph.specs.declared.element.Column.{Column}
-use Rattle.dg_graph.specs.declared.element.Column.TheVariants.{NodeAttr}
 use Rattle.dg_graph.specs.declared.event.Event.{Event}
 use Rattle.dg_index.specs.OpenedIndex.{Opening}
-use Rattle.dg_range.specs.ColumnRuns.{TakesColumns, TellsColumnDamage, and_more, before_more, bytes_along, events_along, node_columns}
-use Rattle.dg_range.specs.ListColumns.{IsColumnRead, bytes_at, events_at}
-use Rattle.dg_range.proofs.ListColumns.{both_told, takes_less, told_so}
-use Rattle.dg_retrieval.specs.declared.fault.RetrievalFault.{RetrievalFault}
-use Rattle.dg_retrieval.specs.declared.fault.RetrievalFault.TheVariants as fault
-
--- ---- the columns of node attributes from a number on
-
-pub columns_next : (from total : ℕ) → from < total → node_columns from (total - from) ≡ (from, NodeAttr) ∷ node_columns (from + 1) (total - (from + 1))
-columns_next from total lt = ap (node_columns from) (let e : total - from ≡ suc (total - (from + 1)) = omega (arith, lt) in e)
-
-pub columns_end : (from total : ℕ) → total ≤ from → node_columns from (total - from) ≡ []
-columns_end from total le = ap (node_columns from) (let e : total - from ≡ 0 = omega (arith, le) in e)
-
-pub columns_all : (total : ℕ) → node_columns 0 (total - 0) ≡ node_columns 0 total
-columns_all total = ap (node_columns 0) (let e : total - 0 ≡ total = omega arith in e)
+use Rattle.dg_range.specs.ColumnRuns.{TakesColumns, TellsColumnDamage, and_more, before_more, bytes_along, events_along}
+use Rattle.dg_heard.specs.ListColumns.{IsColumnRead, bytes_at, events_at}
+use Rattle.dg_heard.proofs.ListColumns.{both_told, takes_less, told_so}
+use Rattle.dg_records.specs.ColumnReads.{Takes, TakesAtMost}
+use Rattle.dg_records.specs.declared.fault.RecordFault.{RecordFault}
+use Rattle.dg_records.specs.declared.fault.RecordFault.TheVariants as fault
 
 -- ---- events behind events
 
-more_none : (r : Result (ListOf Event) (ℕ × Column)) → and_more [] r ≡ r
+pub more_none : (r : Result (ListOf Event) (ℕ × Column)) → and_more [] r ≡ r
 more_none (Ok events) = refl
 more_none (Err p) = refl
 
-more_more : (events more : ListOf Event) (r : Result (ListOf Event) (ℕ × Column)) → and_more events (and_more more r) ≡ and_more (events ++ more) r
+pub more_more : (events more : ListOf Event) (r : Result (ListOf Event) (ℕ × Column)) → and_more events (and_more more r) ≡ and_more (events ++ more) r
 more_more events more (Ok rest) = ap (λ l. Ok l) (sym (append_assoc events more rest))
 more_more events more (Err p) = refl
+
+pub append_none : (l : ListOf Event) → l ++ [] ≡ l
+append_none [] = refl
+append_none (e ∷ l) = ap (λ m. e ∷ m) (append_none l)
 
 -- ---- what is read so far
 
@@ -47,10 +39,10 @@ pub record ReadSoFar (names : ℕ) (told : Option (ListOf ℕ)) (o : Opening) (a
   pub takes : IfSome told (λ image. Takes count before now)
   pub bytes : count + bytes_along o rest ≡ bytes_along o all
 
-takes_none : (n : ℕ) → Takes 0 n n
+pub takes_none : (n : ℕ) → Takes 0 n n
 takes_none n = refl
 
-always : (told : Option (ListOf ℕ)) (P : ListOf ℕ → Type 0) → ((image : ListOf ℕ) → P image) → IfSome told P
+pub always : (told : Option (ListOf ℕ)) (P : ListOf ℕ → Type 0) → ((image : ListOf ℕ) → P image) → IfSome told P
 always None P f = tt
 always (Some image) P f = f image
 
@@ -114,10 +106,6 @@ module _ (names : ℕ) (told : Option (ListOf ℕ)) (o : Opening) (all : ListOf 
     all_read =
         told_so told (λ image. events_along names image o all ≡ and_more h.events (events_along names image o rest)) (λ image. events_along names image o all ≡ Ok h.events)
         (λ image is. is ∙ ap (λ l. and_more h.events (events_along names image o l)) end ∙ ap (λ l. Ok l) (append_none h.events)) h.read
-      where
-        append_none : (l : ListOf Event) → l ++ [] ≡ l
-        append_none [] = refl
-        append_none (e ∷ l) = ap (λ m. e ∷ m) (append_none l)
 
     pub all_taken : IfSome told (λ image. Takes (bytes_along o all) before now)
     all_taken =
@@ -130,12 +118,12 @@ module _ (names : ℕ) (told : Option (ListOf ℕ)) (o : Opening) (all : ListOf 
 abbrev pub HandsOn : {A E : Type 0} → Result A E → E → Type 0
 HandsOn r fault = IsErr r × IsErrAnd r (λ y. y ≡ fault)
 
-pub takes_fails : {A : Type 0} (told : Option (ListOf ℕ)) (o : Opening) (ps : ListOf (ℕ × Column)) (before after : ℕ) (r : Result A RetrievalFault) → IsErr r
+pub takes_fails : {A : Type 0} (told : Option (ListOf ℕ)) (o : Opening) (ps : ListOf (ℕ × Column)) (before after : ℕ) (r : Result A RecordFault) → IsErr r
     → IfSome told (λ image. TakesAtMost (bytes_along o ps) before after) → IfSome told (λ image. TakesColumns o ps before after r)
 takes_fails told o ps before after r err most =
     told_so told (λ image. TakesAtMost (bytes_along o ps) before after) (λ image. TakesColumns o ps before after r) (λ image most. record { takes = by r err; most = most }) most
   where
-    by : {A : Type 0} (r : Result A RetrievalFault) → IsErr r → IfOk r (λ x. Takes (bytes_along o ps) before after)
+    by : {A : Type 0} (r : Result A RecordFault) → IsErr r → IfOk r (λ x. Takes (bytes_along o ps) before after)
     by (Ok x) err = absurd (false≢true err)
     by (Err f) err = tt
 
@@ -148,7 +136,7 @@ takes_done {A = A} told o ps before after x all =
 module _ (A : Type 0) (names : ℕ) (told : Option (ListOf ℕ)) (o : Opening) (all rest left : ListOf (ℕ × Column)) (i : ℕ) (col : Column) (kept : ListOf Event → Type 0) (before now : ℕ)
     (h : ReadSoFar names told o all rest kept before now) (next : rest ≡ (i, col) ∷ left) where
   -- where the next column was not read
-  damage_told : (f : RetrievalFault) → IfSome told (λ image. IsColumnRead names image o i col (Err f)) → IfSome told (λ image. TellsColumnDamage {A = A} names o all image (Err f))
+  damage_told : (f : RecordFault) → IfSome told (λ image. IsColumnRead names image o i col (Err f)) → IfSome told (λ image. TellsColumnDamage {A = A} names o all image (Err f))
   damage_told fault.Disk read = always told (λ image. Unit {0}) (λ image. tt)
   damage_told fault.Memory read = always told (λ image. Unit {0}) (λ image. tt)
   damage_told (fault.Damaged k c) read =
@@ -157,6 +145,6 @@ module _ (A : Type 0) (names : ℕ) (told : Option (ListOf ℕ)) (o : Opening) (
       (next_damaged names told o all rest left i col kept before now h next
       (told_so told (λ image. IsColumnRead names image o i col (Err (fault.Damaged k c))) (λ image. events_at names image o i col ≡ Err i) (λ image one. one.0) read)) read
 
-  pub damage_fails : (r : Result A RetrievalFault) (f : RetrievalFault) → HandsOn r f → IfSome told (λ image. IsColumnRead names image o i col (Err f)) → IfSome told (λ image. TellsColumnDamage names o all image r)
+  pub damage_fails : (r : Result A RecordFault) (f : RecordFault) → HandsOn r f → IfSome told (λ image. IsColumnRead names image o i col (Err f)) → IfSome told (λ image. TellsColumnDamage names o all image r)
   damage_fails (Ok x) f on read = absurd on.1
-  damage_fails (Err e) f on read = subst (λ (g : RetrievalFault). IfSome told (λ image. TellsColumnDamage {A = A} names o all image (Err g))) (sym on.1) (damage_told f read)
+  damage_fails (Err e) f on read = subst (λ (g : RecordFault). IfSome told (λ image. TellsColumnDamage {A = A} names o all image (Err g))) (sym on.1) (damage_told f read)

@@ -1,9 +1,10 @@
-pub mod ListColumns
 pub mod ListTimes
 pub mod Weights
 pub mod ListRows
 pub mod ColumnRuns
 pub mod ValueTurns
+pub mod ValueRuns
+pub mod ValueBytes
 pub mod ValueLaws
 pub mod AddedPlaces
 pub mod AddedSets

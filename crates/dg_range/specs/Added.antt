@@ -15,7 +15,7 @@ use Rattle.dg_index.specs.Hierarchy.{numbers}
 use Rattle.dg_index.specs.OpenedIndex.{Opening, entry_at}
 use Rattle.dg_range.specs.ColumnRuns.{events_along}
 use Rattle.dg_range.specs.Ranges.{meets}
-use Rattle.dg_retrieval.specs.NamesThere.{EventNamesAreThere}
+use Rattle.dg_records.specs.EventNames.{EventNamesAreThere}
 
 -- ---- which columns are read
 

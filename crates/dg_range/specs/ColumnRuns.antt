@@ -1,19 +1,15 @@
 -- What columns of lists have, read one after another, each named by its list and itself.
-use Rattle.std.specs.Prelude.{◌≡◌, ℕ, List as ListOf, [], ◌∷◌, ◌++◌, Option, Result, Ok, Err, IfOk, IfSome, map}
+use Rattle.std.specs.Prelude.{◌≡◌, ℕ, List as ListOf, [], ◌∷◌, ◌++◌, Result, Ok, Err, IfOk}
 use Rattle.std.specs.List.{sum_by}
-use Rattle.dg_aux.specs.Turns.{AreAlike, turns_of}
-use Rattle.dg_aux.specs.declared.turns.Turn.{Turn}
-use Rattle.dg_fold.specs.BytesRead.{Takes, TakesAtMost}
+use Rattle.dg_records.specs.ColumnReads.{Takes, TakesAtMost}
 use Rattle.dg_graph.specs.declared.element.Column.{Column}
-use Rattle.dg_graph.specs.declared.element.Column.TheVariants.{NodeAttr}
 use Rattle.dg_graph.specs.declared.event.Event.{Event}
-use Rattle.dg_heard.specs.Heard.{list_total}
+use Rattle.dg_heard.specs.ListColumns.{bytes_at, events_at}
 use Rattle.dg_history.specs.declared.node.Key.TheVariants as key
-use Rattle.dg_index.specs.Hierarchy.{numbers}
+use Rattle.dg_heard.specs.ListColumns.{bytes_at, events_at}
 use Rattle.dg_index.specs.OpenedIndex.{Opening}
-use Rattle.dg_range.specs.ListColumns.{bytes_at, events_at}
-use Rattle.dg_retrieval.specs.declared.fault.RetrievalFault.{RetrievalFault}
-use Rattle.dg_retrieval.specs.declared.fault.RetrievalFault.TheVariants as fault
+use Rattle.dg_records.specs.declared.fault.RecordFault.{RecordFault}
+use Rattle.dg_records.specs.declared.fault.RecordFault.TheVariants as fault
 
 -- the first events and then the others, unless these have damage
 abbrev pub and_more : ListOf Event → Result (ListOf Event) (ℕ × Column) → Result (ListOf Event) (ℕ × Column)
@@ -37,38 +33,17 @@ bytes_along o ps = sum_by (λ (p : ℕ × Column). bytes_at o p.0 p.1) ps
 -- ---- what a call answers that reads them
 
 -- as many bytes are read as the columns have together, and no more where the call fails
-pub record TakesColumns {A : Type 0} (o : Opening) (ps : ListOf (ℕ × Column)) (before after : ℕ) (result : Result A RetrievalFault) : Type 0 where
+pub record TakesColumns {A : Type 0} (o : Opening) (ps : ListOf (ℕ × Column)) (before after : ℕ) (result : Result A RecordFault) : Type 0 where
   pub takes : IfOk result (λ r. Takes (bytes_along o ps) before after)
   pub most : TakesAtMost (bytes_along o ps) before after
 
 -- The fault names the first of the columns that is in no spelling; or a read failed, or memory ran out.
-abbrev pub IsFirstDamage : ℕ → ListOf ℕ → Opening → ListOf (ℕ × Column) → RetrievalFault → Type 0
+abbrev pub IsFirstDamage : ℕ → ListOf ℕ → Opening → ListOf (ℕ × Column) → RecordFault → Type 0
 IsFirstDamage names image o ps fault.Disk = Unit {0}
 IsFirstDamage names image o ps fault.Memory = Unit {0}
 IsFirstDamage names image o ps (fault.Damaged k col) = (p : ℕ × Column) × (events_along names image o ps ≡ Err p) × (k ≡ key.List p.0) × (col ≡ p.1)
 
 -- What a call tells of damage in this image: none where it answers.
-abbrev pub TellsColumnDamage : {A : Type 0} → ℕ → Opening → ListOf (ℕ × Column) → ListOf ℕ → Result A RetrievalFault → Type 0
+abbrev pub TellsColumnDamage : {A : Type 0} → ℕ → Opening → ListOf (ℕ × Column) → ListOf ℕ → Result A RecordFault → Type 0
 TellsColumnDamage names o ps image (Ok r) = (events : ListOf Event) × (events_along names image o ps ≡ Ok events)
 TellsColumnDamage names o ps image (Err f) = IsFirstDamage names image o ps f
-
--- ---- the values of nodes
-
--- the columns of node attributes of the lists from a number on, so many
-abbrev pub node_columns : ℕ → ℕ → ListOf (ℕ × Column)
-node_columns from n = map (λ (i : ℕ). (i, NodeAttr)) (numbers from n)
-
--- those of all lists that the index keeps
-abbrev pub all_node_columns : Opening → ListOf (ℕ × Column)
-all_node_columns o = node_columns 0 (list_total o)
-
--- behind the turns that were there are those of the events that these columns spell in the image
-pub record AreTurnsIn (names : ℕ) (image : Option (ListOf ℕ)) (o : Opening) (name : ℕ) (old new : ListOf Turn) : Type 0 where
-  pub events : ListOf Event
-  pub read : IfSome image (λ bytes. events_along names bytes o (all_node_columns o) ≡ Ok events)
-  pub turns : new ≡ old ++ turns_of name events
-
--- The turns say of each value of the key what those that were there say with those events and the recent ones behind them.
-abbrev pub SaysValuesOf : ℕ → ListOf ℕ → Opening → ListOf Event → ℕ → ListOf Turn → ListOf Turn → Type 0
-SaysValuesOf names image o recent name old new =
-    (events : ListOf Event) × (events_along names image o (all_node_columns o) ≡ Ok events) × AreAlike (old ++ turns_of name (events ++ recent)) new

@@ -1,7 +1,7 @@
 pub mod Ranges
-pub mod ListColumns
 pub mod Weights
 pub mod ColumnRuns
+pub mod ListValues
 pub mod ValueLaw
 pub mod Added
 pub mod AddedLaw

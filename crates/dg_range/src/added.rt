@@ -5,17 +5,18 @@ ghost use Rattle.dg_heard.specs.Heard.{list_total};
 ghost use Rattle.dg_index.specs.Hierarchy.{numbers};
 ghost use Rattle.dg_range.specs.Added.{ArePutIn, IsAddedIn, asked_columns, following, place_after, range_columns};
 ghost use Rattle.dg_range.specs.ColumnRuns.{TakesColumns, TellsColumnDamage};
-ghost use Rattle.dg_retrieval.specs.Calls.{ReadsRecords};
-ghost use Rattle.dg_retrieval.specs.NamesThere.{EventNamesAreThere, NamesAreThere};
+ghost use Rattle.dg_records.specs.Calls.{ReadsRecords};
+ghost use Rattle.dg_records.specs.EventNames.{EventNamesAreThere};
+ghost use Rattle.dg_retrieval.specs.NamesThere.{NamesAreThere};
 
-use crate::column::read_column;
 use crate::lists::lists_between;
 use dg_added::push_added;
 use dg_disk::Disk;
 use dg_event::{asks, column_of};
 use dg_file::Index;
 use dg_graph::{Column, Columns, Event};
-use dg_retrieval::RetrievalFault;
+use dg_heard::read_column;
+use dg_records::RecordFault;
 use dg_set::{Element, Set};
 use std::alloc::Global;
 
@@ -58,7 +59,7 @@ fn push_lists<D: Disk>(
     until: u64,
     cols: Columns,
     put: &mut Vec<Element>,
-) -> Result<(), RetrievalFault>
+) -> Result<(), RecordFault>
     requires ordered { low ≤ high }
     requires there { high ≤ list_total index.now.opening }
     requires image { IfSome (D.image disk.old) (λ image. IsOpenedAs image index.now.opening) }
@@ -100,7 +101,7 @@ pub fn read_added<D: Disk>(
     from: u64,
     until: u64,
     cols: Columns,
-) -> Result<Set, RetrievalFault>
+) -> Result<Set, RecordFault>
     requires image { IfSome (D.image disk.old) (λ image. IsOpenedAs image index.now.opening) }
 
     // what comes in

@@ -3,15 +3,13 @@
 #![tactic(auto)]
 
 mod added;
-mod column;
 mod laws;
 mod lists;
 mod values;
 mod weight;
 
 pub use added::read_added;
-pub use column::read_column;
 pub use laws::{law_images_have_added, law_images_have_values};
 pub use lists::lists_between;
-pub use values::read_values;
+pub use values::{read_values, values_bytes};
 pub use weight::lists_bytes;

@@ -2,24 +2,15 @@
 ghost use Rattle.std.specs.Prelude.{◌≡◌, ◌-◌, ◌<◌, ◌≤◌, ℕ, true, false, filter};
 ghost use Rattle.dg_catalogue.specs.Held.{ends_of};
 ghost use Rattle.dg_catalogue.specs.Points.{ListsRise};
-ghost use Rattle.dg_heard.specs.Heard.{end_before, list_total};
+ghost use Rattle.dg_heard.specs.Heard.{list_total};
 ghost use Rattle.dg_history.specs.declared.node.Key.TheVariants as a_key;
 ghost use Rattle.dg_index.specs.Hierarchy.{numbers};
 ghost use Rattle.dg_index.specs.OpenedIndex.{entry_at};
 ghost use Rattle.dg_range.specs.Ranges.{begins_before, meets};
 
-use dg_catalogue::{Catalogue, leaves};
+use dg_catalogue::Catalogue;
 use dg_file::Index;
-
-// Whether a list is held and has ended before the instant.
-fn has_ended(lists: &Catalogue, list: u32, t: u64) -> bool
-    ensures { result ≡ end_before t (ends_of lists.now list) }
-{
-    match lists.list_ends(list) {
-        Some(ends) => ends.last < t,
-        None => false,
-    }
-}
+use dg_heard::{first_open, list_total};
 
 // Whether a list is held and begins before the instant.
 fn begins_before(lists: &Catalogue, list: u32, t: u64) -> bool
@@ -29,27 +20,6 @@ fn begins_before(lists: &Catalogue, list: u32, t: u64) -> bool
         Some(ends) => ends.first < t,
         None => false,
     }
-}
-
-// The first list that has not ended before the instant, or `to` where each one below it has. No list ends before an
-// earlier one, so it is found by halves.
-fn first_open(lists: &Catalogue, to: u32, t: u64) -> u32
-    requires { ListsRise lists.now }
-    ensures within { result ≤ to }
-    ensures ended { (i : ℕ) → i < result → end_before t (ends_of lists.now i) ≡ true }
-    ensures rest { (i : ℕ) → result ≤ i → i < to → end_before t (ends_of lists.now i) ≡ false }
-{
-    let mut low = 0;
-    let mut high = to;
-    while low < high {
-        let middle = low + (high - low) / 2;
-        if has_ended(lists, middle, t) {
-            low = middle + 1;
-        } else {
-            high = middle;
-        }
-    }
-    low
 }
 
 // The first list from the number `from` on that does not begin before the instant, or `to` where each one below it
@@ -74,15 +44,6 @@ fn first_later(lists: &Catalogue, from: u32, to: u32, t: u64) -> u32
     low
 }
 
-// How many lists the index keeps.
-pub(crate) fn list_total(index: &Index) -> u32
-    ensures { result ≡ list_total index.now.opening }
-{
-    // Its clauses tell that the parameters are those of an index.
-    index.facts();
-    leaves(index.params(), index.events_len())
-}
-
 /// The lists that may have an event from the instant `from` on and before `until`: those from the first number on and
 /// before the second. Two searches by halves among the lists.
 pub fn lists_between(index: &Index, from: u64, until: u64) -> (u32, u32)
@@ -95,6 +56,6 @@ pub fn lists_between(index: &Index, from: u64, until: u64) -> (u32, u32)
     }
     let total = list_total(index);
     let lists = index.catalogue();
-    let low = first_open(lists, total, from);
+    let low = first_open(lists, 0, total, from);
     (low, first_later(lists, low, total, until))
 }

@@ -1,25 +1,31 @@
 -- What is read of a record has numbers of names that can be spelled, as many events as are due, and times that do not fall.
-use Rattle.std.proofs.Common.{◌≡◌, ℕ, zero, suc, ◌+◌, ◌<◌, ◌≤◌, ◌^◌, Bool, true, false, List, [], ◌∷◌, ◌++◌, Option, Some, None, if◌then◌else◌, length, map, find, refl, ap, subst, arith}
-use Rattle.std.specs.Prelude.{IfSome, ◌==◌, is_some, nat_le, option_and_then}
+use Rattle.std.proofs.Common.{◌≡◌, ℕ, zero, suc, ◌+◌, ◌<◌, ◌≤◌, ◌^◌, Bool, true, false, List, [], ◌∷◌, ◌++◌, Option, Some, None, Result, Ok, Err, if◌then◌else◌, length, map, find, refl, sym, ap, subst, ◌∙◌, arith}
+use Rattle.std.specs.Prelude.{IfErr, IfOk, IfSome, ◌==◌, nat_le, option_and_then}
+use Rattle.std.specs.Global.{Vec}
 use Rattle.std.specs.List.{All}
 use Rattle.std.specs.Option.{option_map}
 use Rattle.std.proofs.lemmas.List.Elements.{All-nil, All-cons, All-head, All-tail, All-append}
-use Rattle.std.specs.Map.{lookup}
 use Rattle.std.proofs.lemmas.Bool.{and_parts, leb-true}
 use Rattle.dg_columns.specs.NamesInRange.{NamesFit}
 use Rattle.dg_columns.specs.Ranges.{BodyFits, EventsFit}
-use Rattle.dg_retrieval.specs.NamesThere.{BodyHasNamesThere, EventNamesAreThere}
 use Rattle.dg_graph.specs.declared.event.Body.{Body}
 use Rattle.dg_graph.specs.declared.event.Body.TheVariants as body
 use Rattle.dg_graph.specs.declared.event.Event.{Event}
 use Rattle.dg_graph.specs.declared.placed.Placed.{Placed}
+use Rattle.dg_history.specs.EventTimes.{RisesFrom}
+use Rattle.dg_graph.specs.ColumnMerge.{at_positions, if_never_fall, merged, never_fall}
 use Rattle.dg_graph.specs.declared.element.Column.{Column}
 use Rattle.dg_history.specs.declared.node.Key.{Key}
-use Rattle.dg_history.specs.Keys.{same_key}
-use Rattle.dg_history.specs.EventTimes.{RisesFrom}
-use Rattle.dg_index.specs.declared.entry.Entry.{Entry}
-use Rattle.dg_index.specs.OpenedIndex.{Opening, column_at, entry_at, entry_or_none}
-use Rattle.dg_graph.specs.ColumnMerge.{at_positions, if_never_fall, merged, never_fall}
+use Rattle.dg_index.specs.OpenedIndex.{Opening}
+use Rattle.dg_records.specs.Calls.{IsPlacedRead}
+use Rattle.dg_records.specs.EventNames.{BodyHasNamesThere, EventNamesAreThere}
+use Rattle.dg_records.specs.declared.fault.RecordFault.{RecordFault}
+use Rattle.dg_records.specs.declared.fault.RecordFault.TheVariants as fault
+use Rattle.dg_start.specs.declared.fault.StartFault.TheVariants as start_fault
+use Rattle.dg_start.specs.EventSources.{WhereTold}
+use Rattle.dg_start.specs.Faults.{start_fault_of}
+use Rattle.dg_start.specs.RecentEvents.{placed_in_record, spelled_or_fault}
+use Rattle.dg_start.specs.Refusals.{IsReason}
 
 -- what an event of a column changes can be spelled with so many names
 abbrev pub PlacedFits : ℕ → Placed → Type 0
@@ -141,10 +147,16 @@ module _ (names : ℕ) where
 
 -- ---- a column of a record
 
-pub column_there : (image bytes : List ℕ) (o : Opening) (k : Key) (col : Column) → is_some (lookup (same_key k) o.records) ≡ true
-    → IfSome (lookup (same_key k) o.records) (λ e. bytes ≡ column_at image e col) → bytes ≡ column_at image (entry_at o k) col
-column_there image bytes o k col held is = by (lookup (same_key k) o.records) held is
-  where
-    by : (e : Option Entry) → is_some e ≡ true → IfSome e (λ e. bytes ≡ column_at image e col) → bytes ≡ column_at image (entry_or_none e) col
-    by None h is = cc
-    by (Some e) h is = is
+-- what was read of a column, as a start says it
+pub placed_read : (names : ℕ) (told : Option (List ℕ)) (o : Opening) (k : Key) (col : Column) (r : Result (Vec Placed) RecordFault) → WhereTold told (λ image. IsPlacedRead names image o k col r)
+    → IfOk r (λ placed. WhereTold told (λ image. placed_in_record image names o k col ≡ Ok placed.items))
+placed_read names told o k col (Err f) h = tt
+placed_read names told o k col (Ok placed) h = λ image is. ap (spelled_or_fault k col) (h image is)
+
+-- or why it was not
+pub placed_refused : (names : ℕ) (told : Option (List ℕ)) (o : Opening) (k : Key) (col : Column) (r : Result (Vec Placed) RecordFault) → WhereTold told (λ image. IsPlacedRead names image o k col r)
+    → IfErr r (λ f. WhereTold told (λ image. IsReason (start_fault_of f) (placed_in_record image names o k col)))
+placed_refused names told o k col (Ok placed) h = tt
+placed_refused names told o k col (Err fault.Disk) h = λ image is. tt
+placed_refused names told o k col (Err fault.Memory) h = λ image is. tt
+placed_refused names told o k col (Err (fault.Damaged key c)) h = λ image is. let read = h image is in ap (spelled_or_fault k col) read.1 ∙ sym (λ i. Err (start_fault.BadRecord (read.2 i) (read.3 i)))

@@ -8,7 +8,6 @@ use Rattle.std.proofs.lemmas.List.Elements.{All-head, All-tail}
 use Rattle.std.proofs.lemmas.List.Sums.{sum_by-cons}
 use Rattle.dg_disk.specs.Counts.{raised_by}
 use Rattle.dg_file.specs.Images.{taken_after}
-use Rattle.dg_fold.specs.BytesRead.{Takes, TakesAtMost, asked_length, kept_in, read_of}
 use Rattle.dg_fold.proofs.ColumnFronts.{history_read}
 use Rattle.dg_graph.specs.declared.element.Column.{Column}
 use Rattle.dg_graph.specs.declared.element.Column.TheVariants.{Structure, NodeAttr, EdgeAttr, Transient}
@@ -22,8 +21,8 @@ use Rattle.dg_index.specs.OpenedIndex.{Opening, column_at, entry_at, entry_or_no
 use Rattle.dg_index.proofs.OpenedIndexRecords.{IsTold, lengths_in, told_at}
 use Rattle.dg_index.proofs.IndexRecordColumns.{columns_are_kept}
 use Rattle.dg_plan.specs.HistoryGraph.{all_columns}
+use Rattle.dg_records.specs.ColumnReads.{Takes, TakesAtMost, asked_length, kept_in, read_of, TakesOrFails}
 use Rattle.dg_start.specs.declared.event_source.EventSource.{EventSource}
-use Rattle.dg_start.specs.Calls.{TakesOrFails}
 use Rattle.dg_start.specs.EventSources.{CanBeRead, bytes_in_sources, source_of, sources_in}
 use Rattle.dg_start.specs.RecentEvents.{Source, recent_sources}
 use Rattle.dg_start.specs.SessionStart.{recent_bytes}

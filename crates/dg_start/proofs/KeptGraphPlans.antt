@@ -5,7 +5,7 @@ use Rattle.std.specs.List.{All, Contains, flat_map}
 use Rattle.std.proofs.lemmas.List.Elements.{All-append, All-contains, All-filter, All-from_recursion, All-head, All-map, All-nil, All-tail}
 use Rattle.dg_delta.specs.Deltas.{composed}
 use Rattle.dg_delta.proofs.Deltas.{applies_each_in_turn, says-composed}
-use Rattle.dg_fold.specs.BytesRead.{AreParts, ColumnBytes, kept_in, named_along, named_by}
+use Rattle.dg_fold.specs.BytesRead.{AreParts, named_along, named_by}
 use Rattle.dg_fold.specs.declared.part.Part.{Part}
 use Rattle.dg_fold.specs.HistoryPaths.{IsGraphOf}
 use Rattle.dg_fold.specs.HistoryTrees.{KeepsKey}
@@ -36,6 +36,7 @@ use Rattle.dg_index.proofs.OpenedIndexRecords.{record_held}
 use Rattle.dg_index.proofs.OpenedIndexHistories.{IsBehind, large_parameters}
 use Rattle.dg_plan.specs.declared.edge.Edge.{Edge}
 use Rattle.dg_plan.specs.declared.edge.Via.{Via}
+use Rattle.dg_records.specs.ColumnReads.{ColumnBytes, kept_in}
 use Rattle.dg_plan.specs.declared.edge.Via.TheVariants as via
 use Rattle.dg_plan.specs.declared.edge.Way.{Way}
 use Rattle.dg_plan.specs.HistoryGraph.{all_columns}

@@ -14,4 +14,3 @@ pub mod RecentEventTimes
 pub mod SessionStartHistory
 pub mod EventSourceTests
 pub mod EventSourceOutcomes
-mod ColumnFronts

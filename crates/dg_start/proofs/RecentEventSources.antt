@@ -2,8 +2,8 @@
 use Rattle.std.proofs.Common.{◌≡◌, ℕ, ◌+◌, ◌<◌, ◌≤◌, List, [], ◌∷◌, ◌++◌, Option, Some, Result, Ok, Err, length, map, take, drop, get_or, refl, sym, ◌∙◌, ap, subst, arith, append_assoc, append-nil, take-append-drop}
 use Rattle.std.proofs.lemmas.List.{length-map, drop-map, drop_all, drop_more, map-append, take-map, take_all, take_more}
 use Rattle.std.proofs.lemmas.List.Sums.{sum_by-append, sum_by-cons}
-use Rattle.dg_fold.specs.BytesRead.{Takes, TakesAtMost, asked_length, kept_in}
 use Rattle.dg_graph.specs.ColumnMerge.{merged}
+use Rattle.dg_records.specs.ColumnReads.{Takes, TakesAtMost, asked_length, kept_in}
 use Rattle.dg_graph.specs.declared.element.Column.TheVariants as column
 use Rattle.dg_graph.specs.declared.event.Event.{Event}
 use Rattle.dg_graph.specs.declared.placed.Placed.{Placed}
@@ -15,8 +15,8 @@ use Rattle.dg_plan.specs.HistoryGraph.{all_columns}
 use Rattle.dg_start.specs.declared.event_source.EventSource.{EventSource}
 use Rattle.dg_start.specs.declared.fault.StartFault.{StartFault}
 use Rattle.dg_start.specs.declared.fault.StartFault.TheVariants as fault
+use Rattle.dg_records.specs.ColumnReads.{TakesOrFails}
 use Rattle.dg_start.specs.RecentEvents.{Source, and_start, events_in_source, events_in_sources, merged_or_fault, placed_in_record}
-use Rattle.dg_start.specs.Calls.{TakesOrFails}
 use Rattle.dg_start.specs.EventSources.{ArePartedBy, WhereTold, bounded, bytes_in_sources, source_of, sources_in}
 use Rattle.dg_start.specs.Refusals.{IsReason}
 use Rattle.dg_start.proofs.EventSourceBytes.{HandsOn, fails_with, takes_both, takes_part, takes_then}

@@ -18,12 +18,14 @@ use Rattle.dg_index.specs.OpenedIndex.{Unopened, No_index, Opened, Opening, open
 use Rattle.dg_index.proofs.OpenedIndexHistories.{images_are_opened}
 use Rattle.dg_columns.specs.NamesInRange.{NamesFit}
 use Rattle.dg_current.specs.Now.{NowState}
-use Rattle.dg_retrieval.specs.NamesThere.{BodyHasNamesThere, EventNamesAreThere, NamesAreThere}
+use Rattle.dg_records.specs.EventNames.{BodyHasNamesThere, EventNamesAreThere}
+use Rattle.dg_retrieval.specs.NamesThere.{NamesAreThere}
 use Rattle.dg_retrieval.specs.NodeSets.{IsIndexOver}
 use Rattle.dg_retrieval.specs.ValueRange.{ValuesFit}
 use Rattle.dg_start.specs.declared.fault.StartFault.{StartFault}
 use Rattle.dg_start.specs.declared.fault.StartFault.TheVariants as fault
-use Rattle.dg_start.specs.Calls.{StartsAsItStands, TakesAlongPlan, TakesOrFails, TakesStart, current_bytes, plan_bytes}
+use Rattle.dg_records.specs.ColumnReads.{TakesOrFails}
+use Rattle.dg_start.specs.Calls.{StartsAsItStands, TakesAlongPlan, TakesStart, current_bytes, plan_bytes}
 use Rattle.dg_start.specs.SessionStart.{PlansLastLeaf, RefusesStart, Started, Starts, StartsBy, recent_bytes, start_bytes, started_with}
 use Rattle.dg_stored.specs.StoredHistory.{AreCounted, IsSoundHistory, KeepsHistory, MayGoOn}
 use Rattle.dg_start.proofs.EventSourceBytes.{HandsOn, call_then, fails_with, takes_after, takes_part, takes_raised}

@@ -2,7 +2,6 @@
 use Rattle.std.proofs.Common.{◌≡◌, ℕ, ◌≤◌, true, List, Option, Some, None, Result, Ok, Err, length, sym, ◌∙◌, ap, subst, arith}
 use Rattle.std.specs.Prelude.{IfSome}
 use Rattle.std.specs.List.{All}
-use Rattle.dg_fold.specs.BytesRead.{Takes, TakesAtMost}
 use Rattle.dg_graph.specs.declared.element.Element.{Element}
 use Rattle.dg_graph.specs.declared.event.Event.{Event}
 use Rattle.dg_graph.specs.Graph.{IsGraph}
@@ -12,6 +11,7 @@ use Rattle.dg_index.specs.declared.entry.Ends.{Ends}
 use Rattle.dg_index.specs.OpenedIndex.{Opened, Opening, Unopened, earliest_in, last_list, opening}
 use Rattle.dg_index.specs.IndexGrowth.{AreInTurn}
 use Rattle.dg_index.proofs.OpenedIndexHistories.{large_parameters}
+use Rattle.dg_records.specs.ColumnReads.{Takes, TakesAtMost}
 use Rattle.dg_retrieval.specs.NodeSets.{IsLedByPlan}
 use Rattle.dg_start.specs.declared.event_source.EventSource.{EventSource}
 use Rattle.dg_start.specs.declared.fault.StartFault.{StartFault}

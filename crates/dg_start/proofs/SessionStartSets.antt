@@ -4,7 +4,6 @@ use Rattle.std.specs.Prelude.{IfSome}
 use Rattle.std.specs.List.{Contains}
 use Rattle.std.proofs.lemmas.List.Elements.{Contains-append_left}
 use Rattle.std.proofs.lemmas.Option.{IfSome_then}
-use Rattle.dg_fold.specs.BytesRead.{Takes, TakesAtMost}
 use Rattle.dg_graph.specs.declared.element.Element.{Element}
 use Rattle.dg_history.specs.declared.node.NodeId.{NodeId}
 use Rattle.dg_history.specs.declared.node.NodeId.TheVariants.{Leaf, List, Root}
@@ -15,13 +14,15 @@ use Rattle.dg_plan.specs.declared.edge.Edge.{Edge}
 use Rattle.dg_plan.specs.IndexGraph.{arcs_of, inner_nodes, leaf}
 use Rattle.dg_plan.specs.Walks.{IsPlan, weight_of}
 use Rattle.dg_plan.proofs.IndexGraphReachability.{contains_mapped, contains_number}
-use Rattle.dg_retrieval.specs.declared.fault.RetrievalFault.{RetrievalFault}
-use Rattle.dg_retrieval.specs.declared.fault.RetrievalFault.TheVariants as retrieval_fault
+use Rattle.dg_records.specs.ColumnReads.{Takes, TakesAtMost}
+use Rattle.dg_records.specs.declared.fault.RecordFault.{RecordFault}
+use Rattle.dg_records.specs.declared.fault.RecordFault.TheVariants as retrieval_fault
+use Rattle.dg_records.specs.ColumnReads.{TakesOrFails}
 use Rattle.dg_retrieval.specs.Calls.{GivesSetOver, TellsPlan}
 use Rattle.dg_retrieval.specs.KeptGraph.{record_edges, record_ground, record_nodes}
 use Rattle.dg_retrieval.specs.NodeSets.{IsIndexOver}
 use Rattle.dg_start.specs.declared.fault.StartFault.{StartFault}
-use Rattle.dg_start.specs.Calls.{TakesAlongPlan, TakesOrFails, plan_bytes}
+use Rattle.dg_start.specs.Calls.{TakesAlongPlan, plan_bytes}
 use Rattle.dg_start.specs.Faults.{start_fault_of}
 use Rattle.dg_start.specs.Refusals.{RefusesPlan}
 use Rattle.dg_start.specs.SessionStart.{PlansLastLeaf, last_leaf, lists_in}
@@ -44,11 +45,11 @@ leaf_there o = by (lists_in o) refl
         (suc there.0, (let h = there.1 in omega arith), there.2)
 
 -- why there is no set
-pub refused_so : (told : Option (ListOf ℕ)) (names : ℕ) (o : Opening) (node : NodeId) (f : RetrievalFault) → node ≡ last_leaf o → IfSome told (λ image. TellsPlan names image o node (Err f))
+pub refused_so : (told : Option (ListOf ℕ)) (names : ℕ) (o : Opening) (node : NodeId) (f : RecordFault) → node ≡ last_leaf o → IfSome told (λ image. TellsPlan names image o node (Err f))
     → IfSome told (λ image. RefusesPlan names image o (start_fault_of f))
 refused_so told names o node f is telling = IfSome_then told telling (λ image h. of_fault image f (subst (λ (n : NodeId). TellsPlan names image o n (Err f)) is h))
   where
-    of_fault : (image : ListOf ℕ) (f : RetrievalFault) → TellsPlan names image o (last_leaf o) (Err f) → RefusesPlan names image o (start_fault_of f)
+    of_fault : (image : ListOf ℕ) (f : RecordFault) → TellsPlan names image o (last_leaf o) (Err f) → RefusesPlan names image o (start_fault_of f)
     of_fault image retrieval_fault.Disk h = tt
     of_fault image retrieval_fault.Memory h = tt
     of_fault image (retrieval_fault.Damaged key col) h = h
@@ -80,7 +81,7 @@ module _ (told : Option (ListOf ℕ)) (o : Opening) (count : ℕ) (edges : ListO
       subst (λ (es : ListOf Edge). P es steps) edges_are
       (h steps (subst (λ (es : ListOf Edge). Along es node steps) (sym edges_are) (subst (λ (n : NodeId). Along (record_edges o) n steps) (sym node_is) plan)))
 
-  pub set_fails : {A : Type 0} (r : Result A StartFault) (f : StartFault) (g : RetrievalFault) → HandsOn r f
+  pub set_fails : {A : Type 0} (r : Result A StartFault) (f : StartFault) (g : RecordFault) → HandsOn r f
       → IfSome told (λ image. (z : History) → IsIndexOver z image o count → GivesSetOver z edges node a b (Err g))
       → IfSome told (λ image. TakesAlongPlan r (plan_bytes o) image o count a b)
   set_fails r f g given h =

@@ -1,8 +1,8 @@
 -- An image comes to one start.
 use Rattle.std.proofs.Common.{◌≡◌, ℕ, List as ListOf, [], ◌∷◌, Option, Some, None, Result, Ok, Err, length, refl, sym, ◌∙◌, ap, subst}
-use Rattle.dg_fold.specs.BytesRead.{AreParts, ColumnBytes, IsPartOf, asked_column, kept_in, named_along}
+use Rattle.dg_fold.specs.BytesRead.{AreParts, IsPartOf, named_along}
 use Rattle.dg_fold.specs.declared.part.Part.{Part}
-use Rattle.dg_fold.specs.Parts.{and_then, beside, is_events, fault_named, graph_columns, part_column_in, deltas_in_part, parts_in, record_in}
+use Rattle.dg_fold.specs.Parts.{and_then, beside, fault_named, graph_columns, part_column_in, deltas_in_part, parts_in, record_in}
 use Rattle.dg_fold.specs.PathIndependence.{taken}
 use Rattle.dg_plan.specs.TreePaths.{edges_at}
 use Rattle.dg_graph.specs.declared.element.Column.{Column}
@@ -23,6 +23,7 @@ use Rattle.dg_plan.specs.declared.edge.Way.{Way}
 use Rattle.dg_plan.specs.HistoryGraph.{all_columns}
 use Rattle.dg_plan.specs.IndexGraph.{arcs_of}
 use Rattle.dg_plan.proofs.WalkPlans.{one_plan}
+use Rattle.dg_records.specs.ColumnReads.{ColumnBytes, asked_column, kept_in, is_events}
 use Rattle.dg_retrieval.specs.KeptGraph.{record_edges}
 use Rattle.dg_retrieval.specs.NodeSets.{IsLedByPlan, set_after}
 use Rattle.dg_start.specs.declared.fault.StartFault.{StartFault}

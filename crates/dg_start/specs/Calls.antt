@@ -1,9 +1,8 @@
 -- What the calls of a start answer, and how many bytes each reads.
-use Rattle.std.specs.Prelude.{◌≡◌, ℕ, ◌+◌, true, List, [], Option, Some, Result, Ok, Err, IfSome, length}
+use Rattle.std.specs.Prelude.{◌≡◌, ℕ, ◌+◌, true, List, [], Option, Some, Result, Ok, IfSome, length}
 use Rattle.std.specs.List.{All}
 use Rattle.dg_columns.specs.NamesInRange.{NamesFit}
 use Rattle.dg_file.specs.OpeningBytes.{blank_bytes}
-use Rattle.dg_fold.specs.BytesRead.{Takes, TakesAtMost}
 use Rattle.dg_graph.specs.declared.element.Element.{Element}
 use Rattle.dg_graph.specs.declared.event.Event.{Event}
 use Rattle.dg_history.specs.EventTimes.{RisesFrom}
@@ -13,8 +12,10 @@ use Rattle.dg_index.specs.OpenedIndex.{Opening, opened_of}
 use Rattle.dg_current.specs.Now.{NowState}
 use Rattle.dg_plan.specs.IndexGraph.{arcs_of}
 use Rattle.dg_plan.specs.Walks.{weight_of}
+pub use Rattle.dg_records.specs.ColumnReads.{TakesOrFails}
+use Rattle.dg_records.specs.EventNames.{EventNamesAreThere}
 use Rattle.dg_retrieval.specs.KeptGraph.{record_edges}
-use Rattle.dg_retrieval.specs.NamesThere.{EventNamesAreThere, NamesAreThere}
+use Rattle.dg_retrieval.specs.NamesThere.{NamesAreThere}
 use Rattle.dg_retrieval.specs.NodeSets.{IsIndexOver}
 use Rattle.dg_retrieval.specs.ValueRange.{ValuesFit}
 use Rattle.dg_start.specs.EventSources.{ArePartedBy, WhereTold, bounded}
@@ -24,11 +25,6 @@ use Rattle.dg_start.specs.SessionStart.{PlansLastLeaf, Started, Starts, recent_b
 use Rattle.dg_stored.specs.StoredHistory.{IsHeldBy, IsSoundHistory, KeepsHistory, MayGoOn, recent_count}
 
 -- ---- the bytes read
-
--- The call reads so many bytes, and no more where it fails.
-abbrev pub TakesOrFails : {A E : Type 0} → Result A E → ℕ → ℕ → ℕ → Type 0
-TakesOrFails (Ok x) n before after = Takes n before after
-TakesOrFails (Err fault) n before after = TakesAtMost n before after
 
 -- Over the image of a history, whose index this is, the call reads so many bytes, where these are the steps of the
 -- plan of the last leaf.

@@ -1,7 +1,6 @@
 -- How the recent events are read and tested, one source after another.
 use Rattle.std.specs.Prelude.{◌≡◌, ℕ, ◌+◌, ◌≤◌, ◌<◌, ◌^◌, true, List, [], ◌∷◌, ◌++◌, Option, Some, None, is_some, length, map, take, drop, sum_by}
 use Rattle.std.specs.Map.{lookup}
-use Rattle.dg_fold.specs.BytesRead.{asked_length, kept_in}
 use Rattle.dg_graph.specs.declared.element.Element.{Element}
 use Rattle.dg_graph.specs.declared.event.Event.{Event}
 use Rattle.dg_history.specs.Keys.{same_key}
@@ -9,6 +8,7 @@ use Rattle.dg_history.specs.EventTimes.{RisesFrom}
 use Rattle.dg_index.specs.declared.entry.Ends.{Ends}
 use Rattle.dg_index.specs.OpenedIndex.{Opening}
 use Rattle.dg_plan.specs.HistoryGraph.{all_columns}
+use Rattle.dg_records.specs.ColumnReads.{asked_length, kept_in}
 use Rattle.dg_start.specs.declared.event_source.EventSource.{EventSource}
 use Rattle.dg_start.specs.RecentEvents.{Source, first_wrong_event}
 

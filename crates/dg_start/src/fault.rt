@@ -4,10 +4,9 @@ ghost use Rattle.std.specs.Prelude.{◌≡◌};
 ghost use Rattle.dg_start.specs.declared.fault.StartFault.TheVariants.{Memory};
 
 use dg_current::FromFault;
-use dg_file::FetchFault;
 use dg_graph::Column;
 use dg_history::Key;
-use dg_retrieval::RetrievalFault;
+use dg_records::RecordFault;
 use std::alloc::AllocError;
 use std::fmt;
 use std::fmt::{Display, Formatter};
@@ -62,52 +61,11 @@ pub enum StartFault {
     Memory,
 }
 
-/// Why the events of a record were not read.
-#[derive(Clone, Copy, Debug, PartialEq, Eq, Error)]
-pub enum RecordFault {
-    /// The record has a column that is in no spelling, or its columns do not come together.
-    #[error("damaged in {record}", record = RecordColumn(*.0, *.1))]
-    BadRecord(Key, Column),
-    /// The disk failed.
-    #[error("a call of the disk failed")]
-    Disk,
-    /// Want of memory.
-    #[error("out of memory")]
-    Memory,
-}
-
-impl From<FetchFault> for RecordFault {
-    ghost use Rattle.dg_start.specs.Faults.{record_fault_of_fetch};
-
-    ghost from_gives = { λ read fault. fault ≡ record_fault_of_fetch read };
-
-    fn from(read: FetchFault) -> RecordFault {
-        match read {
-            FetchFault::Disk => RecordFault::Disk,
-            FetchFault::Memory => RecordFault::Memory,
-        }
-    }
-}
-
 impl From<AllocError> for StartFault {
     ghost from_gives = { λ _ fault. fault ≡ Memory };
 
     fn from(_error: AllocError) -> StartFault {
         StartFault::Memory
-    }
-}
-
-impl From<RecordFault> for StartFault {
-    ghost use Rattle.dg_start.specs.Faults.{start_fault_of_record};
-
-    ghost from_gives = { λ read fault. fault ≡ start_fault_of_record read };
-
-    fn from(read: RecordFault) -> StartFault {
-        match read {
-            RecordFault::BadRecord(key, col) => StartFault::BadRecord(key, col),
-            RecordFault::Disk => StartFault::Disk,
-            RecordFault::Memory => StartFault::Memory,
-        }
     }
 }
 
@@ -124,16 +82,16 @@ impl From<FromFault> for StartFault {
     }
 }
 
-impl From<RetrievalFault> for StartFault {
+impl From<RecordFault> for StartFault {
     ghost use Rattle.dg_start.specs.Faults.{start_fault_of};
 
-    ghost from_gives = { λ retrieved fault. fault ≡ start_fault_of retrieved };
+    ghost from_gives = { λ read fault. fault ≡ start_fault_of read };
 
-    fn from(retrieved: RetrievalFault) -> StartFault {
-        match retrieved {
-            RetrievalFault::Damaged(key, col) => StartFault::BadRecord(key, col),
-            RetrievalFault::Disk => StartFault::Disk,
-            RetrievalFault::Memory => StartFault::Memory,
+    fn from(read: RecordFault) -> StartFault {
+        match read {
+            RecordFault::Damaged(key, col) => StartFault::BadRecord(key, col),
+            RecordFault::Disk => StartFault::Disk,
+            RecordFault::Memory => StartFault::Memory,
         }
     }
 }

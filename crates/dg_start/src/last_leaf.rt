@@ -4,7 +4,6 @@ ghost use Rattle.std.specs.Prelude.{◌≡◌, ◌≤◌, ◌+◌, ◌*◌, Ok, 
 ghost use Rattle.dg_disk.specs.Calls.{Fails, ReadsDisk};
 ghost use Rattle.dg_file.specs.Images.{IsOpenedAs};
 ghost use Rattle.dg_history.specs.declared.limits.TheConstants.{EVENTS_MAX};
-ghost use Rattle.dg_retrieval.specs.KeptGraph.{record_edges, record_nodes};
 ghost use Rattle.dg_retrieval.specs.NamesThere.{NamesAreThere};
 ghost use Rattle.dg_retrieval.specs.NodeSets.{IsLedByPlan};
 ghost use Rattle.dg_start.specs.Calls.{TakesAlongPlan, plan_bytes};
@@ -12,14 +11,12 @@ ghost use Rattle.dg_start.specs.Refusals.{RefusesPlan};
 ghost use Rattle.dg_start.specs.SessionStart.{first_recent, last_leaf, lists_in};
 
 use crate::fault::StartFault;
-use dg_catalogue::Shape;
 use dg_disk::Disk;
 use dg_file::Index;
-use dg_history::{NodeId, Params};
-use dg_planner::Planner;
-use dg_retrieval::{ALL_COLUMNS, plan_set};
+use dg_history::NodeId;
+use dg_retrieval::{ALL_COLUMNS, PlannedIndex, plan_set, record_planner};
 use dg_set::Set;
-use std::alloc::{AllocError, Global};
+use std::alloc::Global;
 use std::thread::Threads;
 
 // The number of closed lists.
@@ -47,18 +44,6 @@ fn last_leaf(index: &Index) -> NodeId
         0 => NodeId::Root,
         lists => NodeId::Leaf(lists),
     }
-}
-
-// The graph of the records of an index alone.
-fn planner_of(alloc: Global, index: &Index) -> Result<Planner, AllocError>
-    ensures nodes { IfOk result (λ p. p.nodes ≡ record_nodes index.now.opening) }
-    ensures edges { IfOk result (λ p. p.edges ≡ record_edges index.now.opening) }
-{
-    index.facts();
-    let Params { l, k, .. } = index.params();
-    let events = index.events_len();
-    let shape = Shape { l, k, events };
-    Planner::new(alloc, shape, index.catalogue(), ALL_COLUMNS, &[], false)
 }
 
 /// The graph behind the last closed list, by the records along its plan. The names of the history are so many.
@@ -90,8 +75,16 @@ pub fn last_set<R: Threads + Sync, D: Disk>(
     // what it leaves
     ensures disk { ReadsDisk D.Disk disk.old disk.new }
 {
-    let planner = planner_of(alloc, index)?;
+    let planner = record_planner(alloc, index, ALL_COLUMNS)?;
+    let records = PlannedIndex {
+        alloc,
+        index,
+        name_count: names,
+        recent: &[],
+        planner: &planner,
+        cols: ALL_COLUMNS,
+    };
     let leaf = last_leaf(index);
-    let set = plan_set(rt, alloc, index, disk, names, &planner, leaf)?;
+    let set = plan_set(rt, &records, disk, leaf)?;
     Ok(set)
 }

@@ -13,7 +13,7 @@ mod record;
 mod source_events;
 
 pub use event_source::EventSource;
-pub use fault::{RecordColumn, RecordFault, StartFault};
+pub use fault::{RecordColumn, StartFault};
 pub use keys::has_key;
 pub use laws::{law_images_start_as_they_stand, law_starts_are_determined};
 pub use opening::open;

@@ -6,28 +6,27 @@ ghost use Rattle.std.specs.Map.{lookup};
 ghost use Rattle.dg_columns.specs.Ranges.{BodyFits};
 ghost use Rattle.dg_disk.specs.Calls.{Fails, ReadsDisk};
 ghost use Rattle.dg_file.specs.Images.{IsOpenedAs};
-ghost use Rattle.dg_fold.specs.BytesRead.{asked_length, kept_in};
+ghost use Rattle.dg_records.specs.ColumnReads.{asked_length, kept_in, TakesOrFails};
 ghost use Rattle.dg_text.specs.declared.limits.TheConstants.{NAMES_MAX};
 ghost use Rattle.dg_graph.specs.declared.placed.Placed.{Placed};
 ghost use Rattle.dg_history.specs.Keys.{same_key};
 ghost use Rattle.dg_plan.specs.HistoryGraph.{all_columns};
-ghost use Rattle.dg_start.specs.Calls.{IsReadRecord, TakesOrFails};
-ghost use Rattle.dg_start.specs.Faults.{start_fault_of_record};
+ghost use Rattle.dg_start.specs.Calls.{IsReadRecord};
+ghost use Rattle.dg_start.specs.Faults.{start_fault_of};
 ghost use Rattle.dg_start.specs.RecentEvents.{events_in_source, placed_in_record};
 ghost use Rattle.dg_start.specs.EventSources.{CanBeRead, WhereTold, source_of};
 ghost use Rattle.dg_start.specs.Refusals.{IsReason};
 
 use crate::event_source::EventSource;
-use crate::fault::RecordFault;
-use dg_columns::{EVENTS_FRONT, MergeFault, Placed, ReadFault, merge, read_events};
+use dg_columns::{MergeFault, Placed, merge};
 use dg_disk::Disk;
 use dg_file::Index;
 use dg_graph::{Column, Event};
 use dg_history::Key;
+use dg_records::{RecordFault, read_events};
 use std::alloc::Global;
 
-// What a column of a record is read as, with so many names. Of a column that is longer than events can be the front is read,
-// which tells that it is damaged.
+// What a column of a record is read as, with so many names.
 fn read_column<D: Disk>(
     alloc: Global,
     index: &Index,
@@ -43,7 +42,7 @@ fn read_column<D: Disk>(
         (λ image. placed_in_record image names index.now.opening key col ≡ Ok placed.items)) }
     ensures fit { IfOk result (λ placed. All (λ (p : Placed). BodyFits names p.event.body) placed.items) }
     ensures refused { IfErr result (λ fault. WhereTold (D.image disk.old)
-        (λ image. IsReason (start_fault_of_record fault) (placed_in_record image names index.now.opening key col))) }
+        (λ image. IsReason (start_fault_of fault) (placed_in_record image names index.now.opening key col))) }
     ensures takes { WhereTold (D.image disk.old)
         (λ image. TakesOrFails result (length (kept_in image index.now.opening key col)) (D.taken disk.old) (D.taken disk.new)) }
     ensures cause { IsErrOf result RecordFault.Disk → Fails D.Disk disk.old disk.new }
@@ -51,17 +50,12 @@ fn read_column<D: Disk>(
     // what it leaves
     ensures disk { ReadsDisk D.Disk disk.old disk.new }
 {
-    let bytes = index.fetch_front(disk, key, col, EVENTS_FRONT)?;
-    match read_events(alloc, &bytes, col, names) {
-        Ok(placed) => Ok(placed),
-        Err(ReadFault::Damaged(_)) => Err(RecordFault::BadRecord(key, col)),
-        Err(ReadFault::Memory) => Err(RecordFault::Memory),
-    }
+    read_events(alloc, index, disk, names, key, col)
 }
 
 /// The events of a record of an index that has so many names.
 ///
-/// `RecordFault::BadRecord` for the first column that no events are spelled as, or for structure where
+/// `RecordFault::Damaged` for the first column that no events are spelled as, or for structure where
 /// the columns do not come together to as many events as are due; `RecordFault::Disk` where the disk failed,
 /// `RecordFault::Memory` for want of memory.
 pub fn read_record<D: Disk>(
@@ -76,7 +70,7 @@ pub fn read_record<D: Disk>(
     requires image { IfSome (D.image disk.old) (λ image. IsOpenedAs image index.now.opening) }
     ensures done { IfOk result (λ events. IsReadRecord (D.image disk.old) names index.now.opening (source_of source) events.items) }
     ensures refused { IfErr result (λ fault. WhereTold (D.image disk.old)
-        (λ image. IsReason (start_fault_of_record fault) (events_in_source image names index.now.opening (source_of source)))) }
+        (λ image. IsReason (start_fault_of fault) (events_in_source image names index.now.opening (source_of source)))) }
     ensures takes { WhereTold (D.image disk.old)
         (λ image. TakesOrFails result (asked_length (kept_in image index.now.opening) all_columns source.key) (D.taken disk.old) (D.taken disk.new)) }
     ensures cause { IsErrOf result RecordFault.Disk → Fails D.Disk disk.old disk.new }
@@ -98,7 +92,7 @@ pub fn read_record<D: Disk>(
         count as u32,
     ) {
         Ok(events) => Ok(events),
-        Err(MergeFault::Positions) => Err(RecordFault::BadRecord(key, Column::Structure)),
+        Err(MergeFault::Positions) => Err(RecordFault::Damaged(key, Column::Structure)),
         Err(MergeFault::Memory) => Err(RecordFault::Memory),
     }
 }

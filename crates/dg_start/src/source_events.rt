@@ -4,8 +4,9 @@ ghost use Rattle.std.specs.Prelude.{◌≤◌, IfOk, IfErr, IfSome, IsErrOf, ◌
 ghost use Rattle.std.specs.List.{All};
 ghost use Rattle.dg_disk.specs.Calls.{Fails, ReadsDisk};
 ghost use Rattle.dg_file.specs.Images.{IsOpenedAs};
+ghost use Rattle.dg_records.specs.ColumnReads.{TakesOrFails};
 ghost use Rattle.dg_text.specs.declared.limits.TheConstants.{NAMES_MAX};
-ghost use Rattle.dg_start.specs.Calls.{AreReadEvents, TakesOrFails};
+ghost use Rattle.dg_start.specs.Calls.{AreReadEvents};
 ghost use Rattle.dg_start.specs.RecentEvents.{events_in_sources};
 ghost use Rattle.dg_start.specs.EventSources.{CanBeRead, WhereTold, bytes_in_sources, source_of, sources_in};
 ghost use Rattle.dg_start.specs.Refusals.{IsReason};

@@ -1,16 +1,14 @@
 -- How many bytes are read, one record after another.
-use Rattle.std.proofs.Common.{◌≡◌, ℕ, ◌+◌, ◌-◌, ◌*◌, ◌/◌, ◌^◌, ◌<◌, ◌≤◌, Bool, true, false, cond, List, [], ◌∷◌, ◌++◌, Option, Result, Ok, Err, drop, filter, get_or, length, map, take, sym, ◌∙◌, ap, subst, arith}
-use Rattle.std.specs.Prelude.{IfSome, is_some}
+use Rattle.std.proofs.Common.{◌≡◌, ℕ, ◌+◌, ◌-◌, ◌*◌, ◌/◌, ◌^◌, ◌<◌, ◌≤◌, Bool, true, false, cond, List, [], ◌∷◌, ◌++◌, Option, Result, Ok, Err, drop, filter, get_or, length, map, take, refl, sym, ◌∙◌, ap, subst, arith}
+use Rattle.std.specs.Prelude.{IfSome, bytes_eq, is_some}
 use Rattle.std.specs.List.{flat_map}
 use Rattle.std.specs.Map.{lookup}
+use Rattle.std.proofs.lemmas.Slice.Eq.{bytes_eq-Decides}
 use Rattle.std.proofs.lemmas.List.{length-take, map-append, take-append-drop}
 use Rattle.std.proofs.lemmas.List.Elements.{filter-append, filter_more}
 use Rattle.std.proofs.lemmas.List.Sums.{sum_by-append}
-use Rattle.dg_file.specs.Images.{taken_after}
-use Rattle.dg_columns.specs.declared.layout.TheConstants.{EVENTS_FRONT}
-use Rattle.dg_columns.specs.Fronts.{front_of}
-use Rattle.dg_fold.specs.BytesRead.{Takes, TakesAtMost, asked_length, kept_in, read_of}
-use Rattle.dg_fold.specs.Parts.{is_events}
+use Rattle.dg_catalogue.specs.Entries.{column_length_in}
+use Rattle.dg_file.specs.Images.{IsOpenedAs, taken_after}
 use Rattle.dg_graph.specs.declared.element.Column.{Column}
 use Rattle.dg_graph.specs.declared.element.Column.TheVariants as column
 use Rattle.dg_history.specs.declared.node.Key.{Key}
@@ -22,9 +20,9 @@ use Rattle.dg_index.specs.IndexRecords.{deltas_due, heights, lists_due}
 use Rattle.dg_index.specs.OpenedIndex.{Opening, column_at, entry_at, event_total, total}
 use Rattle.dg_index.proofs.HierarchyCounts.{numbers_append}
 use Rattle.dg_plan.specs.HistoryGraph.{all_columns}
-use Rattle.dg_start.specs.Calls.{TakesOrFails}
+use Rattle.dg_records.specs.ColumnReads.{Takes, TakesAtMost, TakesOrFails, asked_length, kept_in}
+use Rattle.dg_records.proofs.KeptColumns.{at_entry, column_long, read_short}
 use Rattle.dg_start.specs.EventSources.{WhereTold}
-use Rattle.dg_start.proofs.ColumnMergeRecords.{column_there}
 use Rattle.dg_start.proofs.EventSourceBytes.{takes_after, takes_less, takes_part}
 use Rattle.dg_start.proofs.EventSourceOutcomes.{said_before}
 use Rattle.dg_verify.specs.declared.deltas.DeltaKind.{DeltaKind}
@@ -58,20 +56,32 @@ column_short image e column.EdgeAttr =
 column_short image e column.Transient =
     let is = length-take e.lengths.transient (drop (e.offset + e.lengths.structure + e.lengths.node_attrs + e.lengths.edge_attrs) image) in omega (arith, is)
 
+-- the bytes that were fetched are those of the column
+pub fetched_is : (told : Option (List ℕ)) (o : Opening) (k : Key) (col : Column) (bytes : List ℕ) → is_some (lookup (same_key k) o.records) ≡ true
+    → IfSome told (λ image. IfSome (lookup (same_key k) o.records) (λ e. bytes ≡ column_at image e col)) → WhereTold told (λ image. bytes ≡ column_at image (entry_at o k) col)
+fetched_is told o k col bytes held is image h =
+    at_entry o k (λ e. bytes ≡ column_at image e col) held
+    (subst (λ (t : Option (List ℕ)). IfSome t (λ image. IfSome (lookup (same_key k) o.records) (λ e. bytes ≡ column_at image e col))) h is)
+
 pub column_read : (told : Option (List ℕ)) (o : Opening) (k : Key) (col : Column) (bytes : List ℕ) (before after : ℕ) → is_some (lookup (same_key k) o.records) ≡ true
     → IfSome told (λ image. IfSome (lookup (same_key k) o.records) (λ e. bytes ≡ column_at image e col)) → after ≡ taken_after (length bytes) before
     → WhereTold told (λ image. TakesAtMost (length_at (entry_at o k).lengths col) before after)
 column_read told o k col bytes before after held is taken image h =
     let kept : List ℕ = column_at image (entry_at o k) col in
-    let here : IfSome (lookup (same_key k) o.records) (λ e. bytes ≡ column_at image e col) = subst (λ (t : Option (List ℕ)). IfSome t (λ image. IfSome (lookup (same_key k) o.records) (λ e. bytes ≡ column_at image e col))) h is in
-    let all = subst (λ n. Takes n before after) (ap length (column_there image bytes o k col held here)) (takes_after (length bytes) before after taken) in
+    let all = subst (λ n. Takes n before after) (ap length (fetched_is told o k col bytes held is image h)) (takes_after (length bytes) before after taken) in
     takes_part (length kept) (length_at (entry_at o k).lengths col) before after (column_short image (entry_at o k) col) (takes_less (length kept) before after all)
 
--- of a column no more is read than there is
-read_short : (k : Key) (bytes : List ℕ) → length (read_of k bytes) ≤ length bytes
-read_short k bytes =
-    let is = length-take EVENTS_FRONT bytes in
-    elim (is_events k) as (λ b. length (cond b (front_of bytes) bytes) ≤ length bytes) [ true ↦ omega (arith, is) | false ↦ omega arith ]
+-- a column of another length is another
+pub other_length : (told : Option (List ℕ)) (o : Opening) (k : Key) (col : Column) (due : List ℕ) (n : ℕ) → is_some (lookup (same_key k) o.records) ≡ true → IfSome told (λ image. IsOpenedAs image o)
+    → n ≡ column_length_in (entry_at o k) col → (n ≡ length due → ⊥) → WhereTold told (λ image. false ≡ bytes_eq (column_at image (entry_at o k) col) due)
+other_length told o k col due n held opened long other image h =
+    let here : IsOpenedAs image o = subst (λ (t : Option (List ℕ)). IfSome t (λ image. IsOpenedAs image o)) h opened in
+    by (bytes_eq (column_at image (entry_at o k) col) due) refl
+    (λ same. other (long ∙ sym (column_long o k col image held here) ∙ ap length ((bytes_eq-Decides (column_at image (entry_at o k) col) due).0 same)))
+  where
+    by : (b : Bool) → bytes_eq (column_at image (entry_at o k) col) due ≡ b → (bytes_eq (column_at image (entry_at o k) col) due ≡ true → ⊥) → false ≡ b
+    by true is not_same = absurd (not_same is)
+    by false is not_same = refl
 
 kept_short : (image : List ℕ) (o : Opening) (k : Key) (col : Column) → length (kept_in image o k col) ≤ length_at (entry_at o k).lengths col
 kept_short image o k col = omega (arith, read_short k (column_at image (entry_at o k) col), column_short image (entry_at o k) col)

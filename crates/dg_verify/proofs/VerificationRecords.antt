@@ -10,11 +10,11 @@ use Rattle.dg_graph.specs.ColumnMerge.{merged}
 use Rattle.dg_history.specs.declared.node.Key.{Key}
 use Rattle.dg_index.specs.OpenedIndex.{Opening, column_at, entry_at}
 use Rattle.dg_sound.specs.OwnEvents.{and_own, events_of_record, merged_or, spelled_or, with_record}
-use Rattle.dg_start.specs.declared.fault.RecordFault.{RecordFault}
-use Rattle.dg_start.specs.declared.fault.RecordFault.TheVariants as record_fault
+use Rattle.dg_records.specs.declared.fault.RecordFault.{RecordFault}
+use Rattle.dg_records.specs.declared.fault.RecordFault.TheVariants as record_fault
 use Rattle.dg_start.specs.declared.fault.StartFault.{StartFault}
 use Rattle.dg_start.specs.declared.fault.StartFault.TheVariants as fault
-use Rattle.dg_start.specs.Faults.{start_fault_of_record}
+use Rattle.dg_start.specs.Faults.{start_fault_of}
 use Rattle.dg_start.specs.RecentEvents.{Source, and_start, events_in_source, merged_or_fault, spelled_or_fault}
 use Rattle.dg_start.specs.Refusals.{IsReason}
 use Rattle.dg_verify.specs.declared.stop.Stop.{Stop}
@@ -46,9 +46,9 @@ same_events image names o s =
     then_read s.key column.Transient (read_as_events column.Transient (length names) (column_at image (entry_at o s.key) column.Transient)) _ _ (λ d.
     then_merged s.key (merged a b c d s.count)))))
 
-from_err : (f : RecordFault) (k : Key) (r : Result (List Event) Column) → IsReason (start_fault_of_record f) (as_started k r) → IsStop (stop_of_record f) (keyed k r)
-from_err (record_fault.BadRecord key col) k (Ok x) h = absurd cc
-from_err (record_fault.BadRecord key col) k (Err c) h = cc
+from_err : (f : RecordFault) (k : Key) (r : Result (List Event) Column) → IsReason (start_fault_of f) (as_started k r) → IsStop (stop_of_record f) (keyed k r)
+from_err (record_fault.Damaged key col) k (Ok x) h = absurd cc
+from_err (record_fault.Damaged key col) k (Err c) h = cc
 from_err record_fault.Disk k r h = tt
 from_err record_fault.Memory k r h = tt
 
@@ -60,8 +60,8 @@ module _ (image : List ℕ) (names : List (List ℕ)) (o : Opening) (s : Source)
   as_events : events_in_source image n o s ≡ as_started s.key (events_of_record image (opened_with o names) s.key s.count)
   as_events = ap (λ (m : ℕ). events_in_source image m o s) counted ∙ same_events image names o s
 
-  pub events_refused : (f : RecordFault) → IsReason (start_fault_of_record f) (events_in_source image n o s) → IsStop (stop_of_record f) (keyed s.key (events_of_record image (opened_with o names) s.key s.count))
-  events_refused f h = from_err f s.key (events_of_record image (opened_with o names) s.key s.count) (subst (λ (r : Result (List Event) StartFault). IsReason (start_fault_of_record f) r) as_events h)
+  pub events_refused : (f : RecordFault) → IsReason (start_fault_of f) (events_in_source image n o s) → IsStop (stop_of_record f) (keyed s.key (events_of_record image (opened_with o names) s.key s.count))
+  events_refused f h = from_err f s.key (events_of_record image (opened_with o names) s.key s.count) (subst (λ (r : Result (List Event) StartFault). IsReason (start_fault_of f) r) as_events h)
 
   pub events_are : (events : List Event) → events_in_source image n o s ≡ Ok events → events_of_record image (opened_with o names) s.key s.count ≡ Ok events
   events_are events h = from_ok s.key (events_of_record image (opened_with o names) s.key s.count) events (sym as_events ∙ h)

@@ -3,9 +3,9 @@
 ghost use Rattle.std.specs.Prelude.{◌≡◌, IfErr, IfSome, IsErrOf, None, OnOk, filter, if◌then◌else◌, length};
 ghost use Rattle.dg_disk.specs.Calls.{Fails, ReadsDisk};
 ghost use Rattle.dg_file.specs.Images.{IsOpenedAs};
-ghost use Rattle.dg_fold.specs.BytesRead.{TakesAtMost};
 ghost use Rattle.dg_index.specs.FileOfHistory.{lent};
 ghost use Rattle.dg_index.specs.OpenedIndex.{entry_at, total};
+ghost use Rattle.dg_records.specs.ColumnReads.{TakesAtMost};
 ghost use Rattle.dg_start.specs.EventSources.{WhereTold};
 ghost use Rattle.dg_verify.specs.Deltas.{first_unlike, has_kind, unlike_of};
 ghost use Rattle.dg_verify.specs.RecordBytes.{columns_bytes};

@@ -2,7 +2,7 @@
 
 ghost use Rattle.std.specs.Prelude.{◌≡◌, ◌+◌, ◌*◌, ◌<◌, [], IfErr, IfSome, IsErrOf, Ok, OnOk, length};
 ghost use Rattle.dg_disk.specs.Calls.{Fails, ReadsDisk};
-ghost use Rattle.dg_fold.specs.BytesRead.{TakesAtMost};
+ghost use Rattle.dg_records.specs.ColumnReads.{TakesAtMost};
 ghost use Rattle.dg_history.specs.declared.node.Key.TheVariants as key;
 ghost use Rattle.dg_index.specs.IndexRecords.{lists_due};
 ghost use Rattle.dg_index.specs.OpenedIndex.{entry_at, event_total, opening, total};

@@ -6,17 +6,18 @@ ghost use Rattle.std.specs.Map.{lookup};
 ghost use Rattle.dg_columns.specs.NamesInRange.{NamesFit};
 ghost use Rattle.dg_disk.specs.Calls.{Fails, ReadsDisk};
 ghost use Rattle.dg_file.specs.Images.{IsOpenedAs};
-ghost use Rattle.dg_fold.specs.BytesRead.{TakesAtMost};
 ghost use Rattle.dg_graph.specs.declared.event.Event.{Event};
 ghost use Rattle.dg_history.specs.Keys.{same_key};
 ghost use Rattle.dg_index.specs.FileOfHistory.{lent};
 ghost use Rattle.dg_index.specs.OpenedIndex.{column_at, entry_at, opening, total};
+ghost use Rattle.dg_records.specs.ColumnReads.{TakesAtMost};
 ghost use Rattle.dg_sound.specs.OwnEvents.{events_of_record};
 ghost use Rattle.dg_start.specs.EventSources.{WhereTold};
 ghost use Rattle.dg_verify.specs.RecordBytes.{graph_total, length_at};
 ghost use Rattle.dg_verify.specs.Verification.{IsStop, IsWrong, keyed, keyed_column, opened_with, unlike, unlike_events};
 
 use crate::stop::Stop;
+use dg_catalogue::column_length;
 use dg_disk::Disk;
 use dg_file::{FetchFault, Index};
 use dg_graph::{Column, Event};
@@ -59,7 +60,8 @@ pub fn read_events<D: Disk>(
     Ok(read_record(alloc, index, disk, names.len(), source)?)
 }
 
-// Whether the record has this column. A record that the index does not keep has no byte.
+// Whether the record has this column. A record that the index does not keep has no byte. A column of another length is
+// another column: then nothing is read.
 fn is_column<D: Disk>(
     index: &Index,
     disk: &mut D,
@@ -76,8 +78,11 @@ fn is_column<D: Disk>(
     ensures takes { WhereTold (D.image disk.old) (λ image. TakesAtMost (length_at (entry_at index.now.opening key).lengths col) (D.taken disk.old) (D.taken disk.new)) }
     ensures disk { ReadsDisk D.Disk disk.old disk.new }
 {
-    if index.entry(key).is_none() {
+    let Some(entry) = index.entry(key) else {
         return Ok(due.is_empty());
+    };
+    if column_length(&entry, col) != due.len() as u64 {
+        return Ok(false);
     }
     let bytes = index.fetch(disk, key, col)?;
     Ok(bytes.as_slice() == due)

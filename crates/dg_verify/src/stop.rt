@@ -6,7 +6,7 @@ ghost use Rattle.dg_verify.specs.declared.stop.Stop.TheVariants.{Memory};
 use dg_file::FetchFault;
 use dg_graph::Column;
 use dg_history::Key;
-use dg_start::RecordFault;
+use dg_records::RecordFault;
 use std::alloc::AllocError;
 
 /// Why verifying goes no further.
@@ -48,7 +48,7 @@ impl From<RecordFault> for Stop {
 
     fn from(read: RecordFault) -> Stop {
         match read {
-            RecordFault::BadRecord(key, col) => Stop::Wrong(key, col),
+            RecordFault::Damaged(key, col) => Stop::Wrong(key, col),
             RecordFault::Disk => Stop::Disk,
             RecordFault::Memory => Stop::Memory,
         }

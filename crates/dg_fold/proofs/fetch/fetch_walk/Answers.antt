@@ -3,8 +3,9 @@ use Rattle.std.specs.Option.{IfSome}
 use Rattle.std.proofs.lemmas.List.{take_all}
 use Rattle.dg_disk.proofs.FrameLemmas.{reads_then}
 use Rattle.dg_file.specs.Images.{IsOpenedAs}
-use Rattle.dg_fold.specs.BytesRead.{AreParts, kept_in, named_along}
+use Rattle.dg_fold.specs.BytesRead.{AreParts, named_along}
 use Rattle.dg_fold.proofs.BytesReadGrowth.{if_told, is_entered, most_of_walk, so_far_more}
+use Rattle.dg_records.specs.ColumnReads.{kept_in}
 use Rattle.dg_fold.proofs.fetch.fetch_walk.Goals as goal
 
 pub take_step-requires-clause-entered : goal.take_step-requires-clause-entered

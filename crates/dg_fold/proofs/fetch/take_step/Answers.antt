@@ -3,9 +3,10 @@ use Rattle.std.specs.List.{Contains}
 use Rattle.std.proofs.lemmas.List.Elements.{All-contains}
 use Rattle.dg_graph.specs.declared.element.Column.{Column}
 use Rattle.dg_fold.specs.declared.part.Part.{Part}
-use Rattle.dg_fold.specs.BytesRead.{AreParts, asked_column, kept_in, named_by}
+use Rattle.dg_fold.specs.BytesRead.{AreParts, named_by}
 use Rattle.dg_fold.specs.Parts.{bytes_in, graph_columns}
 use Rattle.dg_fold.proofs.BytesReadGrowth.{own_bytes, part_more}
+use Rattle.dg_records.specs.ColumnReads.{asked_column, kept_in}
 use Rattle.dg_fold.proofs.fetch.take_step.Goals as goal
 
 pub returns-in_ok-add-in-Paid-clause-parts : goal.returns-in_ok-add-in-Paid-clause-parts

@@ -3,7 +3,7 @@ use Rattle.std.proofs.lemmas.List.{take_at}
 use Rattle.dg_heard.specs.Heard.{heard_events}
 use Rattle.dg_messages.specs.Told.{AreToldIn}
 use Rattle.dg_messages.proofs.CollectedMessages.{sets_named, sets_told}
-use Rattle.dg_messages.proofs.ListColumns.{told_so}
+use Rattle.dg_heard.proofs.ListColumns.{told_so}
 use Rattle.dg_messages.proofs.told.messages.Given.{Over}
 use Rattle.dg_messages.proofs.told.messages.Goals as goal
 use Rattle.dg_messages.proofs.told.messages.Goals.{In_ok-sets_of}

@@ -1,18 +1,18 @@
 use Rattle.std.proofs.Common.{◌≡◌, ℕ, ◌-◌, ◌∷◌, sym, ap, List, Option, Ok, Err, subst, ◌∙◌, ◌≤◌, arith}
 use Rattle.std.specs.Prelude.{IfSome}
 use Rattle.dg_disk.proofs.FrameLemmas.{reads_none, reads_then}
-use Rattle.dg_fold.specs.BytesRead.{Takes, TakesAtMost}
 use Rattle.dg_graph.specs.declared.element.Column.{Column}
 use Rattle.dg_graph.specs.declared.element.Column.TheVariants.{Structure}
+use Rattle.dg_heard.specs.ListColumns.{IsColumnRead, TakesColumn, bytes_at, events_at}
 use Rattle.dg_index.specs.Hierarchy.{numbers}
 use Rattle.dg_index.specs.OpenedIndex.{Opening}
 use Rattle.dg_range.specs.Added.{asked_columns, following, place_after}
 use Rattle.dg_range.specs.ColumnRuns.{bytes_along, events_along}
-use Rattle.dg_range.specs.ListColumns.{IsColumnRead, TakesColumn, bytes_at, events_at}
 use Rattle.dg_range.proofs.AddedPlaces.{ArePut, place_within, put_more, put_none, rest_end, rest_first, rest_less, rest_next, rest_of}
 use Rattle.dg_range.proofs.ColumnRuns.{all_read, all_taken, damage_fails, most_read, read_more, read_none, takes_done, takes_fails}
-use Rattle.dg_range.proofs.ListColumns.{told_so}
+use Rattle.dg_heard.proofs.ListColumns.{told_so}
 use Rattle.dg_range.proofs.added.push_lists.Given.{Over}
+use Rattle.dg_records.specs.ColumnReads.{Takes, TakesAtMost}
 use Rattle.dg_range.proofs.added.push_lists.Goals as goal
 use Rattle.dg_range.proofs.added.push_lists.Goals.{After-read_column}
 

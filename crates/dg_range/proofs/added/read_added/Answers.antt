@@ -7,7 +7,7 @@ use Rattle.dg_index.specs.OpenedIndex.{Opening}
 use Rattle.dg_range.specs.Added.{IsAddedIn, asked_columns}
 use Rattle.dg_range.specs.ColumnRuns.{events_along}
 use Rattle.dg_range.proofs.AddedSets.{added_shown, set_named}
-use Rattle.dg_range.proofs.ListColumns.{told_so}
+use Rattle.dg_heard.proofs.ListColumns.{told_so}
 use Rattle.dg_range.proofs.added.read_added.Given.{Over}
 use Rattle.dg_range.proofs.added.read_added.Goals as goal
 

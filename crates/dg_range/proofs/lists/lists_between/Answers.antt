@@ -34,6 +34,6 @@ returns c =
           let here : i < c.list_total-total.result = omega (arith, at, c.list_total-total.ensures) in
           ap (meets c.args.from c.args.until) (sym (ends_are o lists c.catalogue-lists.ensures.entries i))
           ∙ meets_between c.args.from c.args.until low.result high.result i (ends_of lists i) c.if-until-from.false
-          (low.ensures.ended i) (λ le. low.ensures.rest i le here)
+          (λ less. low.ensures.ended i (omega arith) less) (λ le. low.ensures.rest i le here)
           (high.ensures.begun i) (λ le. high.ensures.later i le here));
     }

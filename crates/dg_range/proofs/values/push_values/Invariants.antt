@@ -3,8 +3,8 @@ use Rattle.dg_aux.specs.Turns.{turns_of}
 use Rattle.dg_disk.specs.Calls.{ReadsDisk}
 use Rattle.dg_graph.specs.declared.event.Event.{Event}
 use Rattle.dg_heard.specs.Heard.{list_total}
-use Rattle.dg_range.specs.ColumnRuns.{all_node_columns, node_columns}
-use Rattle.dg_range.proofs.ColumnRuns.{ReadSoFar}
+use Rattle.dg_index.specs.Hierarchy.{numbers}
+use Rattle.dg_range.proofs.ValueRuns.{ValuesSoFar}
 use Rattle.dg_range.proofs.values.push_values.Given as goal
 
 abbrev pub invariant-loop-list : goal.invariant-loop-list
@@ -13,7 +13,7 @@ invariant-loop-list g l = record {
   few : l.list ≤ l.total;
   key : l.aux.key ≡ l.initial.aux.key;
   so_far :
-      ReadSoFar l.name_count (g.D.Disk.image l.initial.disk) l.index.opening (all_node_columns l.index.opening) (node_columns l.list (list_total l.index.opening - l.list))
+      ValuesSoFar l.name_count (g.D.Disk.image l.initial.disk) l.index.opening (numbers l.list (list_total l.index.opening - l.list))
       (λ (events : List Event). l.aux.turns ≡ l.initial.aux.turns ++ turns_of l.initial.aux.key events) (g.D.Disk.taken l.initial.disk) (g.D.Disk.taken l.disk);
 }
 

@@ -3,10 +3,11 @@ use Rattle.std.specs.Prelude.{IfSome, length}
 use Rattle.dg_disk.proofs.FrameLemmas.{reads_then}
 use Rattle.dg_graph.specs.declared.element.Element.{Element}
 use Rattle.dg_graph.specs.declared.event.Event.{Event}
-use Rattle.dg_fold.specs.BytesRead.{Takes, TakesAtMost}
 use Rattle.dg_graph.specs.Replay.{replay_from}
 use Rattle.dg_index.specs.OpenedIndex.{Opening}
-use Rattle.dg_retrieval.specs.NamesThere.{EventNamesAreThere, NamesAreThere}
+use Rattle.dg_records.specs.ColumnReads.{Takes, TakesAtMost}
+use Rattle.dg_records.specs.EventNames.{EventNamesAreThere}
+use Rattle.dg_retrieval.specs.NamesThere.{NamesAreThere}
 use Rattle.dg_retrieval.specs.NodeSets.{IsLedByPlan}
 use Rattle.dg_retrieval.proofs.NamesThere.{replay_there}
 use Rattle.dg_retrieval.proofs.ValueRanges.{values_fit}

@@ -1,10 +1,10 @@
 use Rattle.std.proofs.Common.{◌≡◌, List, Ok, length, subst, sym, ap, ◌∙◌}
 use Rattle.std.specs.List.{All}
-use Rattle.dg_fold.specs.BytesRead.{Takes, TakesAtMost, asked_length, kept_in}
 use Rattle.dg_graph.specs.declared.element.Column.TheVariants.{NodeAttr, EdgeAttr, Transient}
 use Rattle.dg_graph.specs.declared.placed.Placed.{Placed}
 use Rattle.dg_index.specs.OpenedIndex.{Opening}
 use Rattle.dg_plan.specs.HistoryGraph.{all_columns}
+use Rattle.dg_records.specs.ColumnReads.{Takes, TakesAtMost, asked_length, kept_in}
 use Rattle.dg_start.specs.EventSources.{source_of}
 use Rattle.dg_start.specs.RecentEvents.{placed_in_record}
 use Rattle.dg_start.proofs.ColumnMergeRecords.{IsMerged, PlacedFits, merged_fit, names_there, spelled}

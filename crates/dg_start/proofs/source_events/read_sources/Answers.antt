@@ -4,15 +4,15 @@ use Rattle.std.proofs.lemmas.List.Elements.{All-append}
 use Rattle.dg_disk.proofs.FrameLemmas.{reads_then}
 use Rattle.dg_columns.specs.NamesInRange.{NamesFit}
 use Rattle.dg_file.specs.Images.{IsOpenedAs}
-use Rattle.dg_fold.specs.BytesRead.{Takes, TakesAtMost, asked_length, kept_in}
 use Rattle.dg_graph.specs.declared.event.Event.{Event}
 use Rattle.dg_index.specs.OpenedIndex.{Opening}
 use Rattle.dg_plan.specs.HistoryGraph.{all_columns}
+use Rattle.dg_records.specs.ColumnReads.{Takes, TakesAtMost, asked_length, kept_in}
+use Rattle.dg_records.specs.EventNames.{BodyHasNamesThere, EventNamesAreThere}
 use Rattle.dg_start.specs.declared.event_source.EventSource.{EventSource}
-use Rattle.dg_retrieval.specs.NamesThere.{BodyHasNamesThere, EventNamesAreThere}
 use Rattle.dg_start.specs.declared.fault.StartFault.{StartFault}
 use Rattle.dg_start.specs.declared.fault.StartFault.TheVariants as fault
-use Rattle.dg_start.specs.Faults.{start_fault_of_record}
+use Rattle.dg_start.specs.Faults.{start_fault_of}
 use Rattle.dg_start.specs.RecentEvents.{Source, events_in_source, events_in_sources}
 use Rattle.dg_start.specs.EventSources.{WhereTold, source_of, sources_in}
 use Rattle.dg_start.specs.Refusals.{IsReason}
@@ -33,10 +33,10 @@ returns-in_err-more-clause-refused g c =
     let item : EventSource = get_or c.args.sources.now c.loop-source.source-index no_source in
     let next : IsNextSource all c.loop-source.source-index (source_of item) = next_source c.args.sources.now c.loop-source.source-index no_source c.loop-source-test.true in
     let told = g.D.Disk.image c.args.disk.now in
-    err_is c.from_residual.result (start_fault_of_record c.in_err-more.field-0.0) (λ (f : StartFault). WhereTold told (λ image. IsReason f (events_in_sources image c.args.names o all))) c.from_residual.ensures
+    err_is c.from_residual.result (start_fault_of c.in_err-more.field-0.0) (λ (f : StartFault). WhereTold told (λ image. IsReason f (events_in_sources image c.args.names o all))) c.from_residual.ensures
     (source_refused told c.args.names o all c.loop-source.source-index (source_of item) next c.loop-source.events.items (g.D.Disk.taken c.args.disk.now) (g.D.Disk.taken c.loop-source.disk)
-    (start_fault_of_record c.in_err-more.field-0.0) c.loop-source.invariant.so_far
-    (said_before (g.D.Disk.image c.loop-source.disk) told (λ image. IsReason (start_fault_of_record c.in_err-more.field-0.0) (events_in_source image c.args.names o (source_of item)))
+    (start_fault_of c.in_err-more.field-0.0) c.loop-source.invariant.so_far
+    (said_before (g.D.Disk.image c.loop-source.disk) told (λ image. IsReason (start_fault_of c.in_err-more.field-0.0) (events_in_source image c.args.names o (source_of item)))
     c.loop-source.invariant.frame.same_image c.in_err-more.ensures.refused))
 
 pub loop-source-preserved : goal.loop-source-preserved
@@ -75,7 +75,7 @@ returns-in_err-more-clause-takes g c =
     let told = g.D.Disk.image c.args.disk.now in
     let now = g.D.Disk.taken c.loop-source.disk in
     let after = g.D.Disk.taken c.read_record.new.disk in
-    next_fails told c.args.names o all c.loop-source.source-index (source_of item) next c.from_residual.result (start_fault_of_record c.in_err-more.field-0.0) c.loop-source.events.items
+    next_fails told c.args.names o all c.loop-source.source-index (source_of item) next c.from_residual.result (start_fault_of c.in_err-more.field-0.0) c.loop-source.events.items
     (g.D.Disk.taken c.args.disk.now) now after c.from_residual.ensures c.loop-source.invariant.so_far
     (said_before (g.D.Disk.image c.loop-source.disk) told (λ image. TakesAtMost (asked_length (kept_in image o) all_columns item.key) now after)
     c.loop-source.invariant.frame.same_image c.in_err-more.ensures.takes)

@@ -2,7 +2,7 @@ use Rattle.std.specs.List.{All}
 use Rattle.dg_columns.specs.NamesInRange.{NamesFit}
 use Rattle.dg_disk.specs.Calls.{ReadsDisk}
 use Rattle.dg_graph.specs.declared.event.Event.{Event}
-use Rattle.dg_retrieval.specs.NamesThere.{EventNamesAreThere}
+use Rattle.dg_records.specs.EventNames.{EventNamesAreThere}
 use Rattle.dg_start.specs.EventSources.{sources_in}
 use Rattle.dg_start.proofs.RecentEventSources.{ReadSoFar}
 use Rattle.dg_start.proofs.source_events.read_sources.Given as goal

@@ -1,11 +1,11 @@
 use Rattle.std.proofs.Common.{◌≡◌, ℕ, ◌+◌, ◌<◌, cond, List, None, length, slice_index_or, sym, ◌∙◌, ap, subst, arith}
 use Rattle.std.proofs.lemmas.List.{length-map}
 use Rattle.dg_disk.proofs.FrameLemmas.{reads_then}
-use Rattle.dg_fold.specs.BytesRead.{TakesAtMost}
 use Rattle.dg_history.specs.declared.node.Key.{Key}
 use Rattle.dg_index.specs.declared.entry.Row.{Row}
 use Rattle.dg_index.specs.FileOfHistory.{Stored}
 use Rattle.dg_index.specs.OpenedIndex.{Opening, entry_at, record_row, total}
+use Rattle.dg_records.specs.ColumnReads.{TakesAtMost}
 use Rattle.dg_start.specs.EventSources.{WhereTold}
 use Rattle.dg_start.proofs.EventSourceOutcomes.{err_is, said_before}
 use Rattle.dg_verify.specs.declared.stop.Stop.{Stop}

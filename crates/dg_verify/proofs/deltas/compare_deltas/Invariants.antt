@@ -1,7 +1,7 @@
 use Rattle.std.proofs.Common.{◌≡◌, drop}
 use Rattle.dg_disk.specs.Calls.{ReadsDisk}
-use Rattle.dg_fold.specs.BytesRead.{TakesAtMost}
 use Rattle.dg_index.specs.FileOfHistory.{delta_blobs}
+use Rattle.dg_records.specs.ColumnReads.{TakesAtMost}
 use Rattle.dg_start.specs.EventSources.{WhereTold}
 use Rattle.dg_verify.proofs.DeltaComparisons.{DeltasGoOn}
 use Rattle.dg_verify.proofs.RecordReads.{kind_bytes}

@@ -1,7 +1,7 @@
 use Rattle.std.proofs.Common.{◌≡◌, ℕ, ◌+◌, ◌∙◌, subst, arith}
 use Rattle.std.specs.Prelude.{Ok}
 use Rattle.dg_disk.proofs.FrameLemmas.{reads_then}
-use Rattle.dg_fold.specs.BytesRead.{TakesAtMost}
+use Rattle.dg_records.specs.ColumnReads.{TakesAtMost}
 use Rattle.dg_history.specs.declared.node.Key.TheVariants as key
 use Rattle.dg_index.specs.Hierarchy.{leaves}
 use Rattle.dg_index.specs.OpenedIndex.{Opening, entry_at, event_total, total}

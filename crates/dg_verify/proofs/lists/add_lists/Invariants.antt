@@ -1,6 +1,6 @@
 use Rattle.std.proofs.Common.{◌≡◌, ◌*◌, ◌≤◌, length}
 use Rattle.dg_disk.specs.Calls.{ReadsDisk}
-use Rattle.dg_fold.specs.BytesRead.{TakesAtMost}
+use Rattle.dg_records.specs.ColumnReads.{TakesAtMost}
 use Rattle.dg_history.specs.declared.node.Key.TheVariants as key
 use Rattle.dg_start.specs.EventSources.{WhereTold}
 use Rattle.dg_verify.specs.EventTests.{IsRead}

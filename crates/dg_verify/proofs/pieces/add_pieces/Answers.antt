@@ -1,7 +1,7 @@
 use Rattle.std.proofs.Common.{◌≡◌, ℕ, ◌+◌, ◌-◌, ◌<◌, Some, Ok, length, slice_get, sym, ◌∙◌, arith}
 use Rattle.dg_history.proofs.ParameterRanges.{in_range}
 use Rattle.dg_disk.proofs.FrameLemmas.{reads_then}
-use Rattle.dg_fold.specs.BytesRead.{TakesAtMost}
+use Rattle.dg_records.specs.ColumnReads.{TakesAtMost}
 use Rattle.dg_history.specs.declared.node.Key.TheVariants as key
 use Rattle.dg_index.specs.OpenedIndex.{Opening, entry_at, total}
 use Rattle.dg_sound.specs.OwnEvents.{with_piece_events, with_pieces}

@@ -1,0 +1,3 @@
+pub mod KeptColumns
+pub mod DeltaFronts
+pub mod DeltaReads
