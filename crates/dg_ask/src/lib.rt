@@ -12,6 +12,6 @@ mod record_listing;
 pub use kept_adjacency::KeptAdjacency;
 pub use kept_planner::KeptPlanner;
 pub use laws::law_printed_plans_are_valid;
-pub use plans::{has_node, judge, plan_reply, point_of, record_planner, span};
+pub use plans::{has_node, judge, plan_reply, point_of, span};
 pub use queries::{neighbours_reply, node_reply};
 pub use record_listing::tree_reply;

@@ -1,7 +1,7 @@
 //! The plans over the index of a session: the graph in which they are made, its instants and the node of one, and
 //! what is said of them.
 
-ghost use Rattle.std.specs.Prelude.{◌≡◌, ℕ, ◌≤◌, ◌<◌, ◌*◌, ◌^◌, true, false, List, [], ◌++◌, Some, length, nat_le, slice_get, IfOk, OnOk};
+ghost use Rattle.std.specs.Prelude.{◌≡◌, ℕ, ◌≤◌, ◌<◌, ◌*◌, ◌^◌, true, false, List, ◌++◌, Some, length, nat_le, slice_get, IfOk, OnOk};
 ghost use Rattle.dg_history.specs.declared.limits.TheConstants.{BATCH_LINES_MAX};
 ghost use Rattle.dg_history.specs.History.{in_range};
 ghost use Rattle.dg_index.specs.OpenedIndex.{event_total};
@@ -9,13 +9,11 @@ ghost use Rattle.dg_machine.specs.Answer.{potential_lines, step_lines};
 ghost use Rattle.dg_plan.specs.CertificateLines.{judged};
 ghost use Rattle.dg_planner.specs.HistoryLaws.{first_time_in};
 ghost use Rattle.dg_history.specs.declared.node.NodeId.{NodeId};
-ghost use Rattle.dg_plan.specs.IndexGraph.{nodes_of};
-ghost use Rattle.dg_retrieval.specs.KeptGraph.{index_edges, index_ground, kept_edges, kept_nodes, shape_with};
+ghost use Rattle.dg_retrieval.specs.KeptGraph.{kept_edges, kept_nodes};
 ghost use Rattle.dg_ask.specs.HeldIndex.{HasNodes, has_node_held, point_over, span_held};
 ghost use Rattle.dg_ask.specs.KeptPlanner.{IsGraphFor};
 ghost use Rattle.dg_ask.specs.Plans.{IsPlanReply};
 
-use dg_catalogue::Shape;
 use dg_certify::certify;
 use dg_file::Index;
 use dg_graph::{Columns, Event};
@@ -25,6 +23,7 @@ use dg_machine::{BodyLine, BodyLines, Head, Reply};
 use dg_path::Route;
 use dg_plan::{Edge, PlanLine, Verdict};
 use dg_planner::{Planner, law_nodes_are_listed};
+use dg_retrieval::shape_of;
 use std::alloc::{AllocError, Global};
 
 /// The first and the last instant of the history of an index, where there is an event.
@@ -33,14 +32,6 @@ pub fn span(index: &Index) -> Option<(u64, u64)>
 {
     let ends = index.catalogue().span()?;
     Some((ends.first, ends.last))
-}
-
-/// The shape of an index with so many events.
-pub fn shape_of(index: &Index, events: u64) -> Shape
-    ensures { result ≡ shape_with index.now.opening.params events }
-{
-    let Params { l, k, .. } = index.params();
-    Shape { l, k, events }
 }
 
 // Whether so many nodes of the height, of this arity, have no more than so many leaves below them.
@@ -88,19 +79,9 @@ pub fn planner_of(
     index.facts();
     law_nodes_are_listed();
     let events = index.events_len();
-    let shape = shape_of(index, events);
+    let shape = shape_of(index);
     let bases = handles.bases(alloc, cols)?;
     Planner::new(alloc, shape, index.catalogue(), cols, &bases, events > 0)
-}
-
-/// The graph of the records of an index alone, for the asked columns.
-pub fn record_planner(alloc: Global, index: &Index, cols: Columns) -> Result<Planner, AllocError>
-    ensures nodes { IfOk result (λ p. p.nodes ≡ nodes_of (index_ground index.now.opening cols false [])) }
-    ensures edges { IfOk result (λ p. p.edges ≡ index_edges index.now.opening cols false []) }
-{
-    index.facts();
-    let shape = shape_of(index, index.events_len());
-    Planner::new(alloc, shape, index.catalogue(), cols, &[], false)
 }
 
 // The instant of the first of the events, where there is one.

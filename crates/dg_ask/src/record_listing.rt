@@ -10,12 +10,12 @@ ghost use Rattle.dg_index.specs.OpenedIndex.{event_total};
 ghost use Rattle.dg_ask.specs.RecordListing.{down_keys, held_line, listing_of};
 ghost use Rattle.dg_catalogue.specs.Shapes.{IsShape, made_with};
 
-use crate::plans::shape_of;
 use dg_catalogue::{Catalogue, Shape};
 use dg_file::Index;
 use dg_history::{Key, Params};
 use dg_index::PerColumn;
 use dg_machine::{BodyLine, BodyLines, Head, Reply};
+use dg_retrieval::shape_of;
 use std::alloc::{AllocError, Global};
 
 // The line of a record. Where the key is not held, no column has a byte.
@@ -145,7 +145,7 @@ pub fn tree_reply(alloc: Global, index: &Index) -> Result<Reply, AllocError>
 {
     index.facts();
     let events = index.events_len();
-    let shape = shape_of(index, events);
+    let shape = shape_of(index);
     let lines = record_lines(alloc, shape, index.catalogue())?;
     let Params { l, k, function } = index.params();
     Ok(Reply {

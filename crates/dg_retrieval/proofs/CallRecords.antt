@@ -17,13 +17,12 @@ use Rattle.dg_plan.specs.declared.edge.Edge.{Edge}
 use Rattle.dg_plan.specs.HistoryGraph.{all_columns}
 use Rattle.dg_plan.specs.IndexGraph.{arcs_of}
 use Rattle.dg_plan.specs.Walks.{AreSingles, IsPlan, weight_of}
-use Rattle.dg_retrieval.specs.Calls.{GivesSetOver, GivesSetsOver, LeadsToNodeOver, RetrievesOver, TakesTree, TellsDamage, TellsPlan, WritesOver}
-use Rattle.dg_retrieval.specs.Faults.{of_fetch}
-use Rattle.dg_retrieval.specs.declared.fault.RetrievalFault.{RetrievalFault}
-use Rattle.dg_retrieval.specs.declared.fault.RetrievalFault.TheVariants as fault
+use Rattle.dg_retrieval.specs.Calls.{GivesSetOver, GivesSetsOver, LeadsToNodeOver, RetrievesOver, TakesAlongTree, TakesTree, TellsDamage, TellsPlan}
+use Rattle.dg_records.specs.Faults.{of_fetch}
+use Rattle.dg_records.specs.declared.fault.RecordFault.{RecordFault}
+use Rattle.dg_records.specs.declared.fault.RecordFault.TheVariants as fault
 use Rattle.dg_retrieval.specs.declared.node_lead.NodeLead.{NodeLead}
 use Rattle.dg_retrieval.specs.declared.retrieval.Retrieved.{Retrieved}
-use Rattle.dg_retrieval.specs.declared.tree_writings.TreeWritings.{TreeWritings}
 use Rattle.dg_retrieval.specs.KeptGraph.{record_edges}
 use Rattle.dg_retrieval.specs.NodeSets.{IsIndexOver}
 use Rattle.dg_retrieval.specs.Retrieval.{IsFirstDamage, IsNoDamage, TakesAtMostTree}
@@ -45,7 +44,7 @@ of_three (Some x) p q r s = s x p q r
 -- ---- faults
 
 -- the call hands out this fault
-abbrev pub HandsOut : {A : Type 0} → Result A RetrievalFault → RetrievalFault → Type 0
+abbrev pub HandsOut : {A : Type 0} → Result A RecordFault → RecordFault → Type 0
 HandsOut r f = IsErr r × IsErrAnd r (λ y. y ≡ f)
 
 -- a read that fails is no damage
@@ -58,13 +57,13 @@ memory_is_none = inr refl
 
 module _ (names : ℕ) (edges : List Edge) (o : Opening) (cols : Columns) (targets : List NodeId) (image : Option (List ℕ)) where
   -- a fault that is handed out names the first damage
-  pub damage_told : {A : Type 0} (r : Result A RetrievalFault) (f : RetrievalFault) → HandsOut r f
+  pub damage_told : {A : Type 0} (r : Result A RecordFault) (f : RecordFault) → HandsOut r f
       → IfSome image (λ im. IsFirstDamage names edges o cols targets im f) → IfSome image (λ im. TellsDamage names edges o cols targets im r)
   damage_told (Ok a) f h damage = cc
   damage_told (Err y) f h damage = IfSome_then image damage (λ im first. subst (IsFirstDamage names edges o cols targets im) (sym h.1) first)
 
   -- and one that is no damage names none
-  pub no_damage_told : {A : Type 0} (r : Result A RetrievalFault) (f : RetrievalFault) → HandsOut r f → IsNoDamage f → IfSome image (λ im. TellsDamage names edges o cols targets im r)
+  pub no_damage_told : {A : Type 0} (r : Result A RecordFault) (f : RecordFault) → HandsOut r f → IsNoDamage f → IfSome image (λ im. TellsDamage names edges o cols targets im r)
   no_damage_told r f h none = damage_told r f h (no_first_damage names edges o cols targets image f none)
 
 -- ---- one tree
@@ -74,50 +73,50 @@ nothing_taken : (n before : ℕ) → TakesAtMost n before before
 nothing_taken n before = omega arith
 
 module _ {A : Type 0} (weight : A → ℕ) {edges : List Edge} {targets : List NodeId} where
-  pub tree_unread : {before after : ℕ} (r : Result A RetrievalFault) → IsErr r → TakesAtMostTree edges targets before after
+  pub tree_unread : {before after : ℕ} (r : Result A RecordFault) → IsErr r → TakesAtMostTree edges targets before after
       → ((singles : List ℕ) → AreSingles (arcs_of edges) (Root ∷ []) targets singles → TakesAtMost (sum singles) before after) → TakesTree edges targets before after weight r
   tree_unread (Ok a) h most shared = cc
   tree_unread (Err f) h most shared = record { takes = tt; most = most; shared = shared }
 
-  pub tree_unplanned : {before : ℕ} (r : Result A RetrievalFault) → IsErr r → TakesTree edges targets before before weight r
+  pub tree_unplanned : {before : ℕ} (r : Result A RecordFault) → IsErr r → TakesTree edges targets before before weight r
   tree_unplanned {before} r h = tree_unread r h (λ grafts tree. nothing_taken _ before) (λ singles are. nothing_taken _ before)
 
--- a call that fails behind the reading of the tree has read as much
-pub write_failed : {A : Type 0} {weight : A → ℕ} {read : Result A RetrievalFault} {edges : List Edge} {targets : List NodeId} {before after : ℕ} (r : Result TreeWritings RetrievalFault) (f : RetrievalFault)
-    → HandsOut r f → TakesTree edges targets before after weight read → IsNoDamage f → WritesOver edges targets before after r
-write_failed (Ok t) f h reads none = cc
-write_failed (Err y) f h reads none = record { takes = tt; most = reads.most; shared = reads.shared; never = subst IsNoDamage (sym h.1) none }
+-- a retrieval that fails behind the reading of the tree has read as much
+pub retrieve_failed : {A : Type 0} {weight : A → ℕ} {read : Result A RecordFault} {edges : List Edge} {targets : List NodeId} {before after : ℕ} (r : Result Retrieved RecordFault) (f : RecordFault)
+    → HandsOut r f → TakesTree edges targets before after weight read → IsNoDamage f → TakesAlongTree edges targets before after r
+retrieve_failed (Ok t) f h reads none = cc
+retrieve_failed (Err y) f h reads none = record { takes = tt; most = reads.most; shared = reads.shared; never = subst IsNoDamage (sym h.1) none }
 
 -- ---- graphs
 
 -- where nothing leads along the tree, no graph comes
-pub retrieve_failed : {z : History} {now : List Element} {edges : List Edge} {cols : Columns} {targets : List NodeId} {times : List ℕ} {before after : ℕ}
-    (r : Result Retrieved RetrievalFault) (f : RetrievalFault) → HandsOut r f → WritesOver edges targets before after (Err f) → RetrievesOver z now edges cols targets times before after r
-retrieve_failed (Ok t) f h written = cc
-retrieve_failed (Err y) f h written = record { graphs = tt; takes = tt; most = written.most; never = λ points. subst IsNoDamage (sym h.1) written.never }
+pub no_graphs : {z : History} {now : List Element} {edges : List Edge} {cols : Columns} {targets : List NodeId} {times : List ℕ} {before after : ℕ}
+    (r : Result Retrieved RecordFault) → IsErr r → TakesAlongTree edges targets before after r → RetrievesOver z now edges cols targets times before after r
+no_graphs (Ok t) h taken = cc
+no_graphs (Err y) h taken = record { graphs = tt; takes = tt; most = taken.most; never = λ points. taken.never }
 
 -- ---- the set of a node
 
 module _ {z : History} {edges : List Edge} {node : NodeId} where
-  pub node_failed : {cols : Columns} {before after : ℕ} (r : Result NodeLead RetrievalFault) (f : RetrievalFault) → HandsOut r f
+  pub node_failed : {cols : Columns} {before after : ℕ} (r : Result NodeLead RecordFault) (f : RecordFault) → HandsOut r f
       → ((steps : List ℕ) → IsPlan (arcs_of edges) (Root ∷ []) node steps → TakesAtMost (weight_of (arcs_of edges) steps) before after)
       → IsNoDamage f → LeadsToNodeOver z edges cols node before after r
   node_failed (Ok lead) f h most none = cc
   node_failed (Err y) f h most none = record { set = tt; takes = tt; most = most; never = subst IsNoDamage (sym h.1) none }
 
   -- where no plan is made
-  pub node_unplanned : {cols : Columns} {before : ℕ} (r : Result NodeLead RetrievalFault) (f : RetrievalFault) → HandsOut r f → IsNoDamage f → LeadsToNodeOver z edges cols node before before r
+  pub node_unplanned : {cols : Columns} {before : ℕ} (r : Result NodeLead RecordFault) (f : RecordFault) → HandsOut r f → IsNoDamage f → LeadsToNodeOver z edges cols node before before r
   node_unplanned {cols} {before} r f h none = node_failed r f h (λ steps plan. nothing_taken _ before) none
 
   -- without a lead there is no set
-  pub set_failed : {cols : Columns} {before after : ℕ} (r : Result (List Element) RetrievalFault) (f : RetrievalFault) → HandsOut r f
+  pub set_failed : {cols : Columns} {before after : ℕ} (r : Result (List Element) RecordFault) (f : RecordFault) → HandsOut r f
       → LeadsToNodeOver z edges cols node before after (Err f) → GivesSetOver z edges node before after r
   set_failed (Ok set) f h led = cc
   set_failed (Err y) f h led = record { set = tt; takes = tt; most = led.most; never = subst IsNoDamage (sym h.1) led.never }
 
 module _ (names : ℕ) (image : Option (List ℕ)) (o : Opening) (edges : List Edge) (is : edges ≡ record_edges o) (node : NodeId) where
   -- the first damage of the tree of one target is that of its plan
-  pub plan_told : (r : Result (List Element) RetrievalFault) (f : RetrievalFault) → HandsOut r f → IfSome image (λ im. IsFirstDamage names edges o all_columns (node ∷ []) im f)
+  pub plan_told : (r : Result (List Element) RecordFault) (f : RecordFault) → HandsOut r f → IfSome image (λ im. IsFirstDamage names edges o all_columns (node ∷ []) im f)
       → IfSome image (λ im. TellsPlan names im o node r)
   plan_told (Ok set) f h damage = cc
   plan_told (Err fault.Disk) f h damage = of_any image (λ im. tt)
@@ -138,12 +137,12 @@ module _ (names : ℕ) (image : Option (List ℕ)) (o : Opening) (edges : List E
 
 module _ {z : History} {edges : List Edge} {nodes : List NodeId} where
   -- without leads there are no sets
-  pub sets_failed : {before after : ℕ} (r : Result (Vec (List Element) Global) RetrievalFault) (f : RetrievalFault) → HandsOut r f
+  pub sets_failed : {before after : ℕ} (r : Result (Vec (List Element) Global) RecordFault) (f : RecordFault) → HandsOut r f
       → ((singles : List ℕ) → AreSingles (arcs_of edges) (Root ∷ []) nodes singles → TakesAtMost (sum singles) before after)
       → IsNoDamage f → GivesSetsOver z edges nodes before after r
   sets_failed (Ok sets) f h most none = cc
   sets_failed (Err y) f h most none = record { sets = tt; most = most; never = subst IsNoDamage (sym h.1) none }
 
   -- where no tree is planned
-  pub sets_unplanned : {before : ℕ} (r : Result (Vec (List Element) Global) RetrievalFault) (f : RetrievalFault) → HandsOut r f → IsNoDamage f → GivesSetsOver z edges nodes before before r
+  pub sets_unplanned : {before : ℕ} (r : Result (Vec (List Element) Global) RecordFault) (f : RecordFault) → HandsOut r f → IsNoDamage f → GivesSetsOver z edges nodes before before r
   sets_unplanned {before} r f h none = sets_failed r f h (λ singles are. nothing_taken _ before) none

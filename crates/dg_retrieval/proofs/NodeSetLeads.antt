@@ -1,10 +1,9 @@
 -- The sets of nodes, by what leads to them along a tree over the records of an index.
-use Rattle.std.proofs.Common.{◌≡◌, ◌<◌, ◌≤◌, ◌+◌, ℕ, true, false, List as ListOf, [], ◌∷◌, ◌++◌, Option, Result, Ok, Err, IfSome, append-nil, get_or, length, map, take, refl, sym, ap, subst, ◌∙◌, arith}
+use Rattle.std.proofs.Common.{◌≡◌, ◌<◌, ◌≤◌, ◌+◌, ℕ, true, false, List as ListOf, [], ◌∷◌, ◌++◌, Option, Result, Ok, Err, append-nil, get_or, length, map, take, refl, sym, ap, subst, ◌∙◌, arith}
 use Rattle.std.specs.List.{All, AllZip}
 use Rattle.std.proofs.lemmas.Bool.{false≢true}
 use Rattle.std.proofs.lemmas.List.{map-append, take_all, take_more}
 use Rattle.std.proofs.lemmas.List.Elements.{All-cons, All-head, All-map, All-nil, All-push, All-tail}
-use Rattle.std.proofs.lemmas.Option.{IfSome_then}
 use Rattle.dg_fold.specs.declared.part.Part.{Part}
 use Rattle.dg_fold.specs.declared.tree.Branch.{Branch}
 use Rattle.dg_fold.specs.Ends.{AreLedUntil, Lead, LeadsUntil, last_in}
@@ -134,8 +133,9 @@ module _ (names : ℕ) (z : History) (walk : ListOf Edge) (parts : ListOf Part) 
 
 module _ (o : Opening) (edges : ListOf Edge) (is : edges ≡ record_edges o) (targets : ListOf NodeId) (bare : All HasNoEvents targets) (grafts : ListOf (Graft NodeId)) (names : ℕ)
     (times : ListOf ℕ) (leads : ListOf GraphLead) where
-  gives : (im : ListOf ℕ) → AreTreeLeads names [] edges o all_columns targets grafts times leads im → (z : History) → IsIndexOver z im o names → map from_nothing leads ≡ sets_of z targets
-  gives im led z over =
+  -- over an image of a history, they lead to the sets of the nodes
+  pub sets_come : (im : ListOf ℕ) → AreTreeLeads names [] edges o all_columns targets grafts times leads im → (z : History) → IsIndexOver z im o names → map from_nothing leads ≡ sets_of z targets
+  sets_come im led z over =
       let branches = led.0 in
       let are = led.1 in
       let parts = led.2 in
@@ -147,11 +147,6 @@ module _ (o : Opening) (edges : ListOf Edge) (is : edges ≡ record_edges o) (ta
       all_led (length (names_of z)) z walk parts (walk_all o all_columns false [] edges is (steps_of grafts) walk along TakesRecord (edges_take (record_ground o) refl refl)) reaches
       edges branches times targets led.4 leads (ends_are edges targets grafts branches are) bare
       (subst (λ n. AreLedUntil n [] parts (paired walk parts) branches times led.4) over.names led.5) led.6
-
-  -- over an image of a history, they are the sets of the nodes
-  pub sets_are : (image : Option (ListOf ℕ)) → IfSome image (λ im. AreTreeLeads names [] edges o all_columns targets grafts times leads im)
-      → (sets : ListOf (ListOf Element)) → sets ≡ map from_nothing leads → IfSome image (λ im. (z : History) → IsIndexOver z im o names → sets ≡ sets_of z targets)
-  sets_are image led sets come = IfSome_then image led (λ im there z over. come ∙ gives im there z over)
 
 -- the names that the sets have are there, where those that the leads put in are
 pub sets_named : (names : ℕ) (leads : ListOf GraphLead) → LeadNamesAreThere names [] leads → (sets : ListOf (ListOf Element)) → sets ≡ map from_nothing leads → All (NamesAreThere names) sets

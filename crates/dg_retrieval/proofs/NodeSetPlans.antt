@@ -31,9 +31,9 @@ use Rattle.dg_plan.specs.HistoryGraph.{all_columns}
 use Rattle.dg_plan.specs.IndexGraph.{arcs_of}
 use Rattle.dg_plan.specs.Walks.{Graft, IsPlan, IsTree, Leads, steps_of, weight_of}
 use Rattle.dg_plan.proofs.WalkPlans.{one_plan}
-use Rattle.dg_retrieval.specs.declared.fault.RetrievalFault.{RetrievalFault}
-use Rattle.dg_retrieval.specs.declared.fault.RetrievalFault.TheVariants as fault
-use Rattle.dg_retrieval.specs.Faults.{of_fold}
+use Rattle.dg_records.specs.declared.fault.RecordFault.{RecordFault}
+use Rattle.dg_records.specs.declared.fault.RecordFault.TheVariants as fault
+use Rattle.dg_fold.specs.Faults.{of_fold}
 use Rattle.dg_retrieval.specs.KeptGraph.{index_edges, index_ground, record_edges}
 use Rattle.dg_retrieval.specs.NodeSets.{IsIndexOver, IsLedAlong, IsLedByPlan, IsUndamaged, set_after}
 use Rattle.dg_retrieval.specs.Retrieval.{IsFirstDamage, IsNoDamage}
@@ -155,7 +155,7 @@ module _ (names : ℕ) (image : Option (ListOf ℕ)) (o : Opening) (edges : List
   set_is d led set applies = IfSome_then image led (λ im there z over. applies ∙ sym (all_shown (applied d [])) ∙ there z over ∙ all_shown (set_of z.params (events_of z) node))
 
   -- the first damage of the tree of one target is that of its plan
-  pub set_damaged : (f : RetrievalFault) (key : Key) (col : Column) → f ≡ fault.Damaged key col → IfSome image (λ im. IsFirstDamage names edges o all_columns (node ∷ []) im f)
+  pub set_damaged : (f : RecordFault) (key : Key) (col : Column) → f ≡ fault.Damaged key col → IfSome image (λ im. IsFirstDamage names edges o all_columns (node ∷ []) im f)
       → IfSome image (λ im. IsLedByPlan names im o node (Err (key, col)))
   set_damaged f key col named damage = IfSome_then image damage (λ im there. first im (subst (IsFirstDamage names edges o all_columns (node ∷ []) im) named there))
     where

@@ -1,6 +1,5 @@
 -- The graphs as of instants, by what leads to their points along a tree.
-use Rattle.std.proofs.Common.{◌≡◌, ℕ, suc, List as ListOf, [], ◌∷◌, Option, IfSome, length, map, refl, ap, subst, ◌∙◌}
-use Rattle.std.proofs.lemmas.Option.{IfSome_then}
+use Rattle.std.proofs.Common.{◌≡◌, ℕ, suc, List as ListOf, [], ◌∷◌, length, map, refl, ap, subst, ◌∙◌}
 use Rattle.dg_fold.specs.Ends.{AreLedUntil}
 use Rattle.dg_fold.specs.Steps.{paired}
 use Rattle.dg_fold.specs.Trees.{all_edges}
@@ -37,9 +36,10 @@ index_over over = record { stands = over.stands; opened = over.opened; names = o
 
 module _ (o : Opening) (cols : Columns) (edges : ListOf Edge) (is : AreIndexEdges o cols edges) (targets : ListOf NodeId) (grafts : ListOf (Graft NodeId)) (names : ℕ)
     (recent : ListOf Event) (times : ListOf ℕ) (leads : ListOf GraphLead) where
-  gives : (im : ListOf ℕ) → AreTreeLeads names recent edges o cols targets grafts times leads im → (z : History) (now : ListOf Element) (held : ℕ → ListOf Element) → IsOver z im o names now recent
+  -- over an image of a history, with its points as targets, they lead to the graphs as of the instants
+  pub leads_come : (im : ListOf ℕ) → AreTreeLeads names recent edges o cols targets grafts times leads im → (z : History) (now : ListOf Element) (held : ℕ → ListOf Element) → IsOver z im o names now recent
       → AreHeld z edges cols held → ArePoints z targets times → map (led_to now held cols) leads ≡ graphs_at z times cols
-  gives im led z now held over are_held points =
+  leads_come im led z now held over are_held points =
       let branches = led.0 in
       let are = led.1 in
       let parts = led.2 in
@@ -53,9 +53,3 @@ module _ (o : Opening) (cols : Columns) (edges : ListOf Edge) (is : AreIndexEdge
       (subst (λ (es : ListOf Event). AreLedUntil names es parts (paired walk parts) branches times led.4) over.recent led.5) in
       ap (λ (set : ListOf Element). map (led_to set held cols) leads) over.now
       ∙ graphs_are (length (names_of z)) z cols edges held are_held walk parts law.1 targets grafts branches times led.4 leads are points led_so led.6
-
-  -- over an image of a history, with its points as targets, they lead to the graphs as of the instants
-  pub leads_come : (image : Option (ListOf ℕ)) → IfSome image (λ im. AreTreeLeads names recent edges o cols targets grafts times leads im)
-      → IfSome image (λ im. (z : History) (now : ListOf Element) (held : ℕ → ListOf Element) → IsOver z im o names now recent → AreHeld z edges cols held → ArePoints z targets times
-      → map (led_to now held cols) leads ≡ graphs_at z times cols)
-  leads_come image led = IfSome_then image led (λ im there z now held over are_held points. gives im there z now held over are_held points)

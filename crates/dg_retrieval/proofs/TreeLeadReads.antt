@@ -37,8 +37,8 @@ use Rattle.dg_plan.proofs.WalkTrees.{tree_grows}
 use Rattle.dg_planner.specs.declared.tree.Graft.{Graft as PlannedGraft}
 use Rattle.dg_planner.specs.Trees.{node_graft, node_grafts}
 use Rattle.dg_retrieval.specs.Branches.{AreBranches}
-use Rattle.dg_retrieval.specs.Faults.{of_fold}
-use Rattle.dg_retrieval.specs.declared.fault.RetrievalFault.{RetrievalFault}
+use Rattle.dg_fold.specs.Faults.{of_fold}
+use Rattle.dg_records.specs.declared.fault.RecordFault.{RecordFault}
 use Rattle.dg_retrieval.specs.declared.graph_lead.Beginning.{Beginning}
 use Rattle.dg_retrieval.specs.Beginnings.{GraphLead, IsOffered, LeadsAs, BeginningStandsFor, base_handle, begun_within, leads_from}
 use Rattle.dg_retrieval.specs.Calls.{LeadNamesAreThere}
@@ -144,7 +144,7 @@ fault_handed (Ok a) x h is = cc
 fault_handed (Err y) x h is = sym h.1 ∙ cc
 
 -- no damage is no first damage
-pub no_first_damage : (names : ℕ) (edges : ListOf Edge) (o : Opening) (cols : Columns) (targets : ListOf NodeId) (image : Option (ListOf ℕ)) (f : RetrievalFault) → IsNoDamage f
+pub no_first_damage : (names : ℕ) (edges : ListOf Edge) (o : Opening) (cols : Columns) (targets : ListOf NodeId) (image : Option (ListOf ℕ)) (f : RecordFault) → IsNoDamage f
     → IfSome image (λ im. IsFirstDamage names edges o cols targets im f)
 no_first_damage names edges o cols targets None f none = tt
 no_first_damage names edges o cols targets (Some im) f (inl disk) = subst (IsFirstDamage names edges o cols targets im) (sym disk) tt

@@ -1,10 +1,8 @@
 -- What the calls of a retrieval answer: what is given, over which image and at what cost, and what each call leaves.
-use Rattle.std.specs.Prelude.{◌≡◌, ◌≤◌, ℕ, List, [], ◌∷◌, Option, Result, Ok, Err, IfErr, IfOk, IfSome, IsErrOf, length, map}
+use Rattle.std.specs.Prelude.{◌≡◌, ◌≤◌, ℕ, List, [], ◌∷◌, Option, Result, Ok, Err, IfErr, IfOk, IfSome, length, map}
 use Rattle.std.specs.Global.{Vec}
 use Rattle.std.specs.List.{All, sum}
-use Rattle.dg_disk.specs.Calls.{Fails, ReadsDisk}
-use Rattle.dg_disk.specs.declared.disk.Disk.{Ghosts}
-use Rattle.dg_fold.specs.BytesRead.{AreParts, Takes, TakesAtMost, kept_in, named_along}
+use Rattle.dg_fold.specs.BytesRead.{AreParts, named_along}
 use Rattle.dg_fold.specs.Trees.{Grow, LeadsToTarget}
 use Rattle.dg_graph.specs.Composition.{applied}
 use Rattle.dg_graph.specs.declared.element.Columns.{Columns}
@@ -22,30 +20,27 @@ use Rattle.dg_plan.specs.IndexGraph.{arcs_of}
 use Rattle.dg_plan.specs.Walks.{AreSingles, Graft, IsPlan, IsTree, tree_weight, weight_of}
 use Rattle.dg_planner.specs.Trees.{grafts_in}
 use Rattle.dg_planner.specs.Whole.{TREE_WEIGHT_MAX}
+pub use Rattle.dg_records.specs.Calls.{ReadsRecords}
+use Rattle.dg_records.specs.ColumnReads.{Takes, TakesAtMost, kept_in}
+use Rattle.dg_records.specs.declared.fault.RecordFault.{RecordFault}
+use Rattle.dg_records.specs.declared.fault.RecordFault.TheVariants as fault
+use Rattle.dg_records.specs.EventNames.{EventNamesAreThere}
 use Rattle.dg_retrieval.specs.Beginnings.{GraphLead, IsOffered, base_handle, leads_in, led_to}
-use Rattle.dg_retrieval.specs.declared.fault.RetrievalFault.{RetrievalFault}
-use Rattle.dg_retrieval.specs.declared.fault.RetrievalFault.TheVariants as fault
 use Rattle.dg_retrieval.specs.declared.node_lead.NodeLead.{NodeLead}
 use Rattle.dg_retrieval.specs.declared.retrieval.Retrieved.{Retrieved}
 use Rattle.dg_retrieval.specs.declared.tree_parts.TreeParts.{TreeParts}
-use Rattle.dg_retrieval.specs.declared.tree_writings.TreeWritings.{TreeWritings}
 use Rattle.dg_retrieval.specs.KeptGraph.{record_edges}
-use Rattle.dg_retrieval.specs.NamesThere.{EventNamesAreThere, NamesAreThere}
+use Rattle.dg_retrieval.specs.NamesThere.{NamesAreThere}
 use Rattle.dg_retrieval.specs.NodeSets.{IsLedAlong, IsLedByPlan, IsUndamaged, sets_of}
 use Rattle.dg_retrieval.specs.Retrieval.{AreHeld, ArePoints, IsFirstDamage, IsNoDamage, IsTreeOf, TakesAtMostTree, graphs_at}
-use Rattle.dg_retrieval.specs.TreeLeads.{AreTreeLeads, LeadAlongTree}
+use Rattle.dg_retrieval.specs.TreeLeads.{AreTreeLeads}
 use Rattle.dg_retrieval.specs.TreeParts.{IsTreeWalk}
 
 -- ---- every call
 
--- The image is as it was, and where the call says that a read failed, one did.
-pub record ReadsRecords {A D : Type 0} (g : Ghosts D) (old new : D) (result : Result A RetrievalFault) : Type 0 where
-  pub disk : ReadsDisk g old new
-  pub cause : IsErrOf result fault.Disk → Fails g old new
-
 -- What the call tells of damage in this image: what is given has met none among the columns that the tree of the
 -- targets enters; a fault that is damage names the first.
-abbrev pub TellsDamage : {A : Type 0} → ℕ → List Edge → Opening → Columns → List NodeId → List ℕ → Result A RetrievalFault → Type 0
+abbrev pub TellsDamage : {A : Type 0} → ℕ → List Edge → Opening → Columns → List NodeId → List ℕ → Result A RecordFault → Type 0
 TellsDamage name_count edges o cols targets image (Ok r) = IsUndamaged name_count edges o cols targets image
 TellsDamage name_count edges o cols targets image (Err f) = IsFirstDamage name_count edges o cols targets image f
 
@@ -73,26 +68,13 @@ pub record IsRetrieval (name_count : ℕ) (recent : List Event) (edges : List Ed
 -- come to the graphs as of these, and no damage is met; as many bytes are read as the tree weighs, and no more where the
 -- call fails.
 pub record RetrievesOver (z : History) (now : List Element) (edges : List Edge) (cols : Columns) (targets : List NodeId) (times : List ℕ) (before after : ℕ)
-    (result : Result Retrieved RetrievalFault) : Type 0 where
+    (result : Result Retrieved RecordFault) : Type 0 where
   pub graphs : IfOk result (λ r. (held : ℕ → List Element) → AreHeld z edges cols held → ArePoints z targets times → map (led_to now held cols) (leads_in r.leads) ≡ graphs_at z times cols)
   pub takes : IfOk result (λ r. Takes r.weight before after)
   pub most : TakesAtMostTree edges targets before after
   pub never : IfErr result (λ f. ArePoints z targets times → IsNoDamage f)
 
 -- ---- one tree
-
--- The tree is one of the targets, with what it and the single plans weigh; there is a lead along it to each target,
--- which puts in names that are there.
-pub record IsAlongTree (name_count : ℕ) (recent : List Event) (edges : List Edge) (o : Opening) (cols : Columns) (targets : List NodeId) (times : List ℕ) (image : Option (List ℕ))
-    (r : TreeWritings) : Type 0 where
-  pub tree : IsTree (arcs_of edges) (Root ∷ []) targets (grafts_in r.tree)
-  pub weight : r.tree.weight ≡ tree_weight (arcs_of edges) (grafts_in r.tree)
-  pub singles : AreSingles (arcs_of edges) (Root ∷ []) targets r.tree.singles.items
-  pub sum : r.tree.sum ≡ sum r.tree.singles.items
-  pub light : r.tree.weight ≤ TREE_WEIGHT_MAX
-  pub light_sum : r.tree.sum ≤ TREE_WEIGHT_MAX
-  pub leads : LeadAlongTree name_count recent edges o cols targets (grafts_in r.tree) times image (leads_in r.leads)
-  pub named : LeadNamesAreThere name_count recent (leads_in r.leads)
 
 -- The tree is one of the targets, with what it and the single plans weigh; a branch leads to each target, each from
 -- the tree before it, and each record on the walk along them has its part in this image.
@@ -119,14 +101,14 @@ pub record IsLedAlongTree (name_count : ℕ) (recent : List Event) (edges : List
 
 -- With the image and the index of a history: as many bytes are read as the tree given weighs, and no more where the
 -- call fails, and never more than the single plans weigh together.
-pub record TakesTree {A : Type 0} (edges : List Edge) (targets : List NodeId) (before after : ℕ) (weight : A → ℕ) (result : Result A RetrievalFault) : Type 0 where
+pub record TakesTree {A : Type 0} (edges : List Edge) (targets : List NodeId) (before after : ℕ) (weight : A → ℕ) (result : Result A RecordFault) : Type 0 where
   pub takes : IfOk result (λ r. Takes (weight r) before after)
   pub most : TakesAtMostTree edges targets before after
   pub shared : (singles : List ℕ) → AreSingles (arcs_of edges) (Root ∷ []) targets singles → TakesAtMost (sum singles) before after
 
--- The same, and no damage is met.
-pub record WritesOver (edges : List Edge) (targets : List NodeId) (before after : ℕ) (result : Result TreeWritings RetrievalFault) : Type 0 where
-  pub takes : IfOk result (λ r. Takes r.tree.weight before after)
+-- The same of a retrieval, and no damage is met.
+pub record TakesAlongTree (edges : List Edge) (targets : List NodeId) (before after : ℕ) (result : Result Retrieved RecordFault) : Type 0 where
+  pub takes : IfOk result (λ r. Takes r.weight before after)
   pub most : TakesAtMostTree edges targets before after
   pub shared : (singles : List ℕ) → AreSingles (arcs_of edges) (Root ∷ []) targets singles → TakesAtMost (sum singles) before after
   pub never : IfErr result IsNoDamage
@@ -142,7 +124,7 @@ pub record LeadsToNode (name_count : ℕ) (edges : List Edge) (o : Opening) (col
 
 -- With the image and the index of a history: the delta leads from nothing to the node's set, as many bytes are read as
 -- its least plan weighs, and no more where the call fails, and no damage is met.
-pub record LeadsToNodeOver (z : History) (edges : List Edge) (cols : Columns) (node : NodeId) (before after : ℕ) (result : Result NodeLead RetrievalFault) : Type 0 where
+pub record LeadsToNodeOver (z : History) (edges : List Edge) (cols : Columns) (node : NodeId) (before after : ℕ) (result : Result NodeLead RecordFault) : Type 0 where
   pub set : IfOk result (λ r. shown (applied r.delta []) cols ≡ shown (set_of z.params (events_of z) node) cols)
   pub takes : IfOk result (λ r. Takes r.weight before after)
   pub most : (steps : List ℕ) → IsPlan (arcs_of edges) (Root ∷ []) node steps → TakesAtMost (weight_of (arcs_of edges) steps) before after
@@ -150,7 +132,7 @@ pub record LeadsToNodeOver (z : History) (edges : List Edge) (cols : Columns) (n
 
 -- What is given is the set to which the records along the node's least plan come in this image; a fault that is damage
 -- names the first among the columns that the plan enters.
-abbrev pub TellsPlan : ℕ → List ℕ → Opening → NodeId → Result (List Element) RetrievalFault → Type 0
+abbrev pub TellsPlan : ℕ → List ℕ → Opening → NodeId → Result (List Element) RecordFault → Type 0
 TellsPlan name_count image o node (Ok set) = IsLedByPlan name_count image o node (Ok set)
 TellsPlan name_count image o node (Err fault.Disk) = Unit {0}
 TellsPlan name_count image o node (Err (fault.Damaged key col)) = IsLedByPlan name_count image o node (Err (key, col))
@@ -158,7 +140,7 @@ TellsPlan name_count image o node (Err fault.Memory) = Unit {0}
 
 -- With the image and the index of a history: the set is that of the node, as many bytes are read as its least plan
 -- weighs, and no more where the call fails, and no damage is met.
-pub record GivesSetOver (z : History) (edges : List Edge) (node : NodeId) (before after : ℕ) (result : Result (List Element) RetrievalFault) : Type 0 where
+pub record GivesSetOver (z : History) (edges : List Edge) (node : NodeId) (before after : ℕ) (result : Result (List Element) RecordFault) : Type 0 where
   pub set : IfOk result (λ set. set ≡ set_of z.params (events_of z) node)
   pub takes : IfOk result (λ set. (steps : List ℕ) → IsPlan (arcs_of edges) (Root ∷ []) node steps → Takes (weight_of (arcs_of edges) steps) before after)
   pub most : (steps : List ℕ) → IsPlan (arcs_of edges) (Root ∷ []) node steps → TakesAtMost (weight_of (arcs_of edges) steps) before after
@@ -182,7 +164,7 @@ pub record AreLedByTree (name_count : ℕ) (image : List ℕ) (o : Opening) (nod
 
 -- With the image and the index of a history: the sets are those of the nodes, at most as many bytes are read as the
 -- single plans weigh together, and no damage is met.
-pub record GivesSetsOver (z : History) (edges : List Edge) (nodes : List NodeId) (before after : ℕ) (result : Result (Vec (List Element)) RetrievalFault) : Type 0 where
+pub record GivesSetsOver (z : History) (edges : List Edge) (nodes : List NodeId) (before after : ℕ) (result : Result (Vec (List Element)) RecordFault) : Type 0 where
   pub sets : IfOk result (λ sets. sets.items ≡ sets_of z nodes)
   pub most : (singles : List ℕ) → AreSingles (arcs_of edges) (Root ∷ []) nodes singles → TakesAtMost (sum singles) before after
   pub never : IfErr result IsNoDamage

@@ -2,10 +2,10 @@ pub mod KeptGraph
 pub mod Beginnings
 pub mod Retrieval
 pub mod Branches
-pub mod Faults
 pub mod NodeSets
 pub mod TreeLeads
 pub mod ValueRange
 pub mod TreeParts
 pub mod NamesThere
 pub mod Calls
+pub mod Planned

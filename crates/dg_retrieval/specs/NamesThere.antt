@@ -1,12 +1,9 @@
--- The names that elements and events have are there: the number of each is below the number of names.
-use Rattle.std.specs.Prelude.{◌≡◌, ◌<◌, ℕ, true, List, Option, IfSome}
-use Rattle.std.specs.List.{All}
+-- The names that elements have are there, as those of events are: the number of each is below the number of names.
+use Rattle.std.specs.Prelude.{◌≡◌, ◌<◌, ℕ, true, List}
 use Rattle.dg_graph.specs.declared.element.Element.{Element}
 use Rattle.dg_graph.specs.declared.element.Element.TheVariants as element
-use Rattle.dg_graph.specs.declared.event.Body.{Body}
-use Rattle.dg_graph.specs.declared.event.Body.TheVariants as body
-use Rattle.dg_graph.specs.declared.event.Event.{Event}
 use Rattle.dg_graph.specs.Elements.{has}
+pub use Rattle.dg_records.specs.EventNames.{BodyHasNamesThere, ChangeHasNamesThere, EventNamesAreThere}
 
 -- the key and the value that an element has, if it has them, are among so many names
 abbrev pub HasNamesThere : ℕ → Element → Type 0
@@ -18,18 +15,3 @@ HasNamesThere name_count _ = Unit {0}
 -- so are those of all elements of the set
 abbrev pub NamesAreThere : ℕ → List Element → Type 0
 NamesAreThere name_count set = (x : Element) → has set x ≡ true → HasNamesThere name_count x
-
--- so are those of a value's change
-abbrev pub ChangeHasNamesThere : ℕ → ℕ → Option ℕ → Option ℕ → Type 0
-ChangeHasNamesThere name_count key old new = (key < name_count) × IfSome old (λ n. n < name_count) × IfSome new (λ n. n < name_count)
-
--- and of an event's body
-abbrev pub BodyHasNamesThere : ℕ → Body → Type 0
-BodyHasNamesThere name_count (body.NodeAttr key id old new) = ChangeHasNamesThere name_count key old new
-BodyHasNamesThere name_count (body.EdgeAttr key id old new) = ChangeHasNamesThere name_count key old new
-BodyHasNamesThere name_count (body.Message src dst value) = value < name_count
-BodyHasNamesThere name_count _ = Unit {0}
-
--- and of all these events
-abbrev pub EventNamesAreThere : ℕ → List Event → Type 0
-EventNamesAreThere name_count events = All (λ (e : Event). BodyHasNamesThere name_count e.body) events

@@ -22,8 +22,8 @@ use Rattle.dg_plan.specs.declared.edge.Via.TheVariants as via
 use Rattle.dg_plan.specs.IndexGraph.{arcs_of}
 use Rattle.dg_plan.specs.InstantPoint.{point}
 use Rattle.dg_plan.specs.Walks.{Graft, IsTree, steps_of, tree_weight}
-use Rattle.dg_retrieval.specs.declared.fault.RetrievalFault.{RetrievalFault}
-use Rattle.dg_retrieval.specs.declared.fault.RetrievalFault.TheVariants as fault
+use Rattle.dg_records.specs.declared.fault.RecordFault.{RecordFault}
+use Rattle.dg_records.specs.declared.fault.RecordFault.TheVariants as fault
 
 -- The image stands for the history, the index is what it is opened as, and the names, the current graph and
 -- the recent events that are in memory are those of the history.
@@ -62,7 +62,7 @@ TakesAtMostTree edges targets before after =
 
 -- The fault names the first damage among the columns that the tree of the targets enters, in the order of its
 -- steps and of the columns, where this is the image.
-abbrev pub IsFirstDamage : ℕ → List Edge → Opening → Columns → List NodeId → List ℕ → RetrievalFault → Type 0
+abbrev pub IsFirstDamage : ℕ → List Edge → Opening → Columns → List NodeId → List ℕ → RecordFault → Type 0
 IsFirstDamage names edges o cols targets image fault.Disk = Unit {0}
 IsFirstDamage names edges o cols targets image fault.Memory = Unit {0}
 IsFirstDamage names edges o cols targets image (fault.Damaged key col) =
@@ -71,5 +71,5 @@ IsFirstDamage names edges o cols targets image (fault.Damaged key col) =
     × (parts_in names parts ≡ Err (key, col))
 
 -- the fault is no damage
-abbrev pub IsNoDamage : RetrievalFault → Type 0
+abbrev pub IsNoDamage : RecordFault → Type 0
 IsNoDamage f = (f ≡ fault.Disk) ⊎ (f ≡ fault.Memory)

@@ -4,17 +4,16 @@
 
 mod beginnings;
 mod branches;
-mod fault;
 mod graph_lead;
 mod node_lead;
+mod planned_index;
 mod record_sets;
 mod retrieval;
 mod tree_parts;
-mod tree_writings;
 
-pub use fault::RetrievalFault;
 pub use graph_lead::{Beginning, Leads};
 pub use node_lead::{NodeLead, retrieve_node};
-pub use record_sets::{ALL_COLUMNS, node_sets, plan_set};
+pub use planned_index::{ALL_COLUMNS, PlannedIndex, record_planner, shape_of};
+pub use record_sets::{node_sets, plan_set};
 pub use retrieval::{Retrieved, retrieve};
 pub use tree_parts::{TreeParts, read_tree};

@@ -2,36 +2,26 @@
 
 ghost use Rattle.std.specs.Prelude.{◌≡◌, ◌≤◌, [], length, map, IfOk, IfSome};
 ghost use Rattle.std.specs.List.{All, Contains};
-ghost use Rattle.dg_file.specs.Images.{IsOpenedAs};
 ghost use Rattle.dg_graph.specs.Composition.{applied};
 ghost use Rattle.dg_history.specs.History.{History};
 ghost use Rattle.dg_plan.specs.HistoryGraph.{all_columns};
 ghost use Rattle.dg_retrieval.specs.Beginnings.{GraphLead, leads_in};
 ghost use Rattle.dg_retrieval.specs.Calls.{AreLedByTree, AreNodeSets, GivesSetOver, GivesSetsOver, ReadsRecords, TellsDamage, TellsPlan};
-ghost use Rattle.dg_retrieval.specs.KeptGraph.{record_edges, record_nodes};
 ghost use Rattle.dg_retrieval.specs.NamesThere.{NamesAreThere};
 ghost use Rattle.dg_retrieval.specs.NodeSets.{HasNoEvents, IsIndexOver};
+ghost use Rattle.dg_retrieval.specs.Planned.{IsOverRecords};
 
-use crate::fault::RetrievalFault;
 use crate::graph_lead::Leads;
 use crate::node_lead::retrieve_node;
-use crate::tree_writings::{TreeWritings, write_along_tree};
+use crate::planned_index::{ALL_COLUMNS, PlannedIndex};
+use crate::retrieval::{Retrieved, retrieve};
 use dg_disk::Disk;
-use dg_file::Index;
 use dg_fold::compose_for;
-use dg_graph::Columns;
 use dg_history::NodeId;
-use dg_planner::Planner;
+use dg_records::RecordFault;
 use dg_set::Set;
 use std::alloc::{AllocError, Global};
 use std::thread::Threads;
-
-/// All columns of a record; messages are in no set, and are not read.
-pub const ALL_COLUMNS: Columns = Columns {
-    nodes_attr: true,
-    edges_attr: true,
-    transient: true,
-};
 
 /// The set of a node, by its least plan over the records of the index alone. Each record that the plan enters is
 /// read once, with all its columns but messages, and nothing else. Records of up to 64 MiB are composed as they are read;
@@ -41,37 +31,29 @@ pub const ALL_COLUMNS: Columns = Columns {
 /// steps and of structure, node attributes, edge attributes, and `Memory`.
 pub fn plan_set<R: Threads + Sync, D: Disk>(
     rt: &R,
-    alloc: Global,
-    index: &Index,
+    from: &PlannedIndex,
     disk: &mut D,
-    name_count: u32,
-    planner: &Planner,
     node: NodeId,
-) -> Result<Set, RetrievalFault>
-    requires image { IfSome (D.image disk.old) (λ image. IsOpenedAs image index.now.opening) }
-    requires edges { planner.now.edges ≡ record_edges index.now.opening }
-    requires nodes { planner.now.nodes ≡ record_nodes index.now.opening }
-    requires node { Contains planner.now.nodes node }
+) -> Result<Set, RecordFault>
+    requires over { IsOverRecords (D.image disk.old) all_columns from.now }
+    requires node { Contains from.now.planner.now.nodes node }
     // the set
-    ensures named { IfOk result (NamesAreThere name_count) }
+    ensures named { IfOk result (NamesAreThere from.now.name_count) }
     // over an image of a history: which set it is, and the bytes read
-    ensures over { IfSome (D.image disk.old) (λ image. (z : History) → IsIndexOver z image index.now.opening name_count
-        → GivesSetOver z planner.now.edges node (D.taken disk.old) (D.taken disk.new) result) }
+    ensures over { IfSome (D.image disk.old) (λ image.
+        (z : History) → IsIndexOver z image from.now.index.now.opening from.now.name_count
+        → GivesSetOver z from.now.planner.now.edges node (D.taken disk.old) (D.taken disk.new) result) }
     // over whatever image: what the records lead to, and where they are damaged
-    ensures led { IfSome (D.image disk.old) (λ image. TellsPlan name_count image index.now.opening node result) }
+    ensures led { IfSome (D.image disk.old) (λ image.
+        TellsPlan from.now.name_count image from.now.index.now.opening node result) }
     // what it leaves, and why a read failed
     ensures reads { ReadsRecords D.Disk disk.old disk.new result }
 {
-    let lead = retrieve_node(
-        rt,
-        alloc,
-        index,
-        disk,
-        name_count,
-        planner,
-        node,
-        ALL_COLUMNS,
-    )?;
+    let whole = PlannedIndex {
+        cols: ALL_COLUMNS,
+        ..*from
+    };
+    let lead = retrieve_node(rt, &whole, disk, node)?;
     // From nothing it comes to what it puts in.
     let (_, set) = lead.delta.into_sets();
     Ok(set)
@@ -106,42 +88,35 @@ fn sets_led(alloc: Global, leads: &Leads) -> Result<Vec<Set>, AllocError>
 /// steps and of structure, node attributes, edge attributes, and `Memory`.
 pub fn node_sets<R: Threads, D: Disk>(
     rt: &R,
-    alloc: Global,
-    index: &Index,
+    from: &PlannedIndex,
     disk: &mut D,
-    name_count: u32,
-    planner: &Planner,
     nodes: &[NodeId],
-) -> Result<Vec<Set>, RetrievalFault>
-    requires image { IfSome (D.image disk.old) (λ image. IsOpenedAs image index.now.opening) }
-    requires edges { planner.now.edges ≡ record_edges index.now.opening }
-    requires graph { planner.now.nodes ≡ record_nodes index.now.opening }
-    requires nodes { All (Contains planner.now.nodes) nodes.now }
+) -> Result<Vec<Set>, RecordFault>
+    requires over { IsOverRecords (D.image disk.old) all_columns from.now }
+    requires nodes { All (Contains from.now.planner.now.nodes) nodes.now }
     requires leaves { All HasNoEvents nodes.now }
     requires few { length nodes.now ≤ 32 }
     // the sets
-    ensures done { IfOk result (λ sets. AreNodeSets name_count nodes.now sets.items) }
+    ensures done { IfOk result (λ sets. AreNodeSets from.now.name_count nodes.now sets.items) }
     // over an image of a history: which sets they are, and the bytes read
-    ensures over { IfSome (D.image disk.old) (λ image. (z : History) → IsIndexOver z image index.now.opening name_count
-        → GivesSetsOver z planner.now.edges nodes.now (D.taken disk.old) (D.taken disk.new) result) }
+    ensures over { IfSome (D.image disk.old) (λ image.
+        (z : History) → IsIndexOver z image from.now.index.now.opening from.now.name_count
+        → GivesSetsOver z from.now.planner.now.edges nodes.now (D.taken disk.old) (D.taken disk.new) result) }
     // over whatever image: which sets the records lead to, and where these are damaged
-    ensures led { IfSome (D.image disk.old) (λ image. IfOk result (λ sets. AreLedByTree name_count image index.now.opening nodes.now sets.items)) }
-    ensures damage { IfSome (D.image disk.old) (λ image. TellsDamage name_count planner.now.edges index.now.opening all_columns nodes.now image result) }
+    ensures led { IfSome (D.image disk.old) (λ image. IfOk result (λ sets.
+        AreLedByTree from.now.name_count image from.now.index.now.opening nodes.now sets.items)) }
+    ensures damage { IfSome (D.image disk.old) (λ image.
+        TellsDamage from.now.name_count from.now.planner.now.edges
+        from.now.index.now.opening all_columns nodes.now image result) }
     // what it leaves, and why a read failed
     ensures reads { ReadsRecords D.Disk disk.old disk.new result }
 {
-    let times = no_instants(alloc, nodes)?;
-    let TreeWritings { leads, .. } = write_along_tree(
-        rt,
-        alloc,
-        index,
-        disk,
-        name_count,
-        &[],
-        planner,
-        nodes,
-        &times,
-        ALL_COLUMNS,
-    )?;
-    Ok(sets_led(alloc, &leads)?)
+    let records = PlannedIndex {
+        recent: &[],
+        cols: ALL_COLUMNS,
+        ..*from
+    };
+    let times = no_instants(from.alloc, nodes)?;
+    let Retrieved { leads, .. } = retrieve(rt, &records, disk, nodes, &times)?;
+    Ok(sets_led(from.alloc, &leads)?)
 }

@@ -2,7 +2,6 @@
 
 ghost use Rattle.std.specs.Prelude.{◌≡◌, ℕ, ◌≤◌, ◌∷◌, [], length, IfErr, IfOk, IfSome};
 ghost use Rattle.std.specs.List.{All, Contains, sum};
-ghost use Rattle.dg_file.specs.Images.{IsOpenedAs};
 ghost use Rattle.dg_history.specs.declared.node.NodeId.TheVariants.{Root};
 ghost use Rattle.dg_history.specs.History.{History};
 ghost use Rattle.dg_plan.specs.IndexGraph.{arcs_of};
@@ -12,18 +11,17 @@ ghost use Rattle.dg_planner.specs.Whole.{TREE_WEIGHT_MAX};
 ghost use Rattle.dg_retrieval.specs.Calls.{HasTreeParts, ReadsRecords, TakesTree};
 ghost use Rattle.dg_retrieval.specs.NodeSets.{IsIndexOver};
 ghost use Rattle.dg_retrieval.specs.Retrieval.{IsNoDamage};
-ghost use Rattle.dg_retrieval.specs.TreeLeads.{AreIndexEdges};
+ghost use Rattle.dg_retrieval.specs.Planned.{IsOverFile};
 ghost use Rattle.dg_retrieval.specs.TreeParts.{IsTreeWalk};
 
 use crate::branches::{branches_of, walk_along};
-use crate::fault::RetrievalFault;
+use crate::planned_index::PlannedIndex;
 use dg_disk::Disk;
-use dg_file::Index;
 use dg_fold::{Branch, Part, fetch_walk};
-use dg_graph::Columns;
 use dg_history::NodeId;
 use dg_plan::Edge;
 use dg_planner::{Planner, Tree};
+use dg_records::RecordFault;
 use std::alloc::{AllocError, Global};
 
 // A tree of several targets, the branch of each target, and the edges of all branches, one after another.
@@ -74,26 +72,32 @@ pub struct TreeParts {
 ///
 /// `Disk` where a read failed, and `Memory`.
 pub fn read_tree<D: Disk>(
-    alloc: Global,
-    index: &Index,
+    from: &PlannedIndex,
     disk: &mut D,
-    planner: &Planner,
     targets: &[NodeId],
-    cols: Columns,
-) -> Result<TreeParts, RetrievalFault>
-    requires image { IfSome (D.image disk.old) (λ image. IsOpenedAs image index.now.opening) }
-    requires edges { AreIndexEdges index.now.opening cols planner.now.edges }
-    requires targets { All (Contains planner.now.nodes) targets.now }
+) -> Result<TreeParts, RecordFault>
+    requires over { IsOverFile (D.image disk.old) from.now }
+    requires targets { All (Contains from.now.planner.now.nodes) targets.now }
     requires few { length targets.now ≤ 32 }
     // the tree, and its parts
-    ensures done { IfOk result (HasTreeParts planner.now.edges index.now.opening cols targets.now (D.image disk.old)) }
+    ensures done { IfOk result (HasTreeParts from.now.planner.now.edges from.now.index.now.opening from.now.cols
+        targets.now (D.image disk.old)) }
     // over an image of a history: the bytes read
-    ensures over { (name_count : ℕ) → IfSome (D.image disk.old) (λ image. (z : History) → IsIndexOver z image index.now.opening name_count
-        → TakesTree planner.now.edges targets.now (D.taken disk.old) (D.taken disk.new) (λ r. r.tree.weight) result) }
+    ensures over { (name_count : ℕ) → IfSome (D.image disk.old) (λ image.
+        (z : History) → IsIndexOver z image from.now.index.now.opening name_count
+        → TakesTree from.now.planner.now.edges targets.now (D.taken disk.old) (D.taken disk.new)
+        (λ r. r.tree.weight) result) }
     // what it leaves, and why it fails
     ensures never { IfErr result IsNoDamage }
     ensures reads { ReadsRecords D.Disk disk.old disk.new result }
 {
+    let PlannedIndex {
+        alloc,
+        index,
+        planner,
+        cols,
+        ..
+    } = *from;
     // Its clauses say which records the index keeps.
     index.facts();
     let TreeWalk {

@@ -27,9 +27,9 @@ use Rattle.dg_fold.specs.PathIndependence.{contents}
 use Rattle.dg_fold.specs.Steps.{PartedStep, paired, steps_in}
 use Rattle.dg_fold.specs.Trees.{all_edges}
 use Rattle.dg_fold.proofs.LegalHistories.{legal_is_indexed}
-use Rattle.dg_retrieval.specs.declared.fault.RetrievalFault.{RetrievalFault}
+use Rattle.dg_records.specs.declared.fault.RecordFault.{RecordFault}
 use Rattle.dg_retrieval.specs.Branches.{AreBranches}
-use Rattle.dg_retrieval.specs.Faults.{of_fold}
+use Rattle.dg_fold.specs.Faults.{of_fold}
 use Rattle.dg_retrieval.specs.KeptGraph.{record_edges, record_ground}
 use Rattle.dg_retrieval.specs.NodeSets.{IsIndexOver, IsUndamaged, sets_of}
 use Rattle.dg_retrieval.specs.Retrieval.{IsFirstDamage, IsNoDamage}
@@ -155,7 +155,7 @@ module _ {edges : List Edge} {targets : List NodeId} {grafts : List (Graft NodeI
 -- ---- over an image of a history
 
 -- without steps, whatever was read
-pub steps_failed : {z : History} {edges : List Edge} {targets nodes : List NodeId} {before after : ℕ} (r : Result (Vec Delta Global) RetrievalFault) (f : RetrievalFault) → HandsOut r f
+pub steps_failed : {z : History} {edges : List Edge} {targets nodes : List NodeId} {before after : ℕ} (r : Result (Vec Delta Global) RecordFault) (f : RecordFault) → HandsOut r f
     → ((singles : List ℕ) → AreSingles (arcs_of edges) (Root ∷ []) targets singles → TakesAtMost (sum singles) before after) → IsNoDamage f → GivesStepsOver z edges targets nodes before after r
 steps_failed (Ok steps) f h most none = cc
 steps_failed (Err y) f h most none = record { steps = tt; most = most; never = subst IsNoDamage (sym h.1) none }

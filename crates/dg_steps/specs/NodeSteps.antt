@@ -21,7 +21,7 @@ use Rattle.dg_plan.specs.HistoryGraph.{all_columns}
 use Rattle.dg_plan.specs.IndexGraph.{Ground, arcs_of, edges_of}
 use Rattle.dg_plan.specs.Walks.{AreSingles, Graft, IsTree}
 use Rattle.dg_retrieval.specs.Branches.{AreBranches}
-use Rattle.dg_retrieval.specs.declared.fault.RetrievalFault.{RetrievalFault}
+use Rattle.dg_records.specs.declared.fault.RecordFault.{RecordFault}
 use Rattle.dg_retrieval.specs.KeptGraph.{record_edges}
 use Rattle.dg_retrieval.specs.NodeSets.{sets_of}
 use Rattle.dg_retrieval.specs.Retrieval.{IsNoDamage}
@@ -52,7 +52,7 @@ AreLedSteps names image o targets nodes steps =
 
 -- With the image and the index of a history: the steps are the exact deltas from the set of each node to that of the
 -- next, at most as many bytes are read as the single plans of the targets weigh together, and no damage is met.
-pub record GivesStepsOver (z : History) (edges : List Edge) (targets nodes : List NodeId) (before after : ℕ) (result : Result (Vec Delta) RetrievalFault) : Type 0 where
+pub record GivesStepsOver (z : History) (edges : List Edge) (targets nodes : List NodeId) (before after : ℕ) (result : Result (Vec Delta) RecordFault) : Type 0 where
   pub steps : IfOk result (λ steps. steps.items ≡ steps_among (sets_of z nodes))
   pub most : (singles : List ℕ) → AreSingles (arcs_of edges) (Root ∷ []) targets singles → TakesAtMost (sum singles) before after
   pub never : IfErr result IsNoDamage

@@ -8,7 +8,7 @@ use Rattle.dg_plan.specs.declared.edge.Edge.{Edge}
 use Rattle.dg_plan.specs.IndexGraph.{Ground, edges_of, nodes_of}
 use Rattle.dg_planner.specs.Bases.{AreBasesAmong, base_of, ground_of}
 use Rattle.dg_planner.specs.Whole.{PlannerGraph}
-use Rattle.dg_retrieval.specs.KeptGraph.{holding, kept_edges, kept_nodes, shape_with}
+use Rattle.dg_retrieval.specs.KeptGraph.{holding, kept_edges, kept_nodes}
 use Rattle.dg_ask.specs.KeptPlanner.{IsGraphFor}
 use Rattle.dg_ask.proofs.IndexNodes.{bases_listed, both_given}
 use Rattle.dg_ask.proofs.plans.planner_of.Goals as goal
@@ -17,7 +17,7 @@ pub new-requires-clause-bases : goal.new-requires-clause-bases
 new-requires-clause-bases c =
     let o : Opening = c.args.index.now.opening in
     let bases : map base_of c.deref.result.now ≡ bases_in c.args.cols c.args.handles.now.table = ap (map base_of) c.deref.ensures.value ∙ c.in_ok-bases.ensures in
-    let shape = c.shape_of-shape.ensures ∙ ap (shape_with o.params) c.events_len-events.ensures.events in
+    let shape = c.shape_of-shape.ensures in
     let g : Ground = ground_of c.shape_of-shape.result c.catalogue.result.now c.args.cols c.deref.result.now (nat_lt 0 c.events_len-events.result) in
     subst (AreBasesAmong (nodes_of g)) (sym bases)
     (bases_listed c.law_nodes_are_listed.ensures o (large_parameters o.params.l o.params.k c.facts.ensures.parameters).1 g
@@ -28,7 +28,7 @@ returns c =
     let o : Opening = c.args.index.now.opening in
     let many : c.events_len-events.result ≡ event_total o.batches = c.events_len-events.ensures.events in
     let bases : map base_of c.deref.result.now ≡ bases_in c.args.cols c.args.handles.now.table = ap (map base_of) c.deref.ensures.value ∙ c.in_ok-bases.ensures in
-    let shape = c.shape_of-shape.ensures ∙ ap (shape_with o.params) many in
+    let shape = c.shape_of-shape.ensures in
     record {
       graph =
           both_given c.new.result

@@ -15,7 +15,7 @@ returns c =
     let o : Opening = c.args.index.now.opening in
     let n : ℕ = event_total o.batches in
     let many : c.events_len-events.result ≡ n = c.events_len-events.ensures.events in
-    let shape_is : c.shape_of-shape.result ≡ shape_with o.params n = c.shape_of-shape.ensures ∙ ap (shape_with o.params) many in
+    let shape_is : c.shape_of-shape.result ≡ shape_with o.params n = c.shape_of-shape.ensures in
     let lines_are : c.in_ok-lines.lines.items ≡ map (held_line o.records) (keys_of o.params n) =
     c.in_ok-lines.ensures o.params.function
     ∙ (λ i. map (held_line (c.catalogue.ensures.entries i)) (keys_of (made_with o.params.function (shape_is i)) (shape_is i).events)) in
