@@ -276,12 +276,13 @@ module _ {D : Type 0} (g : Ghosts D) (o opened : Opening) (limit : ℕ) (batch :
 
   -- the batch is in the file and in memory
   pub adds : (added : AddedBatch) → IfSome (g.image before) (λ image. IsHeldBy (Some o) (take batch.known h.names) image) → is_some (g.image after) ≡ is_some (g.image before)
-      → added ≡ record { events = length events; total = event_total o.batches + length events; last = last_time_from 0 events }
+      → (added.events.items ≡ events) × (added.total ≡ event_total o.batches + length events) × (added.last ≡ last_time_from 0 events)
       → AddsBatch o limit batch old new (g.image before) (g.image after) added
   adds added image same told = record {
     events = events;
     segment = segment;
     comes = comes o batch h next.current.now.graph events next graph_is n (g.image before) segment p k.made.built;
+    many = p.many;
     whole = whole_over o batch h next.current.now.graph events next graph_is n (g.image before) p.many k.made.whole;
     index = index_is;
     names = w.names_are;
@@ -296,9 +297,6 @@ module _ {D : Type 0} (g : Ghosts D) (o opened : Opening) (limit : ℕ) (batch :
     fits = k.kept.fits;
     told = told;
   }
-
-pub added_is : (a x b y l z : ℕ) → a ≡ x → b ≡ y → l ≡ z → (let r : AddedBatch = record { events = a; total = b; last = l } in r) ≡ record { events = x; total = y; last = z }
-added_is a x b y l z e f g = cc
 
 -- ---- the batch is taken back
 

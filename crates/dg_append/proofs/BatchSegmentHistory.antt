@@ -44,8 +44,8 @@ use Rattle.dg_index.proofs.UnheardRecords.{silent_append}
 use Rattle.dg_plan.specs.IndexGraph.{arcs_of}
 use Rattle.dg_plan.specs.Walks.{AreSingles}
 use Rattle.dg_retrieval.specs.KeptGraph.{record_edges}
-use Rattle.dg_retrieval.specs.declared.fault.RetrievalFault.{RetrievalFault}
-use Rattle.dg_retrieval.specs.declared.fault.RetrievalFault.TheVariants as retrieval
+use Rattle.dg_records.specs.declared.fault.RecordFault.{RecordFault}
+use Rattle.dg_records.specs.declared.fault.RecordFault.TheVariants as retrieval
 use Rattle.dg_retrieval.specs.Retrieval.{IsNoDamage}
 use Rattle.dg_retrieval.specs.NodeSets.{IsIndexOver}
 use Rattle.dg_retrieval.proofs.KeptGraphWeights.{opened_events, opened_params}
@@ -80,7 +80,7 @@ AreRead o next z steps =
     steps ≡ steps_to (map (set_of z.params (events_of z)) (older_in_time o.params.k (leaves_before o) (leaves_after o (length next.events.now)))) (last_leaf z.params (events_of z))
 
 -- what a call that reads the steps of the older children tells, over an image of which the history is kept
-abbrev pub GivesKept : Opening → NextBatch → ListOf Element → ℕ → ℕ → Result (Vec Delta) RetrievalFault → ListOf ℕ → Type 0
+abbrev pub GivesKept : Opening → NextBatch → ListOf Element → ℕ → ℕ → Result (Vec Delta) RecordFault → ListOf ℕ → Type 0
 GivesKept o next graph taken then_taken r image =
     (z : History) → StandsForKept z image o next graph
     → GivesOlderSteps z (record_edges o) (older_children o (length next.events.now)) (older_in_time o.params.k (leaves_before o) (leaves_after o (length next.events.now))) taken then_taken r
@@ -203,7 +203,7 @@ module _ (told : Option (ListOf ℕ)) (o : Opening) (next : NextBatch) (graph : 
   unmade_over (Err fault.Store) unmade never = unmade
 
 -- at most what the single plans weigh is read
-pub kept_takes : (o : Opening) (next : NextBatch) (graph : ListOf Element) (told : Option (ListOf ℕ)) (taken then_taken : ℕ) (r : Result (Vec Delta) RetrievalFault)
+pub kept_takes : (o : Opening) (next : NextBatch) (graph : ListOf Element) (told : Option (ListOf ℕ)) (taken then_taken : ℕ) (r : Result (Vec Delta) RecordFault)
     → IfSome told (GivesKept o next graph taken then_taken r) → TakesSinglesOver told o next graph taken then_taken
 kept_takes o next graph told taken then_taken r gives =
     some_map told (GivesKept o next graph taken then_taken r)
@@ -221,7 +221,7 @@ named_damage key col (inl disk) = cc
 named_damage key col (inr memory) = cc
 
 -- the steps of the older children were not read
-pub unread_over : (o : Opening) (next : NextBatch) (graph : ListOf Element) (told : Option (ListOf ℕ)) (taken then_taken : ℕ) (f : RetrievalFault)
+pub unread_over : (o : Opening) (next : NextBatch) (graph : ListOf Element) (told : Option (ListOf ℕ)) (taken then_taken : ℕ) (f : RecordFault)
     → IfSome told (GivesKept o next graph taken then_taken (Err f)) → IfSome told (λ image. IsFirstOfGroups next.known o image (in_groups (older_children o (length next.events.now))) f)
     → StopsSegment told o next graph (of_retrieval f)
 unread_over o next graph told taken then_taken retrieval.Disk gives first = tt

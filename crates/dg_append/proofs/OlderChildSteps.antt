@@ -30,8 +30,8 @@ use Rattle.dg_plan.specs.declared.edge.Edge.{Edge}
 use Rattle.dg_plan.specs.HistoryGraph.{all_columns}
 use Rattle.dg_plan.specs.InstantPoint.{same_node}
 use Rattle.dg_retrieval.specs.Calls.{TellsDamage}
-use Rattle.dg_retrieval.specs.declared.fault.RetrievalFault.{RetrievalFault}
-use Rattle.dg_retrieval.specs.declared.fault.RetrievalFault.TheVariants as fault
+use Rattle.dg_records.specs.declared.fault.RecordFault.{RecordFault}
+use Rattle.dg_records.specs.declared.fault.RecordFault.TheVariants as fault
 use Rattle.dg_retrieval.specs.KeptGraph.{record_edges}
 use Rattle.dg_retrieval.specs.NodeSets.{IsIndexOver, sets_of}
 use Rattle.dg_retrieval.proofs.BeginningBases.{same_is, same_itself}
@@ -156,11 +156,11 @@ one_group nodes some few =
     groups_next nodes some ∙ (λ i. take_all GROUP_MAX nodes few i ∷ none_left nodes GROUP_MAX few i)
 
 -- what is told of the tree of one group is told of all groups
-pub group_damage : {A : Type 0} (names : ℕ) (o : Opening) (edges : ListOf Edge) (nodes : ListOf NodeId) (image : ListOf ℕ) (r : Result A RetrievalFault) → edges ≡ record_edges o → 1 ≤ length nodes → length nodes ≤ 32
+pub group_damage : {A : Type 0} (names : ℕ) (o : Opening) (edges : ListOf Edge) (nodes : ListOf NodeId) (image : ListOf ℕ) (r : Result A RecordFault) → edges ≡ record_edges o → 1 ≤ length nodes → length nodes ≤ 32
     → TellsDamage names edges o all_columns nodes image r → TellsGroupDamage names o image nodes r
 group_damage {A} names o edges nodes image r same some few told = by r (subst (λ (es : ListOf Edge). TellsDamage names es o all_columns nodes image r) same told)
   where
-    by : (r : Result A RetrievalFault) → TellsDamage names (record_edges o) o all_columns nodes image r → TellsGroupDamage names o image nodes r
+    by : (r : Result A RecordFault) → TellsDamage names (record_edges o) o all_columns nodes image r → TellsGroupDamage names o image nodes r
     by (Ok x) told = subst (AreUndamaged names o image) (sym (one_group nodes some few)) (told, tt)
     by (Err fault.Disk) told = tt
     by (Err fault.Memory) told = tt

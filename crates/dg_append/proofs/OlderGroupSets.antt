@@ -19,8 +19,8 @@ use Rattle.dg_plan.specs.declared.edge.Edge.{Edge}
 use Rattle.dg_plan.specs.HistoryGraph.{all_columns}
 use Rattle.dg_plan.specs.IndexGraph.{arcs_of}
 use Rattle.dg_plan.specs.Walks.{AreSingles}
-use Rattle.dg_retrieval.specs.declared.fault.RetrievalFault.{RetrievalFault}
-use Rattle.dg_retrieval.specs.declared.fault.RetrievalFault.TheVariants as fault
+use Rattle.dg_records.specs.declared.fault.RecordFault.{RecordFault}
+use Rattle.dg_records.specs.declared.fault.RecordFault.TheVariants as fault
 use Rattle.dg_retrieval.specs.KeptGraph.{record_edges}
 use Rattle.dg_retrieval.specs.NodeSets.{IsIndexOver, IsUndamaged, sets_of}
 use Rattle.dg_retrieval.specs.Calls.{AreLedByTree, GivesSetsOver, TellsDamage}
@@ -105,7 +105,7 @@ every_some (Some image) P f = f image
 -- In this image so many of the nodes' sets are read, and so many bytes.
 pub record GroupsAreRead (o : Opening) (names : ℕ) (nodes : ListOf NodeId) (done : ℕ) (sets : ListOf (ListOf Element)) (taken then_taken : ℕ) (image : ListOf ℕ) : Type 0 where
   pub whole : AreUndamaged names o image (in_groups (drop done nodes)) → AreUndamaged names o image (in_groups nodes)
-  pub damage : (f : RetrievalFault) → IsFirstOfGroups names o image (in_groups (drop done nodes)) f → IsFirstOfGroups names o image (in_groups nodes) f
+  pub damage : (f : RecordFault) → IsFirstOfGroups names o image (in_groups (drop done nodes)) f → IsFirstOfGroups names o image (in_groups nodes) f
   pub led : (rest : ListOf (ListOf Element)) → AreLedByGroups names image o (in_groups (drop done nodes)) rest → AreLedByGroups names image o (in_groups nodes) (sets ++ rest)
   pub sets_are : (z : History) → IsIndexOver z image o names → sets ≡ sets_of z (take done nodes)
   pub most : (z : History) → IsIndexOver z image o names → (singles : ListOf ℕ) → AreSingles (arcs_of (record_edges o)) (Root ∷ []) nodes singles → TakesAtMost (sum (take done singles)) taken then_taken
@@ -120,7 +120,7 @@ none_read o names nodes sets taken none image = record {
 }
 
 -- what a call over these groups tells in an image
-abbrev pub Gives : Opening → ℕ → ListOf NodeId → ℕ → ℕ → Result (Vec (ListOf Element)) RetrievalFault → ListOf ℕ → Type 0
+abbrev pub Gives : Opening → ℕ → ListOf NodeId → ℕ → ℕ → Result (Vec (ListOf Element)) RecordFault → ListOf ℕ → Type 0
 Gives o names nodes taken then_taken r image = (z : History) → IsIndexOver z image o names → GivesSetsOver z (record_edges o) nodes taken then_taken r
 
 module _ (o : Opening) (names : ℕ) (nodes : ListOf NodeId) (done : ℕ) (more : done < length nodes) where
@@ -164,13 +164,13 @@ module _ (o : Opening) (names : ℕ) (nodes : ListOf NodeId) (done : ℕ) (more 
         (takes_both (sum (take done singles)) (sum (take size_next (drop done singles))) taken middle last (r.most z over singles s) here);
   }
     where
-      later : (f : RetrievalFault) → IsFirstOfGroups names o image (in_groups (drop (done + size_next) nodes)) f → IsFirstOfGroups names o image (in_groups (drop done nodes)) f
+      later : (f : RecordFault) → IsFirstOfGroups names o image (in_groups (drop (done + size_next) nodes)) f → IsFirstOfGroups names o image (in_groups (drop done nodes)) f
       later fault.Disk rest = tt
       later fault.Memory rest = tt
       later (fault.Damaged key col) rest = subst (λ (gs : ListOf (ListOf NodeId)). IsDamageOfGroups names o image gs key col) (sym groups_are) (inr (undamaged, rest))
 
   -- the group was not read, or its sets were not kept
-  pub none_more_read : (sets : ListOf (ListOf Element)) (r : Result (Vec (ListOf Element)) RetrievalFault) (f : RetrievalFault) (taken middle last : ℕ) (image : ListOf ℕ)
+  pub none_more_read : (sets : ListOf (ListOf Element)) (r : Result (Vec (ListOf Element)) RecordFault) (f : RecordFault) (taken middle last : ℕ) (image : ListOf ℕ)
       → GroupsAreRead o names nodes done sets taken middle image → Gives o names (take size_next (drop done nodes)) middle last r image → ((z : History) → IsIndexOver z image o names → IsNoDamage f)
       → Gives o names nodes taken last (Err f) image
   none_more_read sets r f taken middle last image read g never z over = record {
@@ -185,7 +185,7 @@ module _ (o : Opening) (names : ℕ) (nodes : ListOf NodeId) (done : ℕ) (more 
   }
 
   -- the first damage of the group is the first of all groups
-  pub first_damage : (sets : ListOf (ListOf Element)) (taken middle : ℕ) (f : RetrievalFault) (image : ListOf ℕ) → GroupsAreRead o names nodes done sets taken middle image
+  pub first_damage : (sets : ListOf (ListOf Element)) (taken middle : ℕ) (f : RecordFault) (image : ListOf ℕ) → GroupsAreRead o names nodes done sets taken middle image
       → IsFirstDamage names (record_edges o) o all_columns (take size_next (drop done nodes)) image f → IsFirstOfGroups names o image (in_groups nodes) f
   first_damage sets taken middle fault.Disk image r g = tt
   first_damage sets taken middle fault.Memory image r g = tt
@@ -227,10 +227,10 @@ abbrev pub Called : Type 0
 Called = Opening × ListOf Edge × ListOf NodeId
 
 -- what it tells of the sets, and of damage
-abbrev pub CallGives : ℕ → ℕ → ℕ → Result (Vec (ListOf Element)) RetrievalFault → ListOf ℕ → Called → Type 0
+abbrev pub CallGives : ℕ → ℕ → ℕ → Result (Vec (ListOf Element)) RecordFault → ListOf ℕ → Called → Type 0
 CallGives names taken then_taken r image x = (z : History) → IsIndexOver z image x.0 names → GivesSetsOver z x.1 x.2 taken then_taken r
 
-abbrev pub CallDamage : ℕ → Result (Vec (ListOf Element)) RetrievalFault → ListOf ℕ → Called → Type 0
+abbrev pub CallDamage : ℕ → Result (Vec (ListOf Element)) RecordFault → ListOf ℕ → Called → Type 0
 CallDamage names r image x = TellsDamage names x.1 x.0 all_columns x.2 image r
 
 abbrev pub CallLeads : ℕ → ListOf (ListOf Element) → ListOf ℕ → Called → Type 0

@@ -116,12 +116,13 @@ MeetsNoDamage before o known count = IfSome before (λ image. AreUndamaged known
 
 -- ---- what is added
 
--- The batch was added: in the file, behind the segments of the index, and in memory. It met no damage, no graph of a slot
--- has changed, and there is a pool where there was one.
+-- The batch was added: in the file, behind the segments of the index, and in memory. It has an event for each change. It met
+-- no damage, no graph of a slot has changed, and there is a pool where there was one.
 pub record AddsBatch (o : Opening) (limit : ℕ) (batch : Batch) (old new : Live) (before after : Option (List ℕ)) (added : AddedBatch) : Type 0 where
   pub events : List Event
   pub segment : Segment
   pub comes : ComesToSegment o batch old.history before events segment
+  pub many : length events ≡ length batch.changes.items
   pub whole : MeetsNoDamage before o batch.known (length batch.changes.items)
   pub index : index_opening new.history.index ≡ Some (index_with o segment)
   pub names : new.history.names ≡ old.history.names
@@ -132,7 +133,7 @@ pub record AddsBatch (o : Opening) (limit : ℕ) (batch : Batch) (old new : Live
   pub gains : BothTold before after (GainsBatch segment)
   pub held : IfSome after (λ image. IsHeldBy (index_opening new.history.index) new.history.names image)
   pub fits : needed_for o segment ≤ limit
-  pub told : added ≡ record { events = length events; total = event_total o.batches + length events; last = last_time_from 0 events }
+  pub told : (added.events.items ≡ events) × (added.total ≡ event_total o.batches + length events) × (added.last ≡ last_time_from 0 events)
 
 -- What a crash may leave while the lines are added behind this index as a batch: over the image of a history of which
 -- this is kept, an image of it; or the lines come to a batch that the form of the file takes, and where that may follow

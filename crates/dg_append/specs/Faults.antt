@@ -7,8 +7,8 @@ use Rattle.dg_disk.specs.Calls.{Fails, FailsToWrite}
 use Rattle.dg_disk.specs.declared.disk.Disk.{Ghosts}
 use Rattle.dg_current.specs.declared.fault.PrepareFault.{PrepareFault}
 use Rattle.dg_current.specs.declared.fault.PrepareFault.TheVariants as prepare_fault
-use Rattle.dg_retrieval.specs.declared.fault.RetrievalFault.{RetrievalFault}
-use Rattle.dg_retrieval.specs.declared.fault.RetrievalFault.TheVariants as retrieval_fault
+use Rattle.dg_records.specs.declared.fault.RecordFault.{RecordFault}
+use Rattle.dg_records.specs.declared.fault.RecordFault.TheVariants as retrieval_fault
 
 -- the same cause
 abbrev pub of_prepare : PrepareFault → BatchFault
@@ -16,7 +16,7 @@ of_prepare (prepare_fault.BadChange line reason) = fault.BadChange line reason
 of_prepare prepare_fault.Memory = fault.Memory
 
 -- the same cause
-abbrev pub of_retrieval : RetrievalFault → BatchFault
+abbrev pub of_retrieval : RecordFault → BatchFault
 of_retrieval retrieval_fault.Disk = fault.Read
 of_retrieval (retrieval_fault.Damaged key col) = fault.Damaged key col
 of_retrieval retrieval_fault.Memory = fault.Memory

@@ -24,7 +24,7 @@ use Rattle.dg_plan.specs.IndexGraph.{arcs_of}
 use Rattle.dg_plan.specs.InstantPoint.{same_node}
 use Rattle.dg_plan.specs.Walks.{AreSingles}
 use Rattle.dg_retrieval.specs.Calls.{AreLedByTree}
-use Rattle.dg_retrieval.specs.declared.fault.RetrievalFault.{RetrievalFault}
+use Rattle.dg_records.specs.declared.fault.RecordFault.{RecordFault}
 use Rattle.dg_retrieval.specs.Retrieval.{IsNoDamage}
 use Rattle.dg_steps.specs.NodeSteps.{AreLedSteps}
 
@@ -32,7 +32,7 @@ use Rattle.dg_steps.specs.NodeSteps.{AreLedSteps}
 
 -- Over an image of the history: from each of the nodes in time there is the exact step to the next, and from the last to
 -- the last leaf; at most as many bytes are read as the single plans of the nodes weigh together; no damage is met.
-pub record GivesOlderSteps (z : History) (edges : List Edge) (nodes in_time : List NodeId) (before after : ℕ) (result : Result (Vec Delta) RetrievalFault) : Type 0 where
+pub record GivesOlderSteps (z : History) (edges : List Edge) (nodes in_time : List NodeId) (before after : ℕ) (result : Result (Vec Delta) RecordFault) : Type 0 where
   pub steps : IfOk result (λ steps. steps.items ≡ steps_to (map (set_of z.params (events_of z)) in_time) (last_leaf z.params (events_of z)))
   pub most : (singles : List ℕ) → AreSingles (arcs_of edges) (Root ∷ []) nodes singles → TakesAtMost (sum singles) before after
   pub never : IfErr result IsNoDamage

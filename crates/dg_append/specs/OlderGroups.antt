@@ -11,8 +11,8 @@ use Rattle.dg_index.specs.IndexRecords.{deltas_due}
 use Rattle.dg_index.specs.OlderNodes.{older}
 use Rattle.dg_index.specs.OpenedIndex.{Opening, event_total}
 use Rattle.dg_plan.specs.HistoryGraph.{all_columns}
-use Rattle.dg_retrieval.specs.declared.fault.RetrievalFault.{RetrievalFault}
-use Rattle.dg_retrieval.specs.declared.fault.RetrievalFault.TheVariants as fault
+use Rattle.dg_records.specs.declared.fault.RecordFault.{RecordFault}
+use Rattle.dg_records.specs.declared.fault.RecordFault.TheVariants as fault
 use Rattle.dg_retrieval.specs.KeptGraph.{record_edges}
 use Rattle.dg_retrieval.specs.NodeSets.{IsUndamaged}
 use Rattle.dg_retrieval.specs.Retrieval.{IsFirstDamage}
@@ -46,7 +46,7 @@ IsDamageOfGroups name_count o image (g ∷ more) key col =
     ⊎ (IsUndamaged name_count (record_edges o) o all_columns g image × IsDamageOfGroups name_count o image more key col)
 
 -- the same of a fault of reading the sets group after group; of a failed read and of want of memory nothing is said
-abbrev pub IsFirstOfGroups : ℕ → Opening → ListOf ℕ → ListOf (ListOf NodeId) → RetrievalFault → Type 0
+abbrev pub IsFirstOfGroups : ℕ → Opening → ListOf ℕ → ListOf (ListOf NodeId) → RecordFault → Type 0
 IsFirstOfGroups name_count o image all fault.Disk = Unit {0}
 IsFirstOfGroups name_count o image all (fault.Damaged key col) = IsDamageOfGroups name_count o image all key col
 IsFirstOfGroups name_count o image all fault.Memory = Unit {0}
@@ -58,7 +58,7 @@ AreUndamaged name_count o image (g ∷ more) = IsUndamaged name_count (record_ed
 
 -- What a call that reads the sets of these nodes tells of damage in this image: what is given has met none; a fault that
 -- is damage names the first.
-abbrev pub TellsGroupDamage : {A : Type 0} → ℕ → Opening → ListOf ℕ → ListOf NodeId → Result A RetrievalFault → Type 0
+abbrev pub TellsGroupDamage : {A : Type 0} → ℕ → Opening → ListOf ℕ → ListOf NodeId → Result A RecordFault → Type 0
 TellsGroupDamage name_count o image nodes (Ok r) = AreUndamaged name_count o image (in_groups nodes)
 TellsGroupDamage name_count o image nodes (Err f) = IsFirstOfGroups name_count o image (in_groups nodes) f
 

@@ -17,7 +17,7 @@ use crate::next_batch::NextBatch;
 use crate::recent::take_recent_on;
 use crate::segment::last_instant;
 use dg_disk::Disk;
-use dg_graph::Change;
+use dg_graph::{Change, Event};
 use std::alloc::Global;
 use std::thread::Threads;
 
@@ -33,11 +33,11 @@ pub struct Batch {
 }
 
 /// What was added to a history.
-#[derive(Clone, Copy)]
+#[derive(Drop)]
 pub struct AddedBatch {
     /// The events of the batch.
-    pub events: u64,
-    /// The events of the history with the batch.
+    pub events: Vec<Event>,
+    /// How many events the history has with the batch.
     pub total: u64,
     /// The time of the last event.
     pub last: u64,
@@ -120,14 +120,13 @@ pub fn add_batch<R: Threads, D: Disk>(
     };
     match keep_batch(rt, alloc, limit, index, &next, pool, disk) {
         Ok(left) => {
-            let added = AddedBatch {
-                events: events.len() as u64,
-                total: index.events_len(),
-                last: last_instant(events),
-            };
             take_recent_on(&mut history.recent, left, events);
-            history.now.commit();
-            Ok(added)
+            let events = history.now.commit();
+            Ok(AddedBatch {
+                total: index.events_len(),
+                last: last_instant(&events),
+                events,
+            })
         }
         Err(fault) => {
             give_back(alloc, known, fault, live);

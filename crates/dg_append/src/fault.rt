@@ -7,7 +7,7 @@ ghost use Rattle.dg_append.specs.Faults.{of_prepare, of_retrieval};
 use dg_current::PrepareFault;
 use dg_graph::Column;
 use dg_history::Key;
-use dg_retrieval::RetrievalFault;
+use dg_records::RecordFault;
 use std::alloc::AllocError;
 use thiserror::Error;
 
@@ -57,14 +57,14 @@ impl From<PrepareFault> for BatchFault {
     }
 }
 
-impl From<RetrievalFault> for BatchFault {
+impl From<RecordFault> for BatchFault {
     ghost from_gives = { λ from fault. fault ≡ of_retrieval from };
 
-    fn from(fault: RetrievalFault) -> BatchFault {
+    fn from(fault: RecordFault) -> BatchFault {
         match fault {
-            RetrievalFault::Disk => BatchFault::Read,
-            RetrievalFault::Damaged(key, column) => BatchFault::Damaged(key, column),
-            RetrievalFault::Memory => BatchFault::Memory,
+            RecordFault::Disk => BatchFault::Read,
+            RecordFault::Damaged(key, column) => BatchFault::Damaged(key, column),
+            RecordFault::Memory => BatchFault::Memory,
         }
     }
 }

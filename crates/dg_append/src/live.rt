@@ -1,9 +1,13 @@
 //! A history and the pool in which graphs are overlaid on its current one, which go on together.
 
-ghost use Rattle.std.specs.Prelude.{◌≡◌, OnErr, OnOk, is_some, true};
+ghost use Rattle.std.specs.Prelude.{◌≡◌, ℕ, IfOk, None, OnErr, OnOk, is_some, true};
 ghost use Rattle.dg_append.specs.LiveHistories.{IsForgotten, IsLiveHistory};
 ghost use Rattle.dg_append.specs.Overlays.{SameSlots, pool_in};
+ghost use Rattle.dg_graph.specs.Replay.{replay_from};
+ghost use Rattle.dg_pool.specs.Graphs.{graph_now, slot_graph};
 
+use dg_current::{Now, SinceStart};
+use dg_delta::Delta;
 use dg_pool::Pool;
 use dg_stored::StoredHistory;
 use std::alloc::{AllocError, Global};
@@ -20,6 +24,26 @@ pub struct Live {
     pub pool: Option<Box<Pool>>,
 }
 
+// The pool of the current graph past the pending events: that of the graph at the start, which is not copied, taken on by
+// what changed since. An `Err` says that memory ran out.
+fn current_pool(alloc: Global, now: &Now) -> Result<Pool, AllocError>
+    ensures now { IfOk result (λ pool. graph_now pool ≡ replay_from now.now.graph now.now.pending) }
+    ensures slots { IfOk result (λ pool. (s : ℕ) → slot_graph pool s ≡ None) }
+{
+    let SinceStart {
+        start,
+        lost,
+        gained,
+    } = now.since_start(alloc)?;
+    let Some(changed) = Delta::from_sets(lost, gained) else {
+        unreachable!()
+    };
+    let mut pool = Pool::from_set(alloc, start)?;
+    pool.make_cells(changed.plus())?;
+    pool.pass(&changed);
+    Ok(pool)
+}
+
 impl Live {
     /// Makes the pool, unless there is one. No graph of a slot changes. An `Err` says that memory ran out; then nothing has
     /// changed.
@@ -34,8 +58,7 @@ impl Live {
         if self.pool.is_some() {
             return Ok(());
         }
-        let set = self.history.now.set_past(alloc)?;
-        let pool = Pool::from_set(alloc, &set)?;
+        let pool = current_pool(alloc, &self.history.now)?;
         self.pool = Some(Box::new(alloc, pool)?);
         Ok(())
     }

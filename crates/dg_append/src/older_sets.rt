@@ -1,36 +1,36 @@
 //! The steps of the older children by their sets, where one tree does not give them: the sets are read group after group,
 //! each group by a tree over the records of the index alone.
 
-ghost use Rattle.std.specs.Prelude.{◌≡◌, ◌≤◌, ◌<◌, ◌+◌, List, drop, get_or, length, map, IfOk, IfSome};
+ghost use Rattle.std.specs.Prelude.{◌≡◌, ◌<◌, ◌+◌, List, drop, get_or, length, map, IfOk, IfSome};
 ghost use Rattle.std.specs.List.{All, Contains};
 ghost use Rattle.dg_append.specs.BatchSegments.{StandsForKept};
 ghost use Rattle.dg_append.specs.OlderChildSteps.{AreLedByGroups, AreLedBySets, GivesOlderSteps, set_among};
 ghost use Rattle.dg_append.specs.OlderGroups.{TellsGroupDamage, in_groups};
 ghost use Rattle.dg_build.specs.GivenDeltas.{taken_back};
 ghost use Rattle.dg_build.specs.InteriorDeltas.{steps_to};
-ghost use Rattle.dg_file.specs.Images.{IsOpenedAs};
 ghost use Rattle.dg_graph.specs.declared.element.Element.{Element};
 ghost use Rattle.dg_graph.specs.Elements.{IsSet};
 ghost use Rattle.dg_graph.specs.ExactEvents.{AreChangesOf};
 ghost use Rattle.dg_graph.specs.Replay.{replay_from};
 ghost use Rattle.dg_history.specs.declared.node.NodeId.{NodeId};
 ghost use Rattle.dg_history.specs.History.{History};
+ghost use Rattle.dg_plan.specs.HistoryGraph.{all_columns};
 ghost use Rattle.dg_retrieval.specs.Calls.{GivesSetsOver, ReadsRecords};
-ghost use Rattle.dg_retrieval.specs.KeptGraph.{record_edges, record_nodes};
+ghost use Rattle.dg_retrieval.specs.KeptGraph.{record_edges};
 ghost use Rattle.dg_retrieval.specs.NodeSets.{HasNoEvents, IsIndexOver};
+ghost use Rattle.dg_retrieval.specs.Planned.{IsOverRecords};
 
 use crate::current_set::set_before;
 use crate::next_batch::NextBatch;
 use dg_current::Now;
 use dg_delta::Delta;
 use dg_disk::Disk;
-use dg_file::Index;
 use dg_fold::is_same_node;
 use dg_graph::Event;
 use dg_history::NodeId;
 use dg_net::net_back;
-use dg_planner::Planner;
-use dg_retrieval::{RetrievalFault, node_sets};
+use dg_records::RecordFault;
+use dg_retrieval::{PlannedIndex, node_sets};
 use dg_set::Set;
 use std::alloc::{AllocError, Global};
 use std::thread::Threads;
@@ -46,37 +46,36 @@ pub fn group_limit()
 // The sets of the nodes, group after group, each by one tree.
 fn read_groups<R: Threads, D: Disk>(
     rt: &R,
-    alloc: Global,
-    index: &Index,
+    from: &PlannedIndex,
     disk: &mut D,
-    name_count: u32,
-    planner: &Planner,
     nodes: &[NodeId],
-) -> Result<Vec<Set>, RetrievalFault>
-    requires image { IfSome (D.image disk.old) (λ image. IsOpenedAs image index.now.opening) }
-    requires edges { planner.now.edges ≡ record_edges index.now.opening }
-    requires graph { planner.now.nodes ≡ record_nodes index.now.opening }
-    requires nodes { All (Contains planner.now.nodes) nodes.now }
+) -> Result<Vec<Set>, RecordFault>
+    requires over { IsOverRecords (D.image disk.old) all_columns from.now }
+    requires nodes { All (Contains from.now.planner.now.nodes) nodes.now }
     requires leaves { All HasNoEvents nodes.now }
 
     // the sets, and over an image of a history which they are and the bytes read: at most those of the single plans
     ensures count { IfOk result (λ sets. length sets.items ≡ length nodes.now) }
-    ensures over { IfSome (D.image disk.old) (λ image. (z : History) → IsIndexOver z image index.now.opening name_count
-        → GivesSetsOver z (record_edges index.now.opening) nodes.now (D.taken disk.old) (D.taken disk.new) result) }
+    ensures over { IfSome (D.image disk.old) (λ image.
+        (z : History) → IsIndexOver z image from.now.index.now.opening from.now.name_count
+        → GivesSetsOver z (record_edges from.now.index.now.opening) nodes.now (D.taken disk.old)
+        (D.taken disk.new) result) }
 
     // over whatever image: which sets the records lead to, and where these are damaged
-    ensures led { IfSome (D.image disk.old) (λ image. IfOk result (λ sets. AreLedByGroups name_count image index.now.opening (in_groups nodes.now) sets.items)) }
-    ensures damage { IfSome (D.image disk.old) (λ image. TellsGroupDamage name_count index.now.opening image nodes.now result) }
+    ensures led { IfSome (D.image disk.old) (λ image. IfOk result (λ sets.
+        AreLedByGroups from.now.name_count image from.now.index.now.opening (in_groups nodes.now) sets.items)) }
+    ensures damage { IfSome (D.image disk.old) (λ image.
+        TellsGroupDamage from.now.name_count from.now.index.now.opening image nodes.now result) }
 
     // what it leaves, and why a read failed
     ensures reads { ReadsRecords D.Disk disk.old disk.new result }
 {
-    let mut sets = Vec::new(alloc);
+    let mut sets = Vec::new(from.alloc);
     let mut done = 0;
     while done < nodes.len() {
         let size = (nodes.len() - done).min(GROUP_MAX as usize);
         let group = &nodes[done..done + size];
-        let mut more = node_sets(rt, alloc, index, disk, name_count, planner, group)?;
+        let mut more = node_sets(rt, from, disk, group)?;
         sets.append(&mut more)?;
         done += size;
     }
@@ -157,36 +156,36 @@ fn steps_between(
 /// and `Memory`.
 pub(crate) fn steps_by_sets<R: Threads, D: Disk>(
     rt: &R,
-    alloc: Global,
-    index: &Index,
+    from: &PlannedIndex,
     next: &NextBatch,
     disk: &mut D,
-    planner: &Planner,
     nodes: &[NodeId],
     in_time: &[NodeId],
-) -> Result<Vec<Delta>, RetrievalFault>
-    requires image { IfSome (D.image disk.old) (λ image. IsOpenedAs image index.now.opening) }
-    requires edges { planner.now.edges ≡ record_edges index.now.opening }
-    requires graph { planner.now.nodes ≡ record_nodes index.now.opening }
-    requires nodes { All (Contains planner.now.nodes) nodes.now }
+) -> Result<Vec<Delta>, RecordFault>
+    requires over { IsOverRecords (D.image disk.old) all_columns from.now }
+    requires nodes { All (Contains from.now.planner.now.nodes) nodes.now }
     requires leaves { All HasNoEvents nodes.now }
-    requires known { next.now.known ≤ length next.now.names.now }
     requires in_time { All (Contains nodes.now) in_time.now }
 
     // the steps, and over an image of a history which they are and the bytes read
     ensures count { IfOk result (λ steps. length steps.items ≡ length in_time.now) }
-    ensures over { IfSome (D.image disk.old) (λ image. (z : History) → StandsForKept z image index.now.opening next.now next.now.current.now.graph
-        → GivesOlderSteps z (record_edges index.now.opening) nodes.now in_time.now (D.taken disk.old) (D.taken disk.new) result) }
+    ensures over { IfSome (D.image disk.old) (λ image.
+        (z : History) → IsIndexOver z image from.now.index.now.opening from.now.name_count
+        → StandsForKept z image from.now.index.now.opening next.now next.now.current.now.graph
+        → GivesOlderSteps z (record_edges from.now.index.now.opening) nodes.now in_time.now (D.taken disk.old)
+        (D.taken disk.new) result) }
 
     // over whatever image: which steps the records lead to, and where these are damaged
     ensures led { IfSome (D.image disk.old) (λ image. IfOk result (λ steps.
-        AreLedBySets next.now.known image index.now.opening nodes.now in_time.now (taken_back next.now.current.now.graph next.now.recent.now) steps.items)) }
-    ensures damage { IfSome (D.image disk.old) (λ image. TellsGroupDamage next.now.known index.now.opening image nodes.now result) }
+        AreLedBySets from.now.name_count image from.now.index.now.opening nodes.now in_time.now
+        (taken_back next.now.current.now.graph next.now.recent.now) steps.items)) }
+    ensures damage { IfSome (D.image disk.old) (λ image.
+        TellsGroupDamage from.now.name_count from.now.index.now.opening image nodes.now result) }
 
     // what it leaves, and why a read failed
     ensures reads { ReadsRecords D.Disk disk.old disk.new result }
 {
-    let sets = read_groups(rt, alloc, index, disk, next.known, planner, nodes)?;
-    let leaf = last_leaf(alloc, next.current, next.recent)?;
-    Ok(steps_between(alloc, nodes, &sets, in_time, &leaf)?)
+    let sets = read_groups(rt, from, disk, nodes)?;
+    let leaf = last_leaf(from.alloc, next.current, next.recent)?;
+    Ok(steps_between(from.alloc, nodes, &sets, in_time, &leaf)?)
 }

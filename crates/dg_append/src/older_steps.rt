@@ -10,43 +10,25 @@ ghost use Rattle.dg_file.specs.Images.{IsOpenedAs};
 ghost use Rattle.dg_history.specs.declared.node.NodeId.{NodeId};
 ghost use Rattle.dg_history.specs.declared.node.NodeId.TheVariants.{Leaf};
 ghost use Rattle.dg_history.specs.History.{History};
-ghost use Rattle.dg_index.specs.OpenedIndex.{event_total};
+ghost use Rattle.dg_plan.specs.HistoryGraph.{all_columns};
 ghost use Rattle.dg_retrieval.specs.Calls.{ReadsRecords};
-ghost use Rattle.dg_retrieval.specs.KeptGraph.{record_edges, record_nodes, shape_with};
+ghost use Rattle.dg_retrieval.specs.KeptGraph.{record_edges, record_nodes};
 ghost use Rattle.dg_retrieval.specs.NodeSets.{HasNoEvents, IsIndexOver};
+ghost use Rattle.dg_retrieval.specs.Planned.{IsOverRecords};
 
 use crate::next_batch::NextBatch;
 use crate::older_children::{children_in_time, older_children};
 use crate::older_sets::{GROUP_MAX, steps_by_sets};
-use dg_catalogue::{Shape, leaves};
+use dg_catalogue::leaves;
 use dg_delta::Delta;
 use dg_disk::Disk;
 use dg_file::Index;
-use dg_history::{NodeId, Params};
-use dg_planner::Planner;
-use dg_retrieval::{ALL_COLUMNS, RetrievalFault};
+use dg_history::NodeId;
+use dg_records::RecordFault;
+use dg_retrieval::{ALL_COLUMNS, PlannedIndex, record_planner};
 use dg_steps::node_steps;
-use std::alloc::{AllocError, Global};
+use std::alloc::Global;
 use std::thread::Threads;
-
-// The shape of the index.
-fn shape_of(index: &Index) -> Shape
-    ensures { result ≡ shape_with index.now.opening.params (event_total index.now.opening.batches) }
-{
-    let Params { l, k, .. } = index.params();
-    let events = index.events_len();
-    Shape { l, k, events }
-}
-
-// The graph of the records of the index alone, with all their columns.
-fn record_planner(alloc: Global, index: &Index) -> Result<Planner, AllocError>
-    ensures nodes { IfOk result (λ p. p.nodes ≡ record_nodes index.now.opening) }
-    ensures edges { IfOk result (λ p. p.edges ≡ record_edges index.now.opening) }
-{
-    index.facts();
-    let shape = shape_of(index);
-    Planner::new(alloc, shape, index.catalogue(), ALL_COLUMNS, &[], false)
-}
 
 // Whether the last of the nodes is the last leaf behind the index.
 fn ends_at_last_leaf(index: &Index, nodes: &[NodeId]) -> bool
@@ -73,37 +55,36 @@ fn has_one_tree(index: &Index, nodes: &[NodeId], in_time: &[NodeId]) -> bool
 // nothing.
 fn steps_by_tree<R: Threads, D: Disk>(
     rt: &R,
-    alloc: Global,
-    index: &Index,
-    known: u32,
+    from: &PlannedIndex,
     disk: &mut D,
-    planner: &Planner,
     nodes: &[NodeId],
     in_time: &[NodeId],
-) -> Result<Vec<Delta>, RetrievalFault>
-    requires image { IfSome (D.image disk.old) (λ image. IsOpenedAs image index.now.opening) }
-    requires edges { planner.now.edges ≡ record_edges index.now.opening }
-    requires graph { planner.now.nodes ≡ record_nodes index.now.opening }
-    requires nodes { All (Contains planner.now.nodes) nodes.now }
+) -> Result<Vec<Delta>, RecordFault>
+    requires over { IsOverRecords (D.image disk.old) all_columns from.now }
+    requires nodes { All (Contains from.now.planner.now.nodes) nodes.now }
     requires some { 1 ≤ length nodes.now }
     requires few { length nodes.now ≤ 32 }
     requires in_time { All (Contains nodes.now) in_time.now }
-    requires last { (front : List NodeId) × (in_time.now ≡ front ++ Leaf (leaves_before index.now.opening) ∷ []) }
+    requires last { (front : List NodeId) × (in_time.now ≡ front ++ Leaf (leaves_before from.now.index.now.opening) ∷ []) }
 
     // the steps, and over an image of a history which they are and the bytes read
     ensures count { IfOk result (λ steps. length steps.items ≡ length in_time.now) }
-    ensures over { IfSome (D.image disk.old) (λ image. (z : History) → IsIndexOver z image index.now.opening known
-        → GivesOlderSteps z (record_edges index.now.opening) nodes.now in_time.now (D.taken disk.old) (D.taken disk.new) result) }
+    ensures over { IfSome (D.image disk.old) (λ image.
+        (z : History) → IsIndexOver z image from.now.index.now.opening from.now.name_count
+        → GivesOlderSteps z (record_edges from.now.index.now.opening) nodes.now in_time.now (D.taken disk.old)
+        (D.taken disk.new) result) }
 
     // over whatever image: which steps the records lead to, and where these are damaged
-    ensures led { IfSome (D.image disk.old) (λ image. IfOk result (λ steps. AreLedByOneTree known image index.now.opening nodes.now in_time.now steps.items)) }
-    ensures damage { IfSome (D.image disk.old) (λ image. TellsGroupDamage known index.now.opening image nodes.now result) }
+    ensures led { IfSome (D.image disk.old) (λ image. IfOk result (λ steps.
+        AreLedByOneTree from.now.name_count image from.now.index.now.opening nodes.now in_time.now steps.items)) }
+    ensures damage { IfSome (D.image disk.old) (λ image.
+        TellsGroupDamage from.now.name_count from.now.index.now.opening image nodes.now result) }
 
     // what it leaves, and why a read failed
     ensures reads { ReadsRecords D.Disk disk.old disk.new result }
 {
-    let mut steps = node_steps(rt, alloc, index, disk, known, planner, nodes, in_time)?;
-    steps.push(Delta::new(alloc))?;
+    let mut steps = node_steps(rt, from, disk, nodes, in_time)?;
+    steps.push(Delta::new(from.alloc))?;
     Ok(steps)
 }
 
@@ -116,7 +97,7 @@ fn steps_of<R: Threads, D: Disk>(
     disk: &mut D,
     nodes: &[NodeId],
     in_time: &[NodeId],
-) -> Result<Vec<Delta>, RetrievalFault>
+) -> Result<Vec<Delta>, RecordFault>
     requires image { IfSome (D.image disk.old) (λ image. IsOpenedAs image index.now.opening) }
     requires known { next.now.known ≤ length next.now.names.now }
     requires nodes { All (Contains (record_nodes index.now.opening)) nodes.now }
@@ -137,11 +118,19 @@ fn steps_of<R: Threads, D: Disk>(
     // what it leaves, and why a read failed
     ensures reads { ReadsRecords D.Disk disk.old disk.new result }
 {
-    let planner = record_planner(alloc, index)?;
+    let planner = record_planner(alloc, index, ALL_COLUMNS)?;
+    let records = PlannedIndex {
+        alloc,
+        index,
+        name_count: next.known,
+        recent: next.recent,
+        planner: &planner,
+        cols: ALL_COLUMNS,
+    };
     if has_one_tree(index, nodes, in_time) {
-        steps_by_tree(rt, alloc, index, next.known, disk, &planner, nodes, in_time)
+        steps_by_tree(rt, &records, disk, nodes, in_time)
     } else {
-        steps_by_sets(rt, alloc, index, next, disk, &planner, nodes, in_time)
+        steps_by_sets(rt, &records, next, disk, nodes, in_time)
     }
 }
 
@@ -161,7 +150,7 @@ pub(crate) fn older_steps<R: Threads, D: Disk>(
     index: &Index,
     next: &NextBatch,
     disk: &mut D,
-) -> Result<Vec<Delta>, RetrievalFault>
+) -> Result<Vec<Delta>, RecordFault>
     requires image { IfSome (D.image disk.old) (λ image. IsOpenedAs image index.now.opening) }
     requires next { IsNext index.now.opening next.now next.now.current.now.graph }
 

@@ -2,8 +2,8 @@
 use Rattle.dg_file.specs.declared.fault.CreateFault.{CreateFault}
 use Rattle.dg_file.specs.declared.fault.CreateFault.TheVariants as create_fault
 use Rattle.dg_machine.specs.declared.reply.Refusal.TheVariants as refusal
-use Rattle.dg_retrieval.specs.declared.fault.RetrievalFault.{RetrievalFault}
-use Rattle.dg_retrieval.specs.declared.fault.RetrievalFault.TheVariants as retrieval_fault
+use Rattle.dg_records.specs.declared.fault.RecordFault.{RecordFault}
+use Rattle.dg_records.specs.declared.fault.RecordFault.TheVariants as retrieval_fault
 use Rattle.dg_append.specs.declared.fault.BatchFault.{BatchFault}
 use Rattle.dg_append.specs.declared.fault.BatchFault.TheVariants as batch_fault
 use Rattle.dg_batch.specs.declared.halt.Halt.{Halt}
@@ -23,7 +23,7 @@ batch_halt batch_fault.Read = halt.Refusal refusal.StoreRead
 batch_halt batch_fault.Memory = halt.Refusal refusal.OutOfMemory
 batch_halt batch_fault.Store = halt.Stop stop.Store
 
-abbrev pub retrieval_halt : RetrievalFault → Halt
+abbrev pub retrieval_halt : RecordFault → Halt
 retrieval_halt retrieval_fault.Disk = halt.Refusal refusal.StoreRead
 retrieval_halt (retrieval_fault.Damaged key column) = halt.Refusal (refusal.Damaged key column)
 retrieval_halt retrieval_fault.Memory = halt.Refusal refusal.OutOfMemory

@@ -59,6 +59,7 @@ pub fn add_changes<R: Threads, D: Disk>(
             if is_lost(fault) {
                 held.handles.clear();
                 held.adjacency.forget();
+                return Err(fault);
             }
             Err(fault)
         }

@@ -9,7 +9,7 @@ use crate::stop::Stop;
 use dg_append::BatchFault;
 use dg_file::CreateFault;
 use dg_machine::Refusal;
-use dg_retrieval::RetrievalFault;
+use dg_records::RecordFault;
 use std::alloc::AllocError;
 
 /// Why a command is not carried out.
@@ -74,14 +74,14 @@ impl From<BatchFault> for Halt {
     }
 }
 
-impl From<RetrievalFault> for Halt {
+impl From<RecordFault> for Halt {
     ghost from_gives = { λ fault to. to ≡ retrieval_halt fault };
 
-    fn from(fault: RetrievalFault) -> Halt {
+    fn from(fault: RecordFault) -> Halt {
         match fault {
-            RetrievalFault::Disk => Halt::Refusal(Refusal::StoreRead),
-            RetrievalFault::Damaged(key, column) => { Halt::Refusal(Refusal::Damaged(key, column)) }
-            RetrievalFault::Memory => Halt::Refusal(Refusal::OutOfMemory),
+            RecordFault::Disk => Halt::Refusal(Refusal::StoreRead),
+            RecordFault::Damaged(key, column) => { Halt::Refusal(Refusal::Damaged(key, column)) }
+            RecordFault::Memory => Halt::Refusal(Refusal::OutOfMemory),
         }
     }
 }

@@ -11,6 +11,7 @@ use Rattle.dg_graph.specs.Elements.{has, put, same, with_one}
 use Rattle.dg_graph.specs.Graph.{IsGraph}
 use Rattle.dg_graph.specs.Sets.{unioned, without_all}
 use Rattle.dg_graph.proofs.Sets.{same_members, same_itself, element_exact, has-unioned, has-without_all, IsSet-unioned, IsSet-without_all}
+use Rattle.dg_set.specs.Apart.{AreApart}
 use Rattle.dg_current.specs.declared.element_entry.ElementEntry.{ElementEntry}
 use Rattle.dg_current.specs.declared.element_id.ElementId.{ElementId}
 use Rattle.dg_current.specs.contracts.element_id.ElementIdPartialEq.TheImpl as of_ids
@@ -124,6 +125,17 @@ module _ (base : List Element) (entries : List (ElementId × ElementEntry)) (gra
           which : (lost_at base entries p ≡ Some x) ⊎ (held_at base entries p ≡ Some x) → held_at base entries p ≡ Some x
           which (inl is) = absurd (true≢false (sym (collected_to (lost_at base entries) (keys_of entries) p x is has_one) ∙ kept))
           which (inr is) = is
+
+  -- so what is lost is not gained
+  pub lost_not_gained : AreApart lost gained
+  lost_not_gained x h = by (has gained x) refl
+    where
+      by : (b : Bool) → has gained x ≡ b → b ≡ false
+      by false e = refl
+      by true e =
+          let got = collected_from (gained_at base entries) (keys_of entries) x e in
+          let first = only_first_to (held_at base entries got.0) (at base got.0) x got.1.0 in
+          absurd (lost_apart x h (ap (held_at base entries) (own_ids got.0 x first.0) ∙ first.0))
 
   to : (x : Element) → has now x ≡ true → has (elements_of base entries) x ≡ true
   to x h = by (either (has (without_all base lost) x) (has gained x) (sym (has-unioned (without_all base lost) gained x) ∙ h))

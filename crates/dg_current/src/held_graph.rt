@@ -3,6 +3,8 @@ ghost use Rattle.std.specs.Prelude.{◌≡◌, ◌≤◌, ◌<◌, true, false, 
 ghost use Rattle.std.specs.List.{list_any, IsDistinct};
 ghost use Rattle.dg_graph.specs.Elements.{has, put, take_out};
 ghost use Rattle.dg_graph.specs.Graph.{IsGraph, has_needs};
+ghost use Rattle.dg_graph.specs.Sets.{unioned, without_all};
+ghost use Rattle.dg_set.specs.Apart.{AreApart};
 ghost use Rattle.dg_current.specs.ElementIds.{element_id_of, at, needs_id, same_id};
 ghost use Rattle.dg_current.specs.HeldGraph.{knows, HasRoom, IsKnown, KeepsIds, KnowsNeeds};
 
@@ -11,6 +13,7 @@ use crate::element_id::ElementId;
 use crate::fault::FromFault;
 use crate::held::Held;
 use crate::held_set::changes;
+use crate::since_start::SinceStart;
 use crate::sorted_graph::SortedGraph;
 use dg_graph::Element;
 use dg_seed::Seed;
@@ -129,16 +132,32 @@ impl HeldGraph {
         self.len as u64
     }
 
+    /// The start, and what the entries changed of it. An `Err` says that memory ran out.
+    pub(crate) fn since_start(&self, alloc: Global) -> Result<SinceStart<'_>, AllocError>
+        ensures leads { IfOk result (λ since. unioned (without_all since.start.now since.lost) since.gained ≡ self.now.set) }
+        ensures apart { IfOk result (λ since. AreApart since.lost since.gained) }
+    {
+        // The start is a graph.
+        self.base.facts();
+        let (lost, gained) = changes(alloc, &self.base, &self.elements)?;
+        Ok(SinceStart {
+            start: self.base.elements(),
+            lost: Set::from_unsorted(lost),
+            gained: Set::from_unsorted(gained),
+        })
+    }
+
     /// The graph as a set of its own: a copy of the start in one walk, in which what the entries changed is
     /// replaced. An `Err` says that memory ran out.
     pub(crate) fn set(&self, alloc: Global) -> Result<Set, AllocError>
         ensures { IfOk result (λ set. set ≡ self.now.set) }
     {
-        // The start is a graph.
-        self.base.facts();
-        let (lost, gained) = changes(alloc, &self.base, &self.elements)?;
-        self.base
-            .replaced(&Set::from_unsorted(lost), &Set::from_unsorted(gained))
+        let SinceStart {
+            start,
+            lost,
+            gained,
+        } = self.since_start(alloc)?;
+        start.replaced(&lost, &gained)
     }
 
     // Makes entries for the ids that the element needs. Where the start is empty, each id with an

@@ -15,7 +15,9 @@ mod held_graph;
 mod held_set;
 mod now;
 mod search;
+mod since_start;
 mod sorted_graph;
 
 pub use fault::{FromFault, PrepareFault};
 pub use now::Now;
+pub use since_start::SinceStart;

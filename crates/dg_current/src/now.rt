@@ -5,6 +5,8 @@ ghost use Rattle.dg_graph.specs.Effect.{forwards};
 ghost use Rattle.dg_graph.specs.ExactEvents.{AreChangesOf};
 ghost use Rattle.dg_graph.specs.Graph.{IsGraph};
 ghost use Rattle.dg_graph.specs.Replay.{replay_from};
+ghost use Rattle.dg_graph.specs.Sets.{unioned, without_all};
+ghost use Rattle.dg_set.specs.Apart.{AreApart};
 ghost use Rattle.dg_current.specs.ElementIds.{at};
 ghost use Rattle.dg_current.specs.Now.{NowState, earliest_time_after, completed_batch, FaultOf, ends_in};
 
@@ -13,15 +15,17 @@ use crate::element_id::{ElementId, element_before};
 use crate::event_effect::{apply, complete_all, ready_for_changes, ready_for_event, undo};
 use crate::fault::{FromFault, PrepareFault};
 use crate::held_graph::HeldGraph;
+use crate::since_start::SinceStart;
 use dg_graph::{Change, Element, Event};
 use dg_seed::Seed;
 use dg_set::Set;
 use std::alloc::{AllocError, Global};
 use std::marker::Model;
+use std::mem;
 
 /// The current graph, and the events of a batch that are pending.
 ///
-/// What is held is the graph with the pending events, so `commit` only forgets them, and `abandon`
+/// What is held is the graph with the pending events, so `commit` only hands them out, and `abandon`
 /// undoes them. A look-up passes over the pending events first, one after another, and then takes one
 /// hash and a binary search: it is meant for when nothing is pending.
 #[derive(Drop)]
@@ -125,6 +129,15 @@ impl Now {
         self.held.set(alloc)
     }
 
+    /// What leads from the graph at the start, which stays, to the one past the pending events. An `Err` says that
+    /// memory ran out.
+    pub fn since_start(&self, alloc: Global) -> Result<SinceStart<'_>, AllocError>
+        ensures leads { IfOk result (λ since. unioned (without_all since.start.now since.lost) since.gained ≡ replay_from self.now.graph self.now.pending) }
+        ensures apart { IfOk result (λ since. AreApart since.lost since.gained) }
+    {
+        self.held.since_start(alloc)
+    }
+
     /// How many elements the graph past the pending events has. Takes no memory.
     pub fn len_past(&self) -> u64
         ensures { result ≡ length (replay_from self.now.graph self.now.pending) }
@@ -132,12 +145,14 @@ impl Now {
         self.held.len()
     }
 
-    /// Takes the graph past the pending events, whose memory is given back. Takes no memory.
-    pub fn commit(&mut self)
+    /// Takes the graph past the pending events, and hands them out. Takes no memory.
+    pub fn commit(&mut self) -> Vec<Event>
+        ensures events { result.items ≡ self.old.pending }
         ensures graph { self.new.graph ≡ replay_from self.old.graph self.old.pending }
         ensures none { self.new.pending ≡ [] }
     {
-        self.pending = Vec::new(*self.pending.allocator());
+        let none = Vec::new(*self.pending.allocator());
+        mem::replace(&mut self.pending, none)
     }
 
     /// Forgets the pending events, whose memory is given back. Takes no memory.
@@ -147,7 +162,7 @@ impl Now {
     {
         undo(&mut self.held, &mut self.pending);
         // None is left, so this only gives their memory back.
-        self.commit();
+        drop(self.commit());
     }
 
     /// Takes the graph past the event, where some change comes to it there, and answers whether one does.

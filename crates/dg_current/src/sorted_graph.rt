@@ -2,7 +2,6 @@
 ghost use Rattle.std.specs.Prelude.{◌≡◌, ◌<◌, ◌^◌, [], length, IfOk, IsErrOf};
 ghost use Rattle.std.specs.List.{count_by};
 ghost use Rattle.dg_graph.specs.Graph.{IsGraph};
-ghost use Rattle.dg_graph.specs.Sets.{unioned, without_all};
 ghost use Rattle.dg_current.specs.ElementIds.{at, needs_id};
 ghost use Rattle.dg_current.specs.Sorted.{has_end};
 
@@ -84,11 +83,11 @@ impl SortedGraph {
         find(self.elements.items(), id)
     }
 
-    /// Its elements without those lost, and with those gained. An `Err` says that memory ran out.
-    pub(crate) fn replaced(&self, lost: &Set, gained: &Set) -> Result<Set, AllocError>
-        ensures { IfOk result (λ set. set ≡ unioned (without_all self.now lost.now) gained.now) }
+    /// Its elements.
+    pub(crate) fn elements(&self) -> &Set
+        ensures { result.now ≡ self.now }
     {
-        self.elements.replaced(lost, gained)
+        &self.elements
     }
 
     /// Sorts the ends of the edges, unless that is done, so that `uses` finds them by search. An `Err`

@@ -125,12 +125,12 @@ module _ (from : Origin) (got : List ScriptLine) (p : Parts) (count limit : ℕ)
   module _ {D : Type 0} (g : Ghosts D) (before after : D) where
     pub added_left : (new : Live) (x : AddedBatch) → IfSome (index_opening l.history.index) (λ o. AddsBatch o limit b l new (g.image before) (g.image after) x)
         → LeftByCrash g before after (AddsBatchOrNot b l.history)
-        → LeftByCrash g before after (LeavesAnswered (adding from count) got p (headed (head_over from new.history.now.graph x.events x.total x.last)))
+        → LeftByCrash g before after (LeavesAnswered (adding from count) got p (headed (head_over from new.history.now.graph (length x.events.items) x.total x.last)))
     added_left new x adds run =
         let d : AddsBatch index limit b l new (g.image before) (g.image after) x =
         of_here (index_opening l.history.index) index (λ (o : Opening). AddsBatch o limit b l new (g.image before) (g.image after) x) (opening_there from got p count limit l b asked) adds in
-        let is : headed (head_over from new.history.now.graph x.events x.total x.last) ≡ reply (g.image before) d.events d.segment d.comes d.fits =
-        ap (λ (t : AddedBatch). headed (head_over from new.history.now.graph t.events t.total t.last)) d.told
+        let is : headed (head_over from new.history.now.graph (length x.events.items) x.total x.last) ≡ reply (g.image before) d.events d.segment d.comes d.fits =
+        (λ i. headed (head_over from new.history.now.graph (length (d.told.0 i)) (d.told.1 i) (d.told.2 i)))
         ∙ ap (λ (set : List Element). headed (head_over from set (length d.events) (event_total index.batches + length d.events) (last_time_from 0 d.events))) d.graph in
         subst (λ (r : Reply). LeftByCrash g before after (LeavesAnswered (adding from count) got p r)) (sym is)
         (wider g before after (AddsBatchOrNot b l.history) (LeavesAnswered (adding from count) got p (reply (g.image before) d.events d.segment d.comes d.fits))

@@ -641,27 +641,27 @@ module _ (from : Origin) (got : List ScriptLine) (p : Parts) (count limit : ℕ)
     added_pool x adds = (of_here (index_opening c.index) free.index (λ o. AddsBatch o limit b l new before after x) opening_there adds).pool
 
     pub batch_added : (x : AddedBatch) → IfSome (index_opening c.index) (λ o. AddsBatch o limit b l new before after x)
-        → Accepts (adding from count) got p before (with_history p new.history) after (headed (head_over from new.history.now.graph x.events x.total x.last))
+        → Accepts (adding from count) got p before (with_history p new.history) after (headed (head_over from new.history.now.graph (length x.events.items) x.total x.last))
     batch_added x adds =
         let d : AddsBatch free.index limit b l new before after x =
         of_here (index_opening c.index) free.index (λ o. AddsBatch o limit b l new before after x) opening_there adds in
         let index : index_opening new.history.index ≡ Some (index_with free.index d.segment) = d.index in
         let names : new.history.names ≡ c.names = d.names in
         let q_is : with_history p new.history ≡ added_to before d.events d.segment d.comes = λ i. record p { index = index i; names = names i; graph = d.graph i; recent = d.recent i } in
-        let told : headed (head_over from new.history.now.graph x.events x.total x.last) ≡ said before d.events d.segment d.comes =
-        ap (λ (t : AddedBatch). headed (head_over from new.history.now.graph t.events t.total t.last)) d.told
+        let told : headed (head_over from new.history.now.graph (length x.events.items) x.total x.last) ≡ said before d.events d.segment d.comes =
+        (λ i. headed (head_over from new.history.now.graph (length (d.told.0 i)) (d.told.1 i) (d.told.2 i)))
         ∙ ap (λ (set : List Element). headed (head_over from set (length d.events) (event_total free.index.batches + length d.events) (last_time_from 0 d.events))) d.graph in
         record {
           moves = λ y z ey ez.
-              add_moves before d.events d.segment d.comes (with_history p new.history) y z (headed (head_over from new.history.now.graph x.events x.total x.last)) ey d.fits
+              add_moves before d.events d.segment d.comes (with_history p new.history) y z (headed (head_over from new.history.now.graph (length x.events.items) x.total x.last)) ey d.fits
               (both_told before after (GainsBatch d.segment) d.gains y z ey ez) q_is told;
-          accepted = ok_head from new.history.now.graph x.events x.total x.last;
+          accepted = ok_head from new.history.now.graph (length x.events.items) x.total x.last;
           free = a.not_refused;
-          fits = fits_head from count new.history.now.graph x.events x.total x.last;
+          fits = fits_head from count new.history.now.graph (length x.events.items) x.total x.last;
           held = λ h. d.held;
           no_index = λ none. absurd (let e : Some (index_with free.index d.segment) ≡ None = sym index ∙ none in cc);
           quiet = λ not_writing. let e : true ≡ false = sym (writes from count) ∙ not_writing in cc;
-          named = head_names (length new.history.names) (head_over from new.history.now.graph x.events x.total x.last) (headed (head_over from new.history.now.graph x.events x.total x.last)) refl;
+          named = head_names (length new.history.names) (head_over from new.history.now.graph (length x.events.items) x.total x.last) (headed (head_over from new.history.now.graph (length x.events.items) x.total x.last)) refl;
           keeps_names = ap (λ (ns : List (List ℕ)). take (length p.names) ns) names ∙ a.kept;
         }
 

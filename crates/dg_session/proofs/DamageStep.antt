@@ -16,8 +16,8 @@ use Rattle.dg_machine.specs.declared.reply.Reply.{Reply}
 use Rattle.dg_machine.specs.Answer.{is_refusal, refusal_of}
 use Rattle.dg_machine.specs.Needs.{needs}
 use Rattle.dg_machine.specs.Run.{is_failed_read}
-use Rattle.dg_retrieval.specs.declared.fault.RetrievalFault.{RetrievalFault}
-use Rattle.dg_retrieval.specs.declared.fault.RetrievalFault.TheVariants as retrieval_fault
+use Rattle.dg_records.specs.declared.fault.RecordFault.{RecordFault}
+use Rattle.dg_records.specs.declared.fault.RecordFault.TheVariants as retrieval_fault
 use Rattle.dg_retrieval.specs.declared.retrieval.Retrieved.{Retrieved}
 use Rattle.dg_history.specs.declared.node.Key.{Key}
 use Rattle.dg_history.specs.declared.node.NodeId.{NodeId}
@@ -73,7 +73,7 @@ never_for_damage c x got p before q after r is no_reads comes =
 -- ---- a damage
 
 -- the fault of a retrieval over what the session has in memory
-pub graph_damage_over : (p : Parts) (o : Opening) (times : List ℕ) (cols : Columns) (told : Option (List ℕ)) (names : ℕ) (recent : List Event) (r : Result Retrieved RetrievalFault)
+pub graph_damage_over : (p : Parts) (o : Opening) (times : List ℕ) (cols : Columns) (told : Option (List ℕ)) (names : ℕ) (recent : List Event) (r : Result Retrieved RecordFault)
     → IsSession p o names recent → (edges : List Edge) → edges ≡ kept_edges o (event_total o.batches) cols (bases_in cols p.table)
     → IfSome told (λ image. TellsLeadDamage names edges o (points_over o recent times) times cols image r) → TellsGraphDamage p told (times, cols) r
 graph_damage_over p o times cols told names recent r is edges edges_is damage =
@@ -81,30 +81,30 @@ graph_damage_over p o times cols told names recent r is edges edges_is damage =
     (subst (λ es. IfSome told (λ image. TellsLeadDamage (length p.names) edges o (points_over o es times) times cols image r)) is.all
     (subst (λ n. IfSome told (λ image. TellsLeadDamage n edges o (points_over o recent times) times cols image r)) is.count damage)))
   where
-    by : (r : Result Retrieved RetrievalFault)
+    by : (r : Result Retrieved RecordFault)
         → IfSome told (λ image. TellsLeadDamage (length p.names) (kept_edges o (event_total o.batches) cols (bases_in cols p.table)) o (points_over o p.recent times) times cols image r)
         → TellsGraphDamage p told (times, cols) r
     by (Ok x) d = (o, is.there, d)
     by (Err f) d = (o, is.there, d)
 
-pub node_damage_over : (p : Parts) (o : Opening) (node : NodeId) (cols : Columns) (told : Option (List ℕ)) (names : ℕ) (r : Result NodeLead RetrievalFault) → p.index ≡ Some o → names ≡ length p.names
+pub node_damage_over : (p : Parts) (o : Opening) (node : NodeId) (cols : Columns) (told : Option (List ℕ)) (names : ℕ) (r : Result NodeLead RecordFault) → p.index ≡ Some o → names ≡ length p.names
     → IfSome told (λ image. TellsDamage names (index_edges o cols false []) o cols (node ∷ []) image r) → TellsNodeDamage p told (node, cols) r
 node_damage_over p o node cols told names r there count damage =
     by r (subst (λ n. IfSome told (λ image. TellsDamage n (index_edges o cols false []) o cols (node ∷ []) image r)) count damage)
   where
-    by : (r : Result NodeLead RetrievalFault) → IfSome told (λ image. TellsDamage (length p.names) (index_edges o cols false []) o cols (node ∷ []) image r) → TellsNodeDamage p told (node, cols) r
+    by : (r : Result NodeLead RecordFault) → IfSome told (λ image. TellsDamage (length p.names) (index_edges o cols false []) o cols (node ∷ []) image r) → TellsNodeDamage p told (node, cols) r
     by (Ok x) d = (o, there, d)
     by (Err f) d = (o, there, d)
 
 -- what the command that reads for it comes to by the fault
-pub damage_in : (c : Command) (p : Parts) (image : Option (List ℕ)) (times : List ℕ) (cols : Columns) (f : RetrievalFault) → reads_for c ≡ Graphs times cols → NamesDamage p image (times, cols) f
+pub damage_in : (c : Command) (p : Parts) (image : Option (List ℕ)) (times : List ℕ) (cols : Columns) (f : RecordFault) → reads_for c ≡ Graphs times cols → NamesDamage p image (times, cols) f
     → DamageIn c p image (Err (retrieval_halt f))
 damage_in c p image times cols retrieval_fault.Disk is damage = tt
 damage_in c p image times cols retrieval_fault.Memory is damage = tt
 damage_in c p image times cols (retrieval_fault.Damaged key col) is damage = subst (λ (x : ReadsFor). IsMetBy x p image key col) (sym is) damage
 
 -- the fault of a node that is to be held, over what the session has in memory
-pub node_damage_in : (c : Command) (p : Parts) (image : Option (List ℕ)) (node : NodeId) (cols : Columns) (f : RetrievalFault) → reads_for c ≡ Node_set node cols → NamesNodeDamage p image (node, cols) f
+pub node_damage_in : (c : Command) (p : Parts) (image : Option (List ℕ)) (node : NodeId) (cols : Columns) (f : RecordFault) → reads_for c ≡ Node_set node cols → NamesNodeDamage p image (node, cols) f
     → DamageIn c p image (Err (retrieval_halt f))
 node_damage_in c p image node cols retrieval_fault.Disk is damage = tt
 node_damage_in c p image node cols retrieval_fault.Memory is damage = tt

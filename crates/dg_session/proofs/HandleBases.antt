@@ -30,7 +30,7 @@ use Rattle.dg_plan.specs.declared.edge.Via.{Via}
 use Rattle.dg_plan.specs.declared.edge.Via.TheVariants as via
 use Rattle.dg_plan.specs.IndexGraph.{Ground, base_edge, child_edges, edge, edges_of, first_edges, inner_edges, is_root, level_edges, list_edges, recent_edges, top_edge}
 use Rattle.dg_plan.proofs.EnteredRecordTrees.{all_flat}
-use Rattle.dg_retrieval.specs.declared.fault.RetrievalFault.{RetrievalFault}
+use Rattle.dg_records.specs.declared.fault.RecordFault.{RecordFault}
 use Rattle.dg_retrieval.specs.Beginnings.{GraphLead}
 use Rattle.dg_retrieval.specs.declared.retrieval.Retrieved.{Retrieved}
 use Rattle.dg_retrieval.specs.Beginnings.{IsOffered, leads_in}
@@ -160,7 +160,7 @@ begins_on table cols g hold l offered h is =
 
 -- all graphs that are retrieved
 pub all_begin_on : (table : ListOf (ℕ × Stands)) (cols : Columns) (g : Ground) → All (HoldsNode table cols) g.bases
-    → (r : Result Retrieved RetrievalFault) → IfOk r (λ x. All (IsOffered (edges_of g)) (leads_in x.leads)) → IfOk r (λ x. All (BeginsOn table cols) (leads_in x.leads))
+    → (r : Result Retrieved RecordFault) → IfOk r (λ x. All (IsOffered (edges_of g)) (leads_in x.leads)) → IfOk r (λ x. All (BeginsOn table cols) (leads_in x.leads))
 all_begin_on table cols g hold (Err f) offered = tt
 all_begin_on table cols g hold (Ok x) offered = each (leads_in x.leads) offered
   where
@@ -170,7 +170,7 @@ all_begin_on table cols g hold (Ok x) offered = each (leads_in x.leads) offered
         All-cons (BeginsOn table cols) l leads (begins_on table cols g hold l (All-head (IsOffered (edges_of g)) l leads h)) (each leads (All-tail (IsOffered (edges_of g)) l leads h))
 
 -- so do the leads that a retrieval gives over these edges
-pub all_begin : (table : ListOf (ℕ × Stands)) (cols : Columns) (g : Ground) → All (HoldsNode table cols) g.bases → (r : Result Retrieved RetrievalFault) (names : ℕ) (recent : ListOf Event) (edges : ListOf Edge) (o : Opening) (targets : ListOf NodeId) (times : ListOf ℕ)
+pub all_begin : (table : ListOf (ℕ × Stands)) (cols : Columns) (g : Ground) → All (HoldsNode table cols) g.bases → (r : Result Retrieved RecordFault) (names : ℕ) (recent : ListOf Event) (edges : ListOf Edge) (o : Opening) (targets : ListOf NodeId) (times : ListOf ℕ)
     → edges ≡ edges_of g → IfOk r (LeadsToInstants names recent edges o targets times cols) → IfOk r (λ x. All (BeginsOn table cols) (leads_in x.leads))
 all_begin table cols g hold (Err f) names recent edges o targets times is done = tt
 all_begin table cols g hold (Ok x) names recent edges o targets times is done = all_begin_on table cols g hold (Ok x) (subst (λ es. All (IsOffered es) (leads_in x.leads)) is done.offered)

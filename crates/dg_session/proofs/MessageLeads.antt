@@ -24,7 +24,7 @@ use Rattle.dg_plan.specs.IndexGraph.{arcs_of}
 use Rattle.dg_plan.specs.Walks.{tree_weight}
 use Rattle.dg_retrieval.specs.Beginnings.{GraphLead, IsOffered, base_handle, begun_with, leads_in, led_to}
 use Rattle.dg_retrieval.specs.Calls.{IsRetrieval, RetrievesOver, TellsDamage}
-use Rattle.dg_retrieval.specs.declared.fault.RetrievalFault.{RetrievalFault}
+use Rattle.dg_records.specs.declared.fault.RecordFault.{RecordFault}
 use Rattle.dg_retrieval.specs.declared.graph_lead.Beginning.{Beginning}
 use Rattle.dg_retrieval.specs.declared.graph_lead.Beginning.TheVariants as begins
 use Rattle.dg_retrieval.specs.declared.retrieval.Retrieved.{Retrieved}
@@ -87,7 +87,7 @@ graphs_plain z cols (t ∷ times) plain = λ i. same i ∷ graphs_plain z cols t
 
 module _ (names : ℕ) (recent : List Event) (edges : List Edge) (o : Opening) (targets : List NodeId) (times : List ℕ) (cols : Columns) where
   -- the tree was not read
-  pub tree_fails : (z : History) (now : List Element) (before after : ℕ) (f : RetrievalFault) → RetrievesOver z now edges cols targets times before after (Err f)
+  pub tree_fails : (z : History) (now : List Element) (before after : ℕ) (f : RecordFault) → RetrievesOver z now edges cols targets times before after (Err f)
       → LeadsOver z now edges o targets times cols before after (Err f)
   tree_fails z now before after f over = record {
     graphs = tt;
@@ -138,11 +138,11 @@ module _ (names : ℕ) (recent : List Event) (edges : List Edge) (o : Opening) (
       named = λ there. heard.named there (done.named there);
     }
 
-    pub heard_leads : (image : Option (List ℕ)) (r : Result Retrieved RetrievalFault) → IfOk r (HasMessages names o image recent times x) → IfOk r (LeadsToInstants names recent edges o targets times cols)
+    pub heard_leads : (image : Option (List ℕ)) (r : Result Retrieved RecordFault) → IfOk r (HasMessages names o image recent times x) → IfOk r (LeadsToInstants names recent edges o targets times cols)
     heard_leads image (Ok y) heard = heard_leads_in image y heard
     heard_leads image (Err f) heard = tt
 
-    pub heard_over : (z : History) (image : List ℕ) (now : List Element) (told : Option (List ℕ)) (before middle after : ℕ) (r : Result Retrieved RetrievalFault) → IsOver z image o names now recent
+    pub heard_over : (z : History) (image : List ℕ) (now : List Element) (told : Option (List ℕ)) (before middle after : ℕ) (r : Result Retrieved RecordFault) → IsOver z image o names now recent
         → RetrievesOver z now edges cols targets times before middle (Ok x) → IfOk r (HasMessages names o told recent times x) → HearsOver z times x r → TakesHeard o times middle after r
         → LeadsOver z now edges o targets times cols before after r
     heard_over z image now told before middle after r is over heard hears takes = record {
@@ -157,23 +157,23 @@ module _ (names : ℕ) (recent : List Event) (edges : List Edge) (o : Opening) (
         set : IsSet now
         set = subst IsSet (sym is.now) (IsSet-replay_from (events_of z) [] tt)
 
-        graphs : (r : Result Retrieved RetrievalFault)
+        graphs : (r : Result Retrieved RecordFault)
             → IfOk r (λ y. (now : List Element) (held : ℕ → List Element) (cols : Columns) → cols.transient ≡ true → All (λ (l : GraphLead). IsSet (begun_with now held l.begins)) (leads_in x.leads)
             → map (led_to now held cols) (leads_in x.leads) ≡ graphs_at z times cols → map (led_to now held cols) (leads_in y.leads) ≡ shown_with_messages z times cols)
             → IfOk r (λ y. (held : ℕ → List Element) → AreHeld z edges cols held → ArePoints z targets times → map (led_to now held cols) (leads_in y.leads) ≡ shown_with_messages z times cols)
         graphs (Ok y) come = λ held are points. come now held cols asked (begun_sets z now held edges cols set are (leads_in x.leads) done.offered) (over.graphs held are points)
         graphs (Err f) come = tt
 
-        taken : (r : Result Retrieved RetrievalFault) → IfOk r (HasMessages names o told recent times x) → IfOk r (λ y. Takes (heard_bytes o times) middle after) → IfOk r (λ y. Takes y.weight before after)
+        taken : (r : Result Retrieved RecordFault) → IfOk r (HasMessages names o told recent times x) → IfOk r (λ y. Takes (heard_bytes o times) middle after) → IfOk r (λ y. Takes y.weight before after)
         taken (Ok y) heard takes = takes_both x.weight (heard_bytes o times) y.weight before middle after heard.weight over.takes takes
         taken (Err f) heard takes = tt
 
-        never : (r : Result Retrieved RetrievalFault) → IfErr r IsNoDamage → IfErr r (λ f. ArePoints z targets times → IsNoDamage f)
+        never : (r : Result Retrieved RecordFault) → IfErr r IsNoDamage → IfErr r (λ f. ArePoints z targets times → IsNoDamage f)
         never (Ok y) none = tt
         never (Err f) none = λ points. none
 
     -- a column of messages is damaged, or none is
-    pub heard_damage : (image : List ℕ) (r : Result Retrieved RetrievalFault) → TellsDamage names edges o cols targets image (Ok x) → TellsMessageDamage names o times image r
+    pub heard_damage : (image : List ℕ) (r : Result Retrieved RecordFault) → TellsDamage names edges o cols targets image (Ok x) → TellsMessageDamage names o times image r
         → TellsLeadDamage names edges o targets times cols image r
     heard_damage image (Ok y) undamaged tells = (undamaged, λ e. tells)
     heard_damage image (Err f) undamaged tells = inr (asked, undamaged, tells)

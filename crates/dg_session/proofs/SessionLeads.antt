@@ -26,7 +26,7 @@ use Rattle.dg_plan.specs.declared.edge.Edge.{Edge}
 use Rattle.dg_plan.specs.IndexGraph.{arcs_of}
 use Rattle.dg_plan.specs.Walks.{AreSingles, Graft, IsTree, tree_weight}
 use Rattle.dg_retrieval.specs.Beginnings.{GraphLead, base_handle, leads_in, led_to}
-use Rattle.dg_retrieval.specs.declared.fault.RetrievalFault.{RetrievalFault}
+use Rattle.dg_records.specs.declared.fault.RecordFault.{RecordFault}
 use Rattle.dg_retrieval.specs.declared.retrieval.Retrieved.{Retrieved}
 use Rattle.dg_retrieval.specs.KeptGraph.{kept_edges, kept_ground}
 use Rattle.dg_retrieval.specs.NamesThere.{EventNamesAreThere, NamesAreThere}
@@ -139,7 +139,7 @@ module _ (p : Parts) (o : Opening) (times : List ℕ) (cols : Columns) (told : O
   TakesMost es ns more before after = (grafts : List (Graft NodeId)) → IsTree (arcs_of es) (Root ∷ []) ns grafts → TakesAtMost (tree_weight (arcs_of es) grafts + more) before after
 
   -- what a retrieval over a history is, is that of each state that the session stands for
-  pub retrieves_for : HeardBytesAreTheHistorys → (r : Result Retrieved RetrievalFault) (before after : ℕ) → IfOk r (LeadsToInstants names recent edges o (points_over o recent times) times cols)
+  pub retrieves_for : HeardBytesAreTheHistorys → (r : Result Retrieved RecordFault) (before after : ℕ) → IfOk r (LeadsToInstants names recent edges o (points_over o recent times) times cols)
       → IfSome told (λ image. (z : History) (now : List Element) → IsOver z image o names now recent → LeadsOver z now edges o (points_over o recent times) times cols before after r)
       → IfSome told (λ image. (m : MachineState) → StandsFor p image m → RetrievesFor m p times cols before after r)
   retrieves_for law r before after done over =
@@ -157,7 +157,7 @@ module _ (p : Parts) (o : Opening) (times : List ℕ) (cols : Columns) (told : O
         never = no_damage_here r image m s x.never;
       })
     where
-      retrieved_over : (r : Result Retrieved RetrievalFault) (image : List ℕ) (m : MachineState) (s : StandsFor p image m) → IfOk r (LeadsToInstants names recent edges o (points_over o recent times) times cols)
+      retrieved_over : (r : Result Retrieved RecordFault) (image : List ℕ) (m : MachineState) (s : StandsFor p image m) → IfOk r (LeadsToInstants names recent edges o (points_over o recent times) times cols)
           → IfOk r (λ x. (held : ℕ → List Element) → AreHeld (z_of p o image m is.there s) edges cols held → ArePoints (z_of p o image m is.there s) (points_over o recent times) times
           → map (led_to p.graph held cols) (leads_in x.leads) ≡ shown_with_messages (z_of p o image m is.there s) times cols)
           → IfOk r (λ x. IsRetrieved m times cols x.weight x.singles.items (bases_of (leads_in x.leads)) (map (led_to p.graph (listed_by p) cols) (leads_in x.leads)))
@@ -167,13 +167,13 @@ module _ (p : Parts) (o : Opening) (times : List ℕ) (cols : Columns) (told : O
           (subst (λ es. LeadsToInstants names recent es o (points_over o p.recent times) times cols x) edges_is (subst (λ es. LeadsToInstants names recent edges o (points_over o es times) times cols x) is.all done))
           (graphs (listed_by p) (held_there image m s) (points_of_session image m s))
 
-      no_damage_here : (r : Result Retrieved RetrievalFault) (image : List ℕ) (m : MachineState) (s : StandsFor p image m)
+      no_damage_here : (r : Result Retrieved RecordFault) (image : List ℕ) (m : MachineState) (s : StandsFor p image m)
           → IfErr r (λ f. ArePoints (z_of p o image m is.there s) (points_over o recent times) times → IsNoDamage f) → IfErr r IsNoDamage
       no_damage_here (Ok x) image m s never = tt
       no_damage_here (Err f) image m s never = never (points_of_session image m s)
 
   -- whatever the image is, there is a lead for each instant
-  pub has_retrieved : (r : Result Retrieved RetrievalFault) → EventNamesAreThere names recent → IfOk r (λ x. All (BeginsOn p.table cols) (leads_in x.leads))
+  pub has_retrieved : (r : Result Retrieved RecordFault) → EventNamesAreThere names recent → IfOk r (λ x. All (BeginsOn p.table cols) (leads_in x.leads))
       → IfOk r (LeadsToInstants names recent edges o (points_over o recent times) times cols) → IfOk r (HasRetrieved p times cols)
   has_retrieved (Err f) there bases done = tt
   has_retrieved (Ok x) there bases done = record {
@@ -186,7 +186,7 @@ module _ (p : Parts) (o : Opening) (times : List ℕ) (cols : Columns) (told : O
 -- ---- what a retrieval is said to be for each state
 
 module _ (p : Parts) (times : List ℕ) (cols : Columns) (told : Option (List ℕ)) (before after : ℕ) where
-  abbrev pub For : Result Retrieved RetrievalFault → Type 0
+  abbrev pub For : Result Retrieved RecordFault → Type 0
   For r = IfSome told (λ image. (m : MachineState) → StandsFor p image m → RetrievesFor m p times cols before after r)
 
   pub retrieved_of : (x : Retrieved) → For (Ok x)
@@ -196,8 +196,8 @@ module _ (p : Parts) (times : List ℕ) (cols : Columns) (told : Option (List �
   pub taken_of : (x : Retrieved) → For (Ok x) → IfSome told (λ image. (m : MachineState) → StandsFor p image m → Takes x.weight before after)
   taken_of x over = IfSome_then told over (λ image f m s. (f m s).takes)
 
-  pub most_of : (r : Result Retrieved RetrievalFault) → For r → IfSome told (λ image. (m : MachineState) → StandsFor p image m → TakesAtMostRetrieval m times cols before after)
+  pub most_of : (r : Result Retrieved RecordFault) → For r → IfSome told (λ image. (m : MachineState) → StandsFor p image m → TakesAtMostRetrieval m times cols before after)
   most_of r over = IfSome_then told over (λ image f m s. (f m s).most)
 
-  pub never_of : (f : RetrievalFault) → For (Err f) → IfSome told (λ image. (m : MachineState) → StandsFor p image m → IsNoDamage f)
+  pub never_of : (f : RecordFault) → For (Err f) → IfSome told (λ image. (m : MachineState) → StandsFor p image m → IsNoDamage f)
   never_of f over = IfSome_then told over (λ image h m s. (h m s).never)

@@ -29,7 +29,7 @@ use Rattle.dg_graph.specs.Composition.{applied}
 use Rattle.dg_graph.specs.Elements.{shown}
 use Rattle.dg_index.specs.OpenedIndex.{Opening}
 use Rattle.dg_plan.specs.declared.edge.Edge.{Edge}
-use Rattle.dg_retrieval.specs.declared.fault.RetrievalFault.{RetrievalFault}
+use Rattle.dg_records.specs.declared.fault.RecordFault.{RecordFault}
 use Rattle.dg_retrieval.specs.declared.node_lead.NodeLead.{NodeLead}
 use Rattle.dg_retrieval.specs.KeptGraph.{index_edges}
 use Rattle.dg_retrieval.specs.NodeSets.{IsIndexOver, IsLedAlong}
@@ -171,12 +171,12 @@ module _ (p : Parts) (o : Opening) (node : NodeId) (cols : Columns) (told : Opti
   MostOf before after edges = (steps : List ℕ) → IsPlan (arcs_of edges) (Root ∷ []) node steps → TakesAtMost (weight_of (arcs_of edges) steps) before after
 
   -- the records along the plan, where the image is told
-  led_of : (r : Result NodeLead RetrievalFault) → IfOk r (LeadsToNode names (index_edges o cols false []) o cols node told)
+  led_of : (r : Result NodeLead RecordFault) → IfOk r (LeadsToNode names (index_edges o cols false []) o cols node told)
       → IfSome told (λ image. IfOk r (λ x. IsLedAlong names image o cols (index_edges o cols false []) node x.delta))
   led_of (Err f) done = every_some told (λ image. Unit {0}) (λ image. tt)
   led_of (Ok x) done = done.led
 
-  pub holds_node_for : (r : Result NodeLead RetrievalFault) (before after : ℕ) → IfOk r (LeadsToNode names (index_edges o cols false []) o cols node told)
+  pub holds_node_for : (r : Result NodeLead RecordFault) (before after : ℕ) → IfOk r (LeadsToNode names (index_edges o cols false []) o cols node told)
       → IfSome told (λ image. (z : History) → IsIndexOver z image o names → LeadsToNodeOver z (index_edges o cols false []) cols node before after r)
       → IfSome told (λ image. (m : MachineState) → StandsFor p image m → HoldsNodeFor m node cols before after r)
   holds_node_for r before after done over =
@@ -191,7 +191,7 @@ module _ (p : Parts) (o : Opening) (node : NodeId) (cols : Columns) (told : Opti
         never = x.never;
       }) (led_of r done) over
     where
-      held_over : (r : Result NodeLead RetrievalFault) (image : List ℕ) (m : MachineState) (s : StandsFor p image m) → IfOk r (LeadsToNode names (index_edges o cols false []) o cols node told)
+      held_over : (r : Result NodeLead RecordFault) (image : List ℕ) (m : MachineState) (s : StandsFor p image m) → IfOk r (LeadsToNode names (index_edges o cols false []) o cols node told)
           → IfOk r (λ x. IsLedAlong names image o cols (index_edges o cols false []) node x.delta)
           → IfOk r (λ x. IsNodeHeld m node cols x.weight (shown (applied x.delta []) (with_messages cols)))
       held_over (Err f) image m s done led = tt
@@ -202,14 +202,14 @@ module _ (p : Parts) (o : Opening) (node : NodeId) (cols : Columns) (told : Opti
       }
 
   -- the names that the delta puts in are among those of the session
-  pub node_named : (r : Result NodeLead RetrievalFault) → IfOk r (LeadsToNode names (index_edges o cols false []) o cols node told) → IfOk r (λ x. NamesAreThere (length p.names) x.delta.plus)
+  pub node_named : (r : Result NodeLead RecordFault) → IfOk r (LeadsToNode names (index_edges o cols false []) o cols node told) → IfOk r (λ x. NamesAreThere (length p.names) x.delta.plus)
   node_named (Err f) done = tt
   node_named (Ok x) done = subst (λ n. NamesAreThere n x.delta.plus) count done.named
 
 -- ---- what the lead to a node is said to be for each state
 
 module _ (p : Parts) (node : NodeId) (cols : Columns) (told : Option (List ℕ)) (before after : ℕ) where
-  abbrev pub ForNode : Result NodeLead RetrievalFault → Type 0
+  abbrev pub ForNode : Result NodeLead RecordFault → Type 0
   ForNode r = IfSome told (λ image. (m : MachineState) → StandsFor p image m → HoldsNodeFor m node cols before after r)
 
   pub node_held_of : (x : NodeLead) → ForNode (Ok x) → IfSome told (λ image. (m : MachineState) → StandsFor p image m → IsNodeHeld m node cols x.weight (shown (applied x.delta []) (with_messages cols)))
@@ -218,9 +218,9 @@ module _ (p : Parts) (node : NodeId) (cols : Columns) (told : Option (List ℕ))
   pub node_taken_of : (x : NodeLead) → ForNode (Ok x) → IfSome told (λ image. (m : MachineState) → StandsFor p image m → Takes x.weight before after)
   node_taken_of x over = if_some told (λ image. (m : MachineState) → StandsFor p image m → HoldsNodeFor m node cols before after (Ok x)) _ (λ image f m s. (f m s).takes) over
 
-  pub node_most_of : (r : Result NodeLead RetrievalFault) → ForNode r
+  pub node_most_of : (r : Result NodeLead RecordFault) → ForNode r
       → IfSome told (λ image. (m : MachineState) → StandsFor p image m → (steps : List ℕ) → IsPlan (arcs_of (record_edges_in m cols)) (Root ∷ []) node steps → TakesAtMost (weight_of (arcs_of (record_edges_in m cols)) steps) before after)
   node_most_of r over = if_some told (λ image. (m : MachineState) → StandsFor p image m → HoldsNodeFor m node cols before after r) _ (λ image f m s. (f m s).most) over
 
-  pub node_never_of : (f : RetrievalFault) → ForNode (Err f) → IfSome told (λ image. (m : MachineState) → StandsFor p image m → IsNoDamage f)
+  pub node_never_of : (f : RecordFault) → ForNode (Err f) → IfSome told (λ image. (m : MachineState) → StandsFor p image m → IsNoDamage f)
   node_never_of f over = if_some told (λ image. (m : MachineState) → StandsFor p image m → HoldsNodeFor m node cols before after (Err f)) _ (λ image h m s. (h m s).never) over

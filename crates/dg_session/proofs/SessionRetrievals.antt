@@ -32,8 +32,8 @@ use Rattle.dg_machine.specs.Needs.{earliest, needs, refused, when}
 use Rattle.dg_machine.specs.Planning.{IsPlanned, Planned, point_for, points_for}
 use Rattle.dg_plan.specs.InstantPoint.{point}
 use Rattle.dg_file.specs.Index.{IndexState}
-use Rattle.dg_retrieval.specs.declared.fault.RetrievalFault.{RetrievalFault}
-use Rattle.dg_retrieval.specs.declared.fault.RetrievalFault.TheVariants as retrieval_fault
+use Rattle.dg_records.specs.declared.fault.RecordFault.{RecordFault}
+use Rattle.dg_records.specs.declared.fault.RecordFault.TheVariants as retrieval_fault
 use Rattle.dg_retrieval.specs.KeptGraph.{kept_nodes}
 use Rattle.dg_retrieval.specs.Retrieval.{ArePoints, IsNoDamage, IsOver}
 use Rattle.dg_session.proofs.ReplyNames.{names_stay}
@@ -278,7 +278,7 @@ no_damage : (key : Key) (col : Column) → IsNoDamage (retrieval_fault.Damaged k
 no_damage key col h = ⊎_elim (λ (e : retrieval_fault.Damaged key col ≡ retrieval_fault.Disk). absurd cc) (λ (e : retrieval_fault.Damaged key col ≡ retrieval_fault.Memory). absurd cc) h
 
 -- a retrieval that fails is refused by a failed read or by want of memory, since an image of a history is not damaged
-pub retrieval_failed : (c : Command) (p q : Parts) (before after : Option (List ℕ)) (f : RetrievalFault) → (needs c).memory ≡ true → (needs c).reads ≡ true → AcceptedBehindReads c [] → refused_by p 0 (needs c) ≡ None
+pub retrieval_failed : (c : Command) (p q : Parts) (before after : Option (List ℕ)) (f : RecordFault) → (needs c).memory ≡ true → (needs c).reads ≡ true → AcceptedBehindReads c [] → refused_by p 0 (needs c) ≡ None
     → q ≡ p → after ≡ before → IfSome before (λ image. (m : MachineState) → StandsFor p image m → IsNoDamage f) → ComesTo c [] p before q after (Err (retrieval_halt f))
 retrieval_failed c p q before after retrieval_fault.Disk memory reads behind none same same_image never = failing_accepted c [] p q before after same same_image reads none behind
 retrieval_failed c p q before after retrieval_fault.Memory memory reads behind none same same_image never = lacking_denies c [] p q before after same same_image memory none
@@ -338,7 +338,7 @@ reads_failed c p image h before after reads refuses late as_told none most = rec
 }
 
 -- whatever the fault is
-pub reads_failing : (c : Command) (p : Parts) (image : Option (List ℕ)) (f : RetrievalFault) (before after : ℕ) → ((h : Head) → is_refusal h ≡ true → is_early h ≡ false → Reads c p image h before after)
+pub reads_failing : (c : Command) (p : Parts) (image : Option (List ℕ)) (f : RecordFault) (before after : ℕ) → ((h : Head) → is_refusal h ≡ true → is_early h ≡ false → Reads c p image h before after)
     → ReadsIn c p image (Err (retrieval_halt f)) before after
 reads_failing c p image retrieval_fault.Disk before after each = each (head.Refused refusal.StoreRead) refl refl
 reads_failing c p image retrieval_fault.Memory before after each = each (head.Refused refusal.OutOfMemory) refl refl

@@ -23,8 +23,8 @@ use Rattle.dg_machine.specs.declared.reply.Reply.{Reply}
 use Rattle.dg_machine.specs.declared.selection.Selection.TheVariants.{Chosen}
 use Rattle.dg_messages.specs.Calls.{AreHeard, IsFirstMessageDamage}
 use Rattle.dg_plan.specs.declared.edge.Edge.{Edge}
-use Rattle.dg_retrieval.specs.declared.fault.RetrievalFault.{RetrievalFault}
-use Rattle.dg_retrieval.specs.declared.fault.RetrievalFault.TheVariants as fault
+use Rattle.dg_records.specs.declared.fault.RecordFault.{RecordFault}
+use Rattle.dg_records.specs.declared.fault.RecordFault.TheVariants as fault
 use Rattle.dg_retrieval.specs.KeptGraph.{index_edges, kept_edges}
 use Rattle.dg_retrieval.specs.NodeSets.{IsUndamaged}
 use Rattle.dg_retrieval.specs.Retrieval.{IsFirstDamage}
@@ -63,7 +63,7 @@ IsTreeUndamaged old o times cols bytes = IsUndamaged (length old.names) (edges_f
 -- Of a retrieval that fails so: a damage that the fault names is the first among the columns that the tree of its
 -- instants enters over the index that the session keeps, in the order of its steps and of the columns; or none of these
 -- is damaged, and it is the first among the columns of messages that are asked for, in the order of the lists.
-abbrev pub NamesDamage : Parts → Option (List ℕ) → List ℕ × Columns → RetrievalFault → Type 0
+abbrev pub NamesDamage : Parts → Option (List ℕ) → List ℕ × Columns → RecordFault → Type 0
 NamesDamage old image asked f =
     (o : Opening) × (old.index ≡ Some o)
     × IfSome image (λ bytes. IsFirstDamage (length old.names) (edges_for old o asked.1) o asked.1 (points_over o old.recent asked.0) bytes f
@@ -71,7 +71,7 @@ NamesDamage old image asked f =
 
 -- Of the set of a node that is not read so: the first damage among the columns that its plan enters, over the records
 -- alone.
-abbrev pub NamesNodeDamage : Parts → Option (List ℕ) → NodeId × Columns → RetrievalFault → Type 0
+abbrev pub NamesNodeDamage : Parts → Option (List ℕ) → NodeId × Columns → RecordFault → Type 0
 NamesNodeDamage old image asked f =
     (o : Opening) × (old.index ≡ Some o)
     × IfSome image (λ bytes. IsFirstDamage (length old.names) (index_edges o asked.1 false []) o asked.1 (asked.0 ∷ []) bytes f)
@@ -105,12 +105,12 @@ MeetsNone (Batch_of count) old image =
 MeetsNone Nothing_read old image = Unit {0}
 
 -- what a retrieval tells of damage: none is met where it gives something, and else it names the first
-abbrev pub TellsGraphDamage : {A : Type 0} → Parts → Option (List ℕ) → List ℕ × Columns → Result A RetrievalFault → Type 0
+abbrev pub TellsGraphDamage : {A : Type 0} → Parts → Option (List ℕ) → List ℕ × Columns → Result A RecordFault → Type 0
 TellsGraphDamage old image asked (Ok r) = MeetsNone (Graphs asked.0 asked.1) old image
 TellsGraphDamage old image asked (Err f) = NamesDamage old image asked f
 
 -- the same of a node
-abbrev pub TellsNodeDamage : {A : Type 0} → Parts → Option (List ℕ) → NodeId × Columns → Result A RetrievalFault → Type 0
+abbrev pub TellsNodeDamage : {A : Type 0} → Parts → Option (List ℕ) → NodeId × Columns → Result A RecordFault → Type 0
 TellsNodeDamage old image asked (Ok r) = MeetsNone (Node_set asked.0 asked.1) old image
 TellsNodeDamage old image asked (Err f) = NamesNodeDamage old image asked f
 

@@ -25,7 +25,7 @@ use Rattle.dg_machine.specs.Planning.{Planned, edges_in, points_for, record_edge
 use Rattle.dg_plan.specs.HistoryGraph.{all_columns}
 use Rattle.dg_plan.specs.IndexGraph.{arcs_of}
 use Rattle.dg_plan.specs.Walks.{AreSingles, Graft, IsPlan, IsTree, tree_weight, weight_of}
-use Rattle.dg_retrieval.specs.declared.fault.RetrievalFault.{RetrievalFault}
+use Rattle.dg_records.specs.declared.fault.RecordFault.{RecordFault}
 use Rattle.dg_retrieval.specs.declared.node_lead.NodeLead.{NodeLead}
 use Rattle.dg_retrieval.specs.declared.retrieval.Retrieved.{Retrieved}
 use Rattle.dg_retrieval.specs.Beginnings.{GraphLead, base_handle, leads_in, led_to}
@@ -79,7 +79,7 @@ TakesAtMostRetrieval m times cols before after =
 
 -- Over an image that stands for the state: what is retrieved is that, as many bytes are read as it weighs, never more
 -- than it would, and no damage is met.
-pub record RetrievesFor (m : MachineState) (p : Parts) (times : List ℕ) (cols : Columns) (before after : ℕ) (r : Result Retrieved RetrievalFault) : Type 0 where
+pub record RetrievesFor (m : MachineState) (p : Parts) (times : List ℕ) (cols : Columns) (before after : ℕ) (r : Result Retrieved RecordFault) : Type 0 where
   pub retrieved : IfOk r (λ x. IsRetrieved m times cols x.weight x.singles.items (bases_of (leads_in x.leads)) (map (led_to p.graph (listed_by p) cols) (leads_in x.leads)))
   pub takes : IfOk r (λ x. Takes x.weight before after)
   pub most : TakesAtMostRetrieval m times cols before after
@@ -93,7 +93,7 @@ pub record HasRetrieved (p : Parts) (times : List ℕ) (cols : Columns) (r : Ret
   pub named : All (λ (l : GraphLead). NamesAreThere (length p.names) l.delta.plus) (leads_in r.leads)
 
 -- The same of the set of a node, by its least plan over the records. What is led to has no message beside it.
-pub record HoldsNodeFor (m : MachineState) (node : NodeId) (cols : Columns) (before after : ℕ) (r : Result NodeLead RetrievalFault) : Type 0 where
+pub record HoldsNodeFor (m : MachineState) (node : NodeId) (cols : Columns) (before after : ℕ) (r : Result NodeLead RecordFault) : Type 0 where
   pub held : IfOk r (λ x. IsNodeHeld m node cols x.weight (shown (applied x.delta []) (with_messages cols)))
   pub takes : IfOk r (λ x. Takes x.weight before after)
   pub most : (steps : List ℕ) → IsPlan (arcs_of (record_edges_in m cols)) (Root ∷ []) node steps → TakesAtMost (weight_of (arcs_of (record_edges_in m cols)) steps) before after

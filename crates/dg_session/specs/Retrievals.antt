@@ -17,7 +17,7 @@ use Rattle.dg_plan.specs.IndexGraph.{arcs_of}
 use Rattle.dg_plan.specs.Walks.{AreSingles, Graft, IsTree, tree_weight}
 use Rattle.dg_retrieval.specs.Beginnings.{GraphLead, IsOffered, base_handle, leads_in, led_to}
 use Rattle.dg_retrieval.specs.Calls.{LeadNamesAreThere}
-use Rattle.dg_retrieval.specs.declared.fault.RetrievalFault.{RetrievalFault}
+use Rattle.dg_records.specs.declared.fault.RecordFault.{RecordFault}
 use Rattle.dg_retrieval.specs.declared.retrieval.Retrieved.{Retrieved}
 use Rattle.dg_retrieval.specs.NodeSets.{IsUndamaged}
 use Rattle.dg_retrieval.specs.Retrieval.{AreHeld, ArePoints, IsFirstDamage, IsNoDamage, IsTreeOf}
@@ -45,7 +45,7 @@ pub record LeadsToInstants (name_count : ℕ) (recent : List Event) (edges : Lis
 -- come to the graphs as of these with their messages, and no damage is met; as many bytes are read as tree and messages
 -- weigh, and no more where the call fails.
 pub record LeadsOver (z : History) (now : List Element) (edges : List Edge) (o : Opening) (targets : List NodeId) (times : List ℕ) (cols : Columns) (before after : ℕ)
-    (result : Result Retrieved RetrievalFault) : Type 0 where
+    (result : Result Retrieved RecordFault) : Type 0 where
   pub graphs : IfOk result (λ r. (held : ℕ → List Element) → AreHeld z edges cols held → ArePoints z targets times → map (led_to now held cols) (leads_in r.leads) ≡ shown_with_messages z times cols)
   pub takes : IfOk result (λ r. Takes r.weight before after)
   pub most : (grafts : List (Graft NodeId)) → IsTree (arcs_of edges) (Root ∷ []) targets grafts → TakesAtMost (tree_weight (arcs_of edges) grafts + heard_if cols.transient o times) before after
@@ -54,7 +54,7 @@ pub record LeadsOver (z : History) (now : List Element) (edges : List Edge) (o :
 -- What is told of damage in this image: what is given has met none, neither among the columns that the tree enters nor
 -- among the columns of messages that are asked for; a fault that is damage names the first of the former, and only where
 -- none of these is damaged, the first of the latter.
-abbrev pub TellsLeadDamage : {A : Type 0} → ℕ → List Edge → Opening → List NodeId → List ℕ → Columns → List ℕ → Result A RetrievalFault → Type 0
+abbrev pub TellsLeadDamage : {A : Type 0} → ℕ → List Edge → Opening → List NodeId → List ℕ → Columns → List ℕ → Result A RecordFault → Type 0
 TellsLeadDamage name_count edges o targets times cols image (Ok r) =
     IsUndamaged name_count edges o cols targets image × (cols.transient ≡ true → AreHeard name_count image o times)
 TellsLeadDamage name_count edges o targets times cols image (Err f) =

@@ -1,6 +1,6 @@
 //! The commands that add a batch.
 
-ghost use Rattle.std.specs.Prelude.{◌≡◌};
+ghost use Rattle.std.specs.Prelude.{◌≡◌, length};
 ghost use Rattle.dg_session.specs.BatchCommand.{batch_head};
 
 use dg_append::AddedBatch;
@@ -18,13 +18,14 @@ pub enum BatchCommand {
 impl BatchCommand {
     /// The first line of the reply where this was added.
     pub fn head(self, added: AddedBatch) -> Head
-        ensures { result ≡ batch_head self added.events added.total added.last }
+        ensures { result ≡ batch_head self (length added.events.items) added.total added.last }
     {
         let AddedBatch {
             events,
             total,
             last,
         } = added;
+        let events = events.len() as u64;
         match self {
             BatchCommand::Load => Head::Loaded {
                 events,

@@ -14,10 +14,11 @@ ghost use Rattle.dg_machine.specs.declared.limits.TheConstants.{HANDLE_MAX};
 ghost use Rattle.dg_retrieval.specs.Calls.{IsRetrieval, LeadsToNode, LeadsToNodeOver, ReadsRecords, RetrievesOver, TellsDamage};
 ghost use Rattle.dg_retrieval.specs.KeptGraph.{IsKeptGraph, index_edges, kept_nodes};
 ghost use Rattle.dg_retrieval.specs.NodeSets.{IsIndexOver};
+ghost use Rattle.dg_retrieval.specs.Planned.{IsOverFile};
 ghost use Rattle.dg_retrieval.specs.Retrieval.{IsOver};
 ghost use Rattle.dg_session.specs.Retrievals.{LeadsOver, LeadsToInstants, TellsLeadDamage};
 
-use dg_ask::{point_of, record_planner};
+use dg_ask::point_of;
 use dg_disk::Disk;
 use dg_file::Index;
 use dg_graph::{Columns, Event};
@@ -25,7 +26,8 @@ use dg_history::NodeId;
 use dg_machine::BodyLine;
 use dg_messages::hear;
 use dg_planner::{Planner, law_nodes_are_listed};
-use dg_retrieval::{NodeLead, RetrievalFault, Retrieved, retrieve, retrieve_node};
+use dg_records::RecordFault;
+use dg_retrieval::{NodeLead, PlannedIndex, Retrieved, record_planner, retrieve, retrieve_node};
 use std::alloc::{AllocError, Global};
 use std::thread::Threads;
 
@@ -49,32 +51,30 @@ fn points_of(
 // the planner.
 fn tree_leads<R: Threads, D: Disk>(
     rt: &R,
-    alloc: Global,
-    index: &Index,
+    from: &PlannedIndex,
     disk: &mut D,
-    name_count: u32,
-    recent: &[Event],
-    planner: &Planner,
     times: &[u64],
-    cols: Columns,
-) -> Result<Retrieved, RetrievalFault>
-    requires image { IfSome (D.image disk.old) (λ image. IsOpenedAs image index.now.opening) }
-    requires edges { IsKeptGraph index.now.opening cols planner.now.edges }
-    requires nodes { planner.now.nodes ≡ kept_nodes index.now.opening (event_total index.now.opening.batches) cols }
+) -> Result<Retrieved, RecordFault>
+    requires over { IsOverFile (D.image disk.old) from.now }
+    requires nodes { from.now.planner.now.nodes ≡ kept_nodes from.now.index.now.opening
+        (event_total from.now.index.now.opening.batches) from.now.cols }
     requires few { length times.now ≤ TIMES_MAX }
-    requires there { list_any (λ t. not (in_range (span_held (Some index.now.opening)) t)) times.now ≡ false }
-    ensures done { IfOk result (IsRetrieval name_count recent.now planner.now.edges (points_over index.now.opening recent.now times.now)) }
-    ensures over { IfSome (D.image disk.old) (λ image. (z : History) (now : List Element) → IsOver z image index.now.opening name_count now recent.now
-        → RetrievesOver z now planner.now.edges cols (points_over index.now.opening recent.now times.now) times.now (D.taken disk.old) (D.taken disk.new) result) }
+    requires there { list_any (λ t. not (in_range (span_held (Some from.now.index.now.opening)) t)) times.now ≡ false }
+    ensures done { IfOk result (IsRetrieval from.now.name_count from.now.recent.now
+        from.now.planner.now.edges (points_over from.now.index.now.opening from.now.recent.now times.now)) }
+    ensures over { IfSome (D.image disk.old) (λ image.
+        (z : History) (now : List Element)
+        → IsOver z image from.now.index.now.opening from.now.name_count now from.now.recent.now
+        → RetrievesOver z now from.now.planner.now.edges from.now.cols
+        (points_over from.now.index.now.opening from.now.recent.now times.now) times.now (D.taken disk.old) (D.taken disk.new) result) }
     ensures damage { IfSome (D.image disk.old) (λ image.
-        TellsDamage name_count planner.now.edges index.now.opening cols (points_over index.now.opening recent.now times.now) image result) }
+        TellsDamage from.now.name_count from.now.planner.now.edges from.now.index.now.opening
+        from.now.cols (points_over from.now.index.now.opening from.now.recent.now times.now) image result) }
     ensures reads { ReadsRecords D.Disk disk.old disk.new result }
 {
-    index.facts();
-    let targets = points_of(alloc, index, recent, times)?;
-    retrieve(
-        rt, alloc, index, disk, name_count, recent, planner, &targets, times, cols,
-    )
+    from.index.facts();
+    let targets = points_of(from.alloc, from.index, from.recent, times)?;
+    retrieve(rt, from, disk, &targets, times)
 }
 
 /// What leads to the graphs as of the instants in these columns, by one tree through the graph of the planner, and, where
@@ -90,7 +90,7 @@ pub fn leads_at<R: Threads, D: Disk>(
     planner: &Planner,
     times: &[u64],
     cols: Columns,
-) -> Result<Retrieved, RetrievalFault>
+) -> Result<Retrieved, RecordFault>
     requires image { IfSome (D.image disk.old) (λ image. IsOpenedAs image index.now.opening) }
     requires edges { IsKeptGraph index.now.opening cols planner.now.edges }
     requires nodes { planner.now.nodes ≡ kept_nodes index.now.opening (event_total index.now.opening.batches) cols }
@@ -111,9 +111,15 @@ pub fn leads_at<R: Threads, D: Disk>(
     // what it leaves, and why a read failed
     ensures reads { ReadsRecords D.Disk disk.old disk.new result }
 {
-    let retrieved = match tree_leads(
-        rt, alloc, index, disk, name_count, recent, planner, times, cols,
-    ) {
+    let from = PlannedIndex {
+        alloc,
+        index,
+        name_count,
+        recent,
+        planner,
+        cols,
+    };
+    let retrieved = match tree_leads(rt, &from, disk, times) {
         Ok(retrieved) => retrieved,
         Err(fault) => return Err(fault),
     };
@@ -133,7 +139,7 @@ pub fn node_lead<R: Threads + Sync, D: Disk>(
     name_count: u32,
     node: NodeId,
     cols: Columns,
-) -> Result<NodeLead, RetrievalFault>
+) -> Result<NodeLead, RecordFault>
     requires image { IfSome (D.image disk.old) (λ image. IsOpenedAs image index.now.opening) }
     requires node { has_node_held (Some index.now.opening) node ≡ true }
     ensures done { IfOk result (LeadsToNode name_count (index_edges index.now.opening cols false []) index.now.opening cols node (D.image disk.old)) }
@@ -146,7 +152,15 @@ pub fn node_lead<R: Threads + Sync, D: Disk>(
     index.facts();
     law_nodes_are_listed();
     let planner = record_planner(alloc, index, cols)?;
-    retrieve_node(rt, alloc, index, disk, name_count, &planner, node, cols)
+    let records = PlannedIndex {
+        alloc,
+        index,
+        name_count,
+        recent: &[],
+        planner: &planner,
+        cols,
+    };
+    retrieve_node(rt, &records, disk, node)
 }
 
 /// The lines of new handles from `next` on: each with its instant and the weight of its single plan.

@@ -25,7 +25,8 @@ use dg_disk::Disk;
 use dg_graph::Columns;
 use dg_history::NodeId;
 use dg_machine::{Command, HANDLE_MAX, Head, LIVE_HANDLES_MAX, Refusal, Reply, Stands};
-use dg_retrieval::{NodeLead, RetrievalFault};
+use dg_records::RecordFault;
+use dg_retrieval::NodeLead;
 use std::alloc::AllocError;
 use std::thread::Threads;
 
@@ -57,7 +58,7 @@ impl Session {
         node: NodeId,
         cols: Columns,
         disk: &mut D,
-    ) -> Result<NodeLead, RetrievalFault>
+    ) -> Result<NodeLead, RecordFault>
         requires free { refused_by self.old.parts 0 (node_needs node) ≡ None }
         requires image { HoldsImage self.old.parts (D.image disk.old) }
 
@@ -67,7 +68,7 @@ impl Session {
             → HoldsNodeFor m node cols (D.taken disk.old) (D.taken disk.new) result) }
 
         // why nothing is
-        ensures cause { IsErrOf result RetrievalFault.Disk → Fails D.Disk disk.old disk.new }
+        ensures cause { IsErrOf result RecordFault.Disk → Fails D.Disk disk.old disk.new }
         ensures damage { TellsNodeDamage self.old.parts (D.image disk.old) (node, cols) result }
 
         // what it leaves

@@ -213,7 +213,7 @@ impl Session {
         Ok(headed(
             self.alloc,
             Head::Generated {
-                events: added.events,
+                events: added.events.len() as u64,
                 last: added.last,
                 nodes: counts.nodes,
                 edges: counts.edges,

@@ -28,7 +28,8 @@ use dg_heard::law_heard_bytes_are_the_historys;
 use dg_machine::{
     BodyLines, Command, HANDLE_MAX, Head, LIVE_HANDLES_MAX, Refusal, Reply, TIMES_MAX,
 };
-use dg_retrieval::{Leads, RetrievalFault, Retrieved};
+use dg_records::RecordFault;
+use dg_retrieval::{Leads, Retrieved};
 use std::alloc::AllocError;
 use std::thread::Threads;
 
@@ -63,7 +64,7 @@ impl Session {
         times: &[u64],
         cols: Columns,
         disk: &mut D,
-    ) -> Result<Retrieved, RetrievalFault>
+    ) -> Result<Retrieved, RecordFault>
         requires few { length times.now ≤ TIMES_MAX }
         requires free { refused_by self.old.parts 0 (retrieval_needs times.now 0) ≡ None }
         requires image { HoldsImage self.old.parts (D.image disk.old) }
@@ -74,7 +75,7 @@ impl Session {
             → RetrievesFor m self.old.parts times.now cols (D.taken disk.old) (D.taken disk.new) result) }
 
         // why nothing is
-        ensures cause { IsErrOf result RetrievalFault.Disk → Fails D.Disk disk.old disk.new }
+        ensures cause { IsErrOf result RecordFault.Disk → Fails D.Disk disk.old disk.new }
         ensures damage { TellsGraphDamage self.old.parts (D.image disk.old) (times.now, cols) result }
 
         // what it leaves

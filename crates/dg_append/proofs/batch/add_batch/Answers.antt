@@ -1,6 +1,6 @@
 use Rattle.std.proofs.Common.{inl, ◌≡◌, ◌+◌, ◌∙◌, List, Option, Some, length, take, refl, sym, ap, subst}
 use Rattle.std.specs.Prelude.{IfSome}
-use Rattle.dg_append.proofs.AddedBatchOutcomes.{WentOn, added_is, added_leaves, adds, back_live, live_after, next_is, not_added, not_added_leaves, nothing_read, ready_here, takes_kept, takes_stopped, total_kept}
+use Rattle.dg_append.proofs.AddedBatchOutcomes.{WentOn, added_leaves, adds, back_live, live_after, next_is, not_added, not_added_leaves, nothing_read, ready_here, takes_kept, takes_stopped, total_kept}
 use Rattle.dg_append.proofs.BatchCrashes.{cause_refused, reads_leave}
 use Rattle.dg_append.proofs.FrontEvents.{IsPrepared, here, prepared}
 use Rattle.dg_append.proofs.batch.add_batch.Goals as goal
@@ -46,22 +46,23 @@ returns-in-Ok-keep_batch-clause-adds g c =
     prepared o b h events c.facts.ensures.parameters ready c.facts-2.ensures.graph c.in-Ok.ensures.whole c.in-Ok.ensures.done c.in-Ok.ensures.form in
     let graph_is : c.complete.new.now.graph ≡ h.now.graph = c.complete.ensures.same_graph in
     let new : Live = record {
-      history = record { index = Some c.keep_batch.new.index; names = h.names; now = c.commit.new.self; recent = c.take_recent_on.new.recent };
+      history = record { index = Some c.keep_batch.new.index; names = h.names; now = c.commit-events.new.self; recent = c.take_recent_on.new.recent };
       pool = c.keep_batch.new.pool;
     } in
     let went : WentOn l new c.keep_batch.new.index.opening events (left_behind c.in-Ok-keep_batch.left c.deref.result.now c.pending-events.result.now) =
-    record { index = refl; names_are = refl; graph_is = c.commit.ensures.graph ∙ ap (λ (set : List Element). replay_from set events) c.complete.ensures.same_graph; pending = c.commit.ensures.none; recent_are = c.take_recent_on.ensures ∙ (λ i. left_behind c.in-Ok-keep_batch.left (sym c.deref.ensures.value i) c.pending-events.result.now) } in
+    record { index = refl; names_are = refl; graph_is = c.commit-events.ensures.graph ∙ ap (λ (set : List Element). replay_from set events) c.complete.ensures.same_graph; pending = c.commit-events.ensures.none; recent_are = c.take_recent_on.ensures ∙ (λ i. left_behind c.in-Ok-keep_batch.left (sym c.deref.ensures.value i) c.pending-events.result.now) } in
     let total : c.events_len.result ≡ event_total o.batches + length events =
     c.events_len.ensures.events
     ∙ total_kept g.D.Disk o c.keep_batch.new.index.opening c.args.limit b l new c.args.disk.now c.keep_batch.new.disk events (left_behind c.in-Ok-keep_batch.left c.deref.result.now c.pending-events.result.now) _ c.requires.may.pool graph_is
     (record { known_is = refl; names_are = refl; recent_is = c.deref.ensures.value ∙ c.complete.ensures.same_recent; events_are = c.pending-events.ensures }) p c.in-Ok-keep_batch.ensures.kept c.in-Ok-keep_batch.ensures.passed went in
-    let last : c.last_instant.result ≡ last_time_from 0 events = c.last_instant.ensures ∙ ap (last_time_from 0) c.pending-events.ensures in
-    let added : AddedBatch = record { events = length c.pending-events.result.now; total = c.events_len.result; last = c.last_instant.result } in
+    let last : c.last_instant.result ≡ last_time_from 0 events =
+    c.last_instant.ensures ∙ ap (last_time_from 0) (c.deref-in-Ok-keep_batch.ensures.value ∙ c.commit-events.ensures.events) in
+    let added : AddedBatch = record { events = c.commit-events.result; total = c.events_len.result; last = c.last_instant.result } in
     here (index_opening h.index) o (λ (x : Opening). AddsBatch x c.args.limit b l new (g.D.Disk.image c.args.disk.now) (g.D.Disk.image c.keep_batch.new.disk) added) is
     (adds g.D.Disk o c.keep_batch.new.index.opening c.args.limit b l new c.args.disk.now c.keep_batch.new.disk events (left_behind c.in-Ok-keep_batch.left c.deref.result.now c.pending-events.result.now) _ c.requires.may.pool graph_is
     (record { known_is = refl; names_are = refl; recent_is = c.deref.ensures.value ∙ c.complete.ensures.same_recent; events_are = c.pending-events.ensures }) p c.in-Ok-keep_batch.ensures.kept c.in-Ok-keep_batch.ensures.passed went
     added (subst (λ (i : Option Opening). IfSome (g.D.Disk.image c.args.disk.now) (IsHeldBy i (take b.known h.names))) is c.requires.image) c.in-Ok-keep_batch.ensures.disk.used.told
-    (added_is (length c.pending-events.result.now) (length events) c.events_len.result (event_total o.batches + length events) c.last_instant.result (last_time_from 0 events) (ap length c.pending-events.ensures) total last))
+    (c.commit-events.ensures.events, total, last))
 
 pub returns-in-Ok-keep_batch-clause-live : goal.returns-in-Ok-keep_batch-clause-live
 returns-in-Ok-keep_batch-clause-live g c =
@@ -76,11 +77,11 @@ returns-in-Ok-keep_batch-clause-live g c =
     prepared o b h events c.facts.ensures.parameters ready c.facts-2.ensures.graph c.in-Ok.ensures.whole c.in-Ok.ensures.done c.in-Ok.ensures.form in
     let graph_is : c.complete.new.now.graph ≡ h.now.graph = c.complete.ensures.same_graph in
     let new : Live = record {
-      history = record { index = Some c.keep_batch.new.index; names = h.names; now = c.commit.new.self; recent = c.take_recent_on.new.recent };
+      history = record { index = Some c.keep_batch.new.index; names = h.names; now = c.commit-events.new.self; recent = c.take_recent_on.new.recent };
       pool = c.keep_batch.new.pool;
     } in
     let went : WentOn l new c.keep_batch.new.index.opening events (left_behind c.in-Ok-keep_batch.left c.deref.result.now c.pending-events.result.now) =
-    record { index = refl; names_are = refl; graph_is = c.commit.ensures.graph ∙ ap (λ (set : List Element). replay_from set events) c.complete.ensures.same_graph; pending = c.commit.ensures.none; recent_are = c.take_recent_on.ensures ∙ (λ i. left_behind c.in-Ok-keep_batch.left (sym c.deref.ensures.value i) c.pending-events.result.now) } in
+    record { index = refl; names_are = refl; graph_is = c.commit-events.ensures.graph ∙ ap (λ (set : List Element). replay_from set events) c.complete.ensures.same_graph; pending = c.commit-events.ensures.none; recent_are = c.take_recent_on.ensures ∙ (λ i. left_behind c.in-Ok-keep_batch.left (sym c.deref.ensures.value i) c.pending-events.result.now) } in
     live_after g.D.Disk o c.keep_batch.new.index.opening c.args.limit b l new c.args.disk.now c.keep_batch.new.disk events (left_behind c.in-Ok-keep_batch.left c.deref.result.now c.pending-events.result.now) _ c.requires.may.pool graph_is
     (record { known_is = refl; names_are = refl; recent_is = c.deref.ensures.value ∙ c.complete.ensures.same_recent; events_are = c.pending-events.ensures }) p c.in-Ok-keep_batch.ensures.kept c.in-Ok-keep_batch.ensures.passed went ready
 

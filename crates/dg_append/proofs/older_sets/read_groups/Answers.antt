@@ -5,7 +5,6 @@ use Rattle.dg_append.proofs.OlderGroupSets.{CallDamage, CallGives, CallLeads, Ca
 use Rattle.dg_append.proofs.older_sets.read_groups.Goals as goal
 use Rattle.dg_append.specs.OlderChildSteps.{AreLedByGroups}
 use Rattle.dg_append.specs.OlderGroups.{AreUndamaged, IsFirstOfGroups, TellsGroupDamage, in_groups}
-use Rattle.dg_file.specs.Images.{IsOpenedAs}
 use Rattle.dg_graph.specs.declared.element.Element.{Element}
 use Rattle.dg_history.specs.declared.node.NodeId.{NodeId}
 use Rattle.dg_history.specs.History.{History}
@@ -15,9 +14,10 @@ use Rattle.dg_plan.specs.HistoryGraph.{all_columns}
 use Rattle.dg_retrieval.specs.Calls.{AreLedByTree, GivesSetsOver}
 use Rattle.dg_retrieval.specs.KeptGraph.{record_edges}
 use Rattle.dg_retrieval.specs.NodeSets.{HasNoEvents, IsIndexOver, IsUndamaged}
+use Rattle.dg_retrieval.specs.Planned.{IsOverRecords}
 use Rattle.dg_retrieval.specs.Retrieval.{IsFirstDamage}
-use Rattle.dg_retrieval.specs.declared.fault.RetrievalFault.{RetrievalFault}
-use Rattle.dg_retrieval.specs.declared.fault.RetrievalFault.TheVariants as fault
+use Rattle.dg_records.specs.declared.fault.RecordFault.{RecordFault}
+use Rattle.dg_records.specs.declared.fault.RecordFault.TheVariants as fault
 use Rattle.std.specs.List.{Contains}
 use Rattle.std.specs.Prelude.{IfSome}
 use Rattle.dg_disk.proofs.FrameLemmas.{reads_none, reads_then}
@@ -41,17 +41,17 @@ pub loop-done-init : goal.loop-done-init
 loop-done-init g c = record {
   within = omega arith;
   count = search rules;
-  read = every_some (g.D.Disk.image c.args.disk.now) _ (none_read c.args.index.now.opening c.args.name_count c.args.nodes.now _ (g.D.Disk.taken c.args.disk.now) (search rules));
+  read = every_some (g.D.Disk.image c.args.disk.now) _ (none_read c.args.from.now.index.now.opening c.args.from.now.name_count c.args.nodes.now _ (g.D.Disk.taken c.args.disk.now) (search rules));
   disk = reads_none;
 }
 
-pub node_sets-requires-clause-image : goal.node_sets-requires-clause-image
-node_sets-requires-clause-image g c =
-    subst (λ (told : Option (List ℕ)). IfSome told (λ image. IsOpenedAs image c.args.index.now.opening)) (sym c.loop-done.invariant.disk.same_image) c.requires.image
+pub node_sets-requires-clause-over : goal.node_sets-requires-clause-over
+node_sets-requires-clause-over g c =
+    subst (λ (told : Option (List ℕ)). IsOverRecords told all_columns c.args.from.now) (sym c.loop-done.invariant.disk.same_image) c.requires.over
 
 pub node_sets-requires-clause-nodes : goal.node_sets-requires-clause-nodes
 node_sets-requires-clause-nodes g c =
-    All-take (Contains c.args.planner.now.nodes) (c.loop-done.done + c.min-size.result - c.loop-done.done) (drop c.loop-done.done c.args.nodes.now) (All-drop (Contains c.args.planner.now.nodes) c.loop-done.done c.args.nodes.now c.requires.nodes)
+    All-take (Contains c.args.from.now.planner.now.nodes) (c.loop-done.done + c.min-size.result - c.loop-done.done) (drop c.loop-done.done c.args.nodes.now) (All-drop (Contains c.args.from.now.planner.now.nodes) c.loop-done.done c.args.nodes.now c.requires.nodes)
 
 pub node_sets-requires-clause-leaves : goal.node_sets-requires-clause-leaves
 node_sets-requires-clause-leaves g c =
@@ -60,14 +60,14 @@ node_sets-requires-clause-leaves g c =
 pub loop-done-preserved : goal.loop-done-preserved
 loop-done-preserved g c =
     let told : Option (List ℕ) = g.D.Disk.image c.args.disk.now in
-    let o : Opening = c.args.index.now.opening in
-    let names : ℕ = c.args.name_count in
+    let o : Opening = c.args.from.now.index.now.opening in
+    let names : ℕ = c.args.from.now.name_count in
     let nodes : List NodeId = c.args.nodes.now in
     let done : ℕ = c.loop-done.done in
     let n : ℕ = size_next o names nodes done c.loop-done-test.true in
     let group : List NodeId = take n (drop done nodes) in
     let slice = slice_is nodes done c.min-size.result n c.min-size.ensures in
-    let call = call_is o c.args.planner.now.edges _ group c.requires.edges slice in
+    let call = call_is o c.args.from.now.planner.now.edges _ group c.requires.over.edges slice in
     let gives = told_here (g.D.Disk.image c.loop-done.disk) told (CallGives names (g.D.Disk.taken c.loop-done.disk) (g.D.Disk.taken c.node_sets.new.disk) (Ok c.in_ok-more.more)) _ _ c.loop-done.invariant.disk.same_image call c.in_ok-more.ensures.over in
     let damage = told_here (g.D.Disk.image c.loop-done.disk) told (CallDamage names (Ok c.in_ok-more.more)) _ _ c.loop-done.invariant.disk.same_image call c.in_ok-more.ensures.damage in
     let led = told_here (g.D.Disk.image c.loop-done.disk) told (CallLeads names c.in_ok-more.more.items) _ _ c.loop-done.invariant.disk.same_image call c.in_ok-more.ensures.led in
@@ -88,15 +88,15 @@ loop-done-preserved g c =
 pub returns-in_err-more-clause-over : goal.returns-in_err-more-clause-over
 returns-in_err-more-clause-over g c =
     let told : Option (List ℕ) = g.D.Disk.image c.args.disk.now in
-    let o : Opening = c.args.index.now.opening in
-    let names : ℕ = c.args.name_count in
+    let o : Opening = c.args.from.now.index.now.opening in
+    let names : ℕ = c.args.from.now.name_count in
     let nodes : List NodeId = c.args.nodes.now in
     let done : ℕ = c.loop-done.done in
     let n : ℕ = size_next o names nodes done c.loop-done-test.true in
-    let f : RetrievalFault = c.in_err-more.field-0.0 in
+    let f : RecordFault = c.in_err-more.field-0.0 in
     let group : List NodeId = take n (drop done nodes) in
     let slice = slice_is nodes done c.min-size.result n c.min-size.ensures in
-    let call = call_is o c.args.planner.now.edges _ group c.requires.edges slice in
+    let call = call_is o c.args.from.now.planner.now.edges _ group c.requires.over.edges slice in
     let gives = told_here (g.D.Disk.image c.loop-done.disk) told (CallGives names (g.D.Disk.taken c.loop-done.disk) (g.D.Disk.taken c.node_sets.new.disk) (Err f)) _ _ c.loop-done.invariant.disk.same_image call c.in_err-more.ensures.over in
     err_as c.from_residual.result f (λ r. IfSome told (λ image. (z : History) → IsIndexOver z image o names → GivesSetsOver z (record_edges o) nodes (g.D.Disk.taken c.args.disk.now) (g.D.Disk.taken c.node_sets.new.disk) r)) c.from_residual.ensures
     (some_both told (GroupsAreRead o names nodes done c.loop-done.sets.items (g.D.Disk.taken c.args.disk.now) (g.D.Disk.taken c.loop-done.disk))
@@ -107,15 +107,15 @@ returns-in_err-more-clause-over g c =
 pub returns-in_err-more-clause-damage : goal.returns-in_err-more-clause-damage
 returns-in_err-more-clause-damage g c =
     let told : Option (List ℕ) = g.D.Disk.image c.args.disk.now in
-    let o : Opening = c.args.index.now.opening in
-    let names : ℕ = c.args.name_count in
+    let o : Opening = c.args.from.now.index.now.opening in
+    let names : ℕ = c.args.from.now.name_count in
     let nodes : List NodeId = c.args.nodes.now in
     let done : ℕ = c.loop-done.done in
     let n : ℕ = size_next o names nodes done c.loop-done-test.true in
-    let f : RetrievalFault = c.in_err-more.field-0.0 in
+    let f : RecordFault = c.in_err-more.field-0.0 in
     let group : List NodeId = take n (drop done nodes) in
     let slice = slice_is nodes done c.min-size.result n c.min-size.ensures in
-    let call = call_is o c.args.planner.now.edges _ group c.requires.edges slice in
+    let call = call_is o c.args.from.now.planner.now.edges _ group c.requires.over.edges slice in
     let damage = told_here (g.D.Disk.image c.loop-done.disk) told (CallDamage names (Err f)) _ _ c.loop-done.invariant.disk.same_image call c.in_err-more.ensures.damage in
     err_as c.from_residual.result f (λ r. IfSome told (λ image. TellsGroupDamage names o image nodes r)) c.from_residual.ensures
     (some_both told (GroupsAreRead o names nodes done c.loop-done.sets.items (g.D.Disk.taken c.args.disk.now) (g.D.Disk.taken c.loop-done.disk))
@@ -126,14 +126,14 @@ returns-in_err-more-clause-damage g c =
 pub returns-in_err-append-clause-over : goal.returns-in_err-append-clause-over
 returns-in_err-append-clause-over g c =
     let told : Option (List ℕ) = g.D.Disk.image c.args.disk.now in
-    let o : Opening = c.args.index.now.opening in
-    let names : ℕ = c.args.name_count in
+    let o : Opening = c.args.from.now.index.now.opening in
+    let names : ℕ = c.args.from.now.name_count in
     let nodes : List NodeId = c.args.nodes.now in
     let done : ℕ = c.loop-done.done in
     let n : ℕ = size_next o names nodes done c.loop-done-test.true in
     let group : List NodeId = take n (drop done nodes) in
     let slice = slice_is nodes done c.min-size.result n c.min-size.ensures in
-    let call = call_is o c.args.planner.now.edges _ group c.requires.edges slice in
+    let call = call_is o c.args.from.now.planner.now.edges _ group c.requires.over.edges slice in
     let gives = told_here (g.D.Disk.image c.loop-done.disk) told (CallGives names (g.D.Disk.taken c.loop-done.disk) (g.D.Disk.taken c.node_sets.new.disk) (Ok c.in_ok-more.more)) _ _ c.loop-done.invariant.disk.same_image call c.in_ok-more.ensures.over in
     err_as c.from_residual-in_err-append.result fault.Memory (λ r. IfSome told (λ image. (z : History) → IsIndexOver z image o names → GivesSetsOver z (record_edges o) nodes (g.D.Disk.taken c.args.disk.now) (g.D.Disk.taken c.node_sets.new.disk) r)) c.from_residual-in_err-append.ensures
     (some_both told (GroupsAreRead o names nodes done c.loop-done.sets.items (g.D.Disk.taken c.args.disk.now) (g.D.Disk.taken c.loop-done.disk))
@@ -144,7 +144,7 @@ returns-in_err-append-clause-over g c =
 pub returns-in_err-append-clause-damage : goal.returns-in_err-append-clause-damage
 returns-in_err-append-clause-damage g c =
     let told : Option (List ℕ) = g.D.Disk.image c.args.disk.now in
-    err_as c.from_residual-in_err-append.result fault.Memory (λ r. IfSome told (λ image. TellsGroupDamage c.args.name_count c.args.index.now.opening image c.args.nodes.now r)) c.from_residual-in_err-append.ensures
+    err_as c.from_residual-in_err-append.result fault.Memory (λ r. IfSome told (λ image. TellsGroupDamage c.args.from.now.name_count c.args.from.now.index.now.opening image c.args.nodes.now r)) c.from_residual-in_err-append.ensures
     (every_some told (λ image. Unit {0}) (λ image. tt))
 
 pub returns-clause-count : goal.returns-clause-count
@@ -152,18 +152,18 @@ returns-clause-count g c = omega (arith, c.loop-done.invariant.count, c.loop-don
 
 pub returns-clause-over : goal.returns-clause-over
 returns-clause-over g c =
-    some_map (g.D.Disk.image c.args.disk.now) _ (Gives c.args.index.now.opening c.args.name_count c.args.nodes.now (g.D.Disk.taken c.args.disk.now) (g.D.Disk.taken c.loop-done.disk) (Ok c.loop-done.sets))
-    (λ image r. all_given c.args.index.now.opening c.args.name_count c.args.nodes.now c.loop-done.done c.loop-done.sets (g.D.Disk.taken c.args.disk.now) (g.D.Disk.taken c.loop-done.disk) c.loop-done-test.false image r)
+    some_map (g.D.Disk.image c.args.disk.now) _ (Gives c.args.from.now.index.now.opening c.args.from.now.name_count c.args.nodes.now (g.D.Disk.taken c.args.disk.now) (g.D.Disk.taken c.loop-done.disk) (Ok c.loop-done.sets))
+    (λ image r. all_given c.args.from.now.index.now.opening c.args.from.now.name_count c.args.nodes.now c.loop-done.done c.loop-done.sets (g.D.Disk.taken c.args.disk.now) (g.D.Disk.taken c.loop-done.disk) c.loop-done-test.false image r)
     c.loop-done.invariant.read
 
 pub returns-clause-damage : goal.returns-clause-damage
 returns-clause-damage g c =
-    some_map (g.D.Disk.image c.args.disk.now) _ (λ image. AreUndamaged c.args.name_count c.args.index.now.opening image (in_groups c.args.nodes.now))
-    (λ image r. all_whole c.args.index.now.opening c.args.name_count c.args.nodes.now c.loop-done.done c.loop-done.sets (g.D.Disk.taken c.args.disk.now) (g.D.Disk.taken c.loop-done.disk) c.loop-done-test.false image r)
+    some_map (g.D.Disk.image c.args.disk.now) _ (λ image. AreUndamaged c.args.from.now.name_count c.args.from.now.index.now.opening image (in_groups c.args.nodes.now))
+    (λ image r. all_whole c.args.from.now.index.now.opening c.args.from.now.name_count c.args.nodes.now c.loop-done.done c.loop-done.sets (g.D.Disk.taken c.args.disk.now) (g.D.Disk.taken c.loop-done.disk) c.loop-done-test.false image r)
     c.loop-done.invariant.read
 
 pub returns-clause-led : goal.returns-clause-led
 returns-clause-led g c =
-    some_map (g.D.Disk.image c.args.disk.now) _ (λ image. AreLedByGroups c.args.name_count image c.args.index.now.opening (in_groups c.args.nodes.now) c.loop-done.sets.items)
-    (λ image r. all_led c.args.index.now.opening c.args.name_count c.args.nodes.now c.loop-done.done c.loop-done.sets (g.D.Disk.taken c.args.disk.now) (g.D.Disk.taken c.loop-done.disk) c.loop-done-test.false image r)
+    some_map (g.D.Disk.image c.args.disk.now) _ (λ image. AreLedByGroups c.args.from.now.name_count image c.args.from.now.index.now.opening (in_groups c.args.nodes.now) c.loop-done.sets.items)
+    (λ image r. all_led c.args.from.now.index.now.opening c.args.from.now.name_count c.args.nodes.now c.loop-done.done c.loop-done.sets (g.D.Disk.taken c.args.disk.now) (g.D.Disk.taken c.loop-done.disk) c.loop-done-test.false image r)
     c.loop-done.invariant.read

@@ -8,7 +8,7 @@ abbrev pub invariant-loop-done : goal.invariant-loop-done
 invariant-loop-done g l = record {
   within : l.done ≤ length l.nodes;
   count : length l.sets.items ≡ l.done;
-  read : IfSome (g.D.Disk.image l.initial.disk) (GroupsAreRead l.index.opening l.name_count l.nodes l.done l.sets.items (g.D.Disk.taken l.initial.disk) (g.D.Disk.taken l.disk));
+  read : IfSome (g.D.Disk.image l.initial.disk) (GroupsAreRead l.from.index.now.opening l.from.name_count l.nodes l.done l.sets.items (g.D.Disk.taken l.initial.disk) (g.D.Disk.taken l.disk));
   disk : ReadsDisk g.D.Disk l.initial.disk l.disk;
 }
 

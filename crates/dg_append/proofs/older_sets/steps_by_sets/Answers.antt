@@ -1,5 +1,5 @@
 use Rattle.std.proofs.Common.{◌∙◌, ℕ, List, Option, map}
-use Rattle.dg_append.proofs.BatchSegmentHistory.{index_over, leaf_over}
+use Rattle.dg_append.proofs.BatchSegmentHistory.{leaf_over}
 use Rattle.dg_append.proofs.OlderChildSteps.{all_among}
 use Rattle.dg_append.proofs.OlderGroupSets.{some_map}
 use Rattle.dg_append.proofs.older_sets.steps_by_sets.Goals as goal
@@ -15,12 +15,12 @@ use Rattle.dg_index.specs.OpenedIndex.{Opening}
 pub returns-clause-over : goal.returns-clause-over
 returns-clause-over g c =
     let told : Option (List ℕ) = g.D.Disk.image c.args.disk.now in
-    let o : Opening = c.args.index.now.opening in
+    let o : Opening = c.args.from.now.index.now.opening in
     let n : NextBatch = c.args.next.now in
     let graph : List Element = c.args.next.now.current.now.graph in
     some_map told _ _
-    (λ image gives z is.
-    let over = gives z (index_over z image o n graph is c.requires.known) in
+    (λ image gives z indexed is.
+    let over = gives z indexed in
     let f : NodeId → List Element = set_of z.params (events_of z) in
     let leaf : List Element = c.in_ok-leaf.leaf in
     record {

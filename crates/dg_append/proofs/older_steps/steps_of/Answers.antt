@@ -10,6 +10,10 @@ pub returns-then-has_one_tree-clause-over : goal.returns-then-has_one_tree-claus
 returns-then-has_one_tree-clause-over g c =
     some_map (g.D.Disk.image c.args.disk.now) _ _ (λ image gives z is. gives z (index_over z image c.args.index.now.opening c.args.next.now c.args.next.now.current.now.graph is c.requires.known)) c.steps_by_tree.ensures.over
 
+pub returns-clause-over : goal.returns-clause-over
+returns-clause-over g c =
+    some_map (g.D.Disk.image c.args.disk.now) _ _ (λ image gives z is. gives z (index_over z image c.args.index.now.opening c.args.next.now c.args.next.now.current.now.graph is c.requires.known) is) c.steps_by_sets.ensures.over
+
 there : (given all nodes : List NodeId) → given ≡ all → All (Contains all) nodes → All (Contains given) nodes
 there given all nodes same each = subst (λ (ns : List NodeId). All (Contains ns) nodes) (sym same) each
 

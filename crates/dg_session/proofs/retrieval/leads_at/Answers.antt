@@ -1,4 +1,4 @@
-use Rattle.std.proofs.Common.{ℕ, List, Option, subst}
+use Rattle.std.proofs.Common.{ℕ, List, Option, nat_lt, subst}
 use Rattle.std.specs.Prelude.{IfSome}
 use Rattle.std.proofs.lemmas.Bool.{not-false, not-true}
 use Rattle.std.proofs.lemmas.Option.{IfSome_then}
@@ -6,12 +6,16 @@ use Rattle.std.proofs.lemmas.List.{length-map}
 use Rattle.dg_ask.specs.HeldIndex.{point_over, points_over}
 use Rattle.dg_graph.specs.declared.element.Element.{Element}
 use Rattle.dg_history.specs.History.{History}
-use Rattle.dg_index.specs.OpenedIndex.{Opening}
+use Rattle.dg_index.specs.OpenedIndex.{Opening, event_total}
 use Rattle.dg_messages.specs.Calls.{HearsOver, TakesHeard, TellsMessageDamage}
 use Rattle.dg_retrieval.proofs.CallRecords.{of_both, of_three}
 use Rattle.dg_retrieval.specs.Retrieval.{IsOver}
 use Rattle.dg_session.proofs.MessageLeads.{heard_damage, heard_leads, heard_over, plain_leads, plain_over, tree_fails}
 use Rattle.dg_session.proofs.retrieval.leads_at.Goals as goal
+
+pub tree_leads-requires-clause-over : goal.tree_leads-requires-clause-over
+tree_leads-requires-clause-over g c =
+    record { image = c.requires.image; edges = (nat_lt 0 (event_total c.args.index.now.opening.batches), c.requires.edges.0, c.requires.edges.1, c.requires.edges.2) }
 
 pub returns-in-Err-clause-over : goal.returns-in-Err-clause-over
 returns-in-Err-clause-over g c =

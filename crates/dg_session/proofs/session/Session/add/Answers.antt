@@ -1,4 +1,4 @@
-use Rattle.std.proofs.Common.{◌≡◌, ℕ, List, Option, Err, refl, sym, ◌∙◌, ap, subst}
+use Rattle.std.proofs.Common.{length, ◌≡◌, ℕ, List, Option, Err, refl, sym, ◌∙◌, ap, subst}
 use Rattle.dg_text.specs.Lines.{ScriptLine}
 use Rattle.dg_cuts.specs.TakenLines.{CutsWithin, TakesBehind}
 use Rattle.dg_machine.specs.declared.reply.Reply.{Reply}
@@ -97,18 +97,18 @@ returns-clause-comes g c =
     let image : Option (List ℕ) = g.D.Disk.image c.args.disk.now in
     let then_image : Option (List ℕ) = g.D.Disk.image c.add_changes.new.disk in
     let q : Parts = with_handles (with_history p c.add_changes.new.held.live.history) c.add_changes.new.held.handles (pool_of c.add_changes.new.held.live.pool) in
-    let reply : headed (batch_head c.args.which c.in_ok-added.added.events c.in_ok-added.added.total c.in_ok-added.added.last) ≡ c.headed.result = sym (c.headed.ensures ∙ ap headed c.head.ensures) in (
+    let reply : headed (batch_head c.args.which (length c.in_ok-added.added.events.items) c.in_ok-added.added.total c.in_ok-added.added.last) ≡ c.headed.result = sym (c.headed.ensures ∙ ap headed c.head.ensures) in (
       got,
       c.in_ok-batch.ensures.reads.taken,
       subst (λ (r : Reply). Accepts (command_with c.args.which c.args.count) got c.args.self.now.parts image q then_image r) reply
-          (subst (λ (x : Parts). Accepts (command_with c.args.which c.args.count) got x image q then_image (headed (batch_head c.args.which c.in_ok-added.added.events c.in_ok-added.added.total c.in_ok-added.added.last))) (ap (λ (x : SessionState). x.parts) c.self.view_is)
-          (subst (λ (y : Parts). Accepts (command_with c.args.which c.args.count) got p image y then_image (headed (batch_head c.args.which c.in_ok-added.added.events c.in_ok-added.added.total c.in_ok-added.added.last)))
+          (subst (λ (x : Parts). Accepts (command_with c.args.which c.args.count) got x image q then_image (headed (batch_head c.args.which (length c.in_ok-added.added.events.items) c.in_ok-added.added.total c.in_ok-added.added.last))) (ap (λ (x : SessionState). x.parts) c.self.view_is)
+          (subst (λ (y : Parts). Accepts (command_with c.args.which c.args.count) got p image y then_image (headed (batch_head c.args.which (length c.in_ok-added.added.events.items) c.in_ok-added.added.total c.in_ok-added.added.last)))
           (sym (kept_handles (with_history p c.add_changes.new.held.live.history) c.self.inside.held.handles c.add_changes.new.held.handles (pool_of c.self.inside.held.live.pool) (pool_of c.add_changes.new.held.live.pool) c.in_ok-added.ensures.handles (added_slots (Lines_of c.args.which) got p c.args.count c.self.inside.limits.file_bytes old c.in_ok-batch.batch asked c.add_changes.new.held.live image then_image c.in_ok-added.added c.in_ok-added.ensures.adds)))
           (batch_added (Lines_of c.args.which) got p c.args.count c.self.inside.limits.file_bytes old c.in_ok-batch.batch asked c.add_changes.new.held.live image then_image
           c.in_ok-added.added c.in_ok-added.ensures.adds))),
       subst (λ (r : Reply). LeftByCrash g.D.Disk c.args.disk.now c.add_changes.new.disk (LeavesAnswered (command_with c.args.which c.args.count) got c.args.self.now.parts r)) reply
           (subst (λ (x : Parts). LeftByCrash g.D.Disk c.args.disk.now c.add_changes.new.disk
-          (LeavesAnswered (command_with c.args.which c.args.count) got x (headed (batch_head c.args.which c.in_ok-added.added.events c.in_ok-added.added.total c.in_ok-added.added.last)))) (ap (λ (x : SessionState). x.parts) c.self.view_is)
+          (LeavesAnswered (command_with c.args.which c.args.count) got x (headed (batch_head c.args.which (length c.in_ok-added.added.events.items) c.in_ok-added.added.total c.in_ok-added.added.last)))) (ap (λ (x : SessionState). x.parts) c.self.view_is)
           (added_left (Lines_of c.args.which) got p c.args.count c.self.inside.limits.file_bytes old c.in_ok-batch.batch asked g.D.Disk c.args.disk.now c.add_changes.new.disk c.add_changes.new.held.live
           c.in_ok-added.added c.in_ok-added.ensures.adds c.in_ok-added.ensures.disk.crash)),
     )
@@ -208,7 +208,7 @@ returns-clause-file g c = record {
       let older : ReadsNoMore p image c.args.count taken then_taken =
       reads_no_more (Lines_of c.args.which) got p c.args.count c.self.inside.limits.file_bytes old c.in_ok-batch.batch asked image c.add_changes.result taken then_taken c.add_changes.ensures.reads in
       subst (λ (r : Reply). Reads (command_with c.args.which c.args.count) c.args.self.now.parts image r.head taken then_taken) (sym (c.headed.ensures ∙ ap headed c.head.ensures))
-      (added_reads (Lines_of c.args.which) c.args.count c.args.self.now.parts image c.add_changes.new.held.live.history.now.graph c.in_ok-added.added.events c.in_ok-added.added.total c.in_ok-added.added.last taken then_taken
+      (added_reads (Lines_of c.args.which) c.args.count c.args.self.now.parts image c.add_changes.new.held.live.history.now.graph (length c.in_ok-added.added.events.items) c.in_ok-added.added.total c.in_ok-added.added.last taken then_taken
       (subst (λ (x : Parts). ReadsNoMore x image c.args.count taken then_taken) (ap (λ (x : SessionState). x.parts) c.self.view_is) older));
 }
 

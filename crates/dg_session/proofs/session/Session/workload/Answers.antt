@@ -1,4 +1,6 @@
-use Rattle.std.proofs.Common.{◌≡◌, ℕ, true, List, [], Option, Err, refl, sym, ◌∙◌, ap, subst}
+use Rattle.std.proofs.Common.{length, vec_len, arith, ◌≡◌, ℕ, true, List, [], Option, Err, refl, sym, ◌∙◌, ap, subst}
+use Rattle.std.specs.Global.{Vec}
+use Rattle.dg_graph.specs.declared.event.Event.{Event}
 use Rattle.std.proofs.lemmas.Bool.{false≢true}
 use Rattle.std.specs.Prelude.{is_some}
 use Rattle.dg_graph.specs.declared.element.Element.{Element}
@@ -36,6 +38,10 @@ use Rattle.dg_session.proofs.DamageStep.{tells_no_damage, none_met}
 use Rattle.dg_session.proofs.SessionSteps.{handed_out, lacking_denies, refused_denies, refused_not_read}
 use Rattle.dg_append.specs.declared.live.Live.{Live}
 use Rattle.dg_session.proofs.session.Session.workload.Goals as goal
+
+-- a list of a vector is as long as the vector
+many : (v : Vec Event) → vec_len v ≡ length v.items
+many v = let long = v.ok.0 in omega (arith, long)
 
 pub returns-in-Some-clause-comes : goal.returns-in-Some-clause-comes
 returns-in-Some-clause-comes g c =
@@ -112,8 +118,8 @@ returns-clause-comes g c =
     let added = c.in_ok-added.added in
     let graph : List Element = c.add_changes.new.held.live.history.now.graph in
     let counts : c.counts_now-counts.result ≡ counts_of graph = c.counts_now-counts.ensures ∙ ap (λ p. counts_of (graph_now p)) c.deref.ensures ∙ ap counts_of (subst (λ pool. IsOverlayOf graph (pool_in pool)) c.in-Some-pool.is c.add_changes.ensures.held.live.pool) in
-    let said : Reply = headed (head_over (Seed c.args.seed) graph added.events added.total added.last) in
-    let reply : said ≡ c.headed.result = sym (c.headed.ensures ∙ ap (λ (n : Counts). headed (head.Generated added.events added.last n.nodes n.edges)) counts) in
+    let said : Reply = headed (head_over (Seed c.args.seed) graph (length added.events.items) added.total added.last) in
+    let reply : said ≡ c.headed.result = sym (c.headed.ensures ∙ ap (λ (k : ℕ). headed (head.Generated k added.last c.counts_now-counts.result.nodes c.counts_now-counts.result.edges)) (c.len.ensures ∙ many added.events) ∙ ap (λ (n : Counts). headed (head.Generated (length added.events.items) added.last n.nodes n.edges)) counts) in
     subst (λ (r : Reply). Accepts (command.Workload c.args.seed c.args.count) [] c.args.self.now.parts image q then_image r) reply
     (subst (λ (x : Parts). Accepts (command.Workload c.args.seed c.args.count) [] x image q then_image said) (ap (λ (x : SessionState). x.parts) c.self.view_is ∙ c.overlay.ensures.parts)
     (subst (λ (y : Parts). Accepts (command.Workload c.args.seed c.args.count) [] p image y then_image said)
@@ -208,8 +214,8 @@ returns-clause-file g c = record {
       let counts : c.counts_now-counts.result ≡ counts_of graph = c.counts_now-counts.ensures ∙ ap (λ p. counts_of (graph_now p)) c.deref.ensures ∙ ap counts_of (subst (λ pool. IsOverlayOf graph (pool_in pool)) c.in-Some-pool.is c.add_changes.ensures.held.live.pool) in
       let older : ReadsNoMore p image c.args.count taken then_taken =
       reads_no_more (Seed c.args.seed) [] p c.args.count c.self.inside.limits.file_bytes old b asked image c.add_changes.result taken then_taken c.add_changes.ensures.reads in
-      subst (λ (r : Reply). Reads (command.Workload c.args.seed c.args.count) c.args.self.now.parts image r.head taken then_taken) (sym (c.headed.ensures ∙ ap (λ (n : Counts). headed (head.Generated added.events added.last n.nodes n.edges)) counts))
-      (added_reads (Seed c.args.seed) c.args.count c.args.self.now.parts image graph added.events added.total added.last taken then_taken
+      subst (λ (r : Reply). Reads (command.Workload c.args.seed c.args.count) c.args.self.now.parts image r.head taken then_taken) (sym (c.headed.ensures ∙ ap (λ (k : ℕ). headed (head.Generated k added.last c.counts_now-counts.result.nodes c.counts_now-counts.result.edges)) (c.len.ensures ∙ many added.events) ∙ ap (λ (n : Counts). headed (head.Generated (length added.events.items) added.last n.nodes n.edges)) counts))
+      (added_reads (Seed c.args.seed) c.args.count c.args.self.now.parts image graph (length added.events.items) added.total added.last taken then_taken
       (subst (λ (x : Parts). ReadsNoMore x image c.args.count taken then_taken) (ap (λ (x : SessionState). x.parts) c.self.view_is ∙ c.overlay.ensures.parts) older));
 }
 
@@ -273,8 +279,8 @@ returns-clause-crash g c =
     let added = c.in_ok-added.added in
     let graph : List Element = c.add_changes.new.held.live.history.now.graph in
     let counts : c.counts_now-counts.result ≡ counts_of graph = c.counts_now-counts.ensures ∙ ap (λ p. counts_of (graph_now p)) c.deref.ensures ∙ ap counts_of (subst (λ pool. IsOverlayOf graph (pool_in pool)) c.in-Some-pool.is c.add_changes.ensures.held.live.pool) in
-    let said : Reply = headed (head_over (Seed c.args.seed) graph added.events added.total added.last) in
-    let reply : said ≡ c.headed.result = sym (c.headed.ensures ∙ ap (λ (n : Counts). headed (head.Generated added.events added.last n.nodes n.edges)) counts) in
+    let said : Reply = headed (head_over (Seed c.args.seed) graph (length added.events.items) added.total added.last) in
+    let reply : said ≡ c.headed.result = sym (c.headed.ensures ∙ ap (λ (k : ℕ). headed (head.Generated k added.last c.counts_now-counts.result.nodes c.counts_now-counts.result.edges)) (c.len.ensures ∙ many added.events) ∙ ap (λ (n : Counts). headed (head.Generated (length added.events.items) added.last n.nodes n.edges)) counts) in
     subst (λ (r : Reply). LeftByCrash g.D.Disk c.args.disk.now c.add_changes.new.disk (LeavesAnswered (command.Workload c.args.seed c.args.count) [] c.args.self.now.parts r)) reply
     (subst (λ (x : Parts). LeftByCrash g.D.Disk c.args.disk.now c.add_changes.new.disk (LeavesAnswered (command.Workload c.args.seed c.args.count) [] x said)) (ap (λ (x : SessionState). x.parts) c.self.view_is ∙ c.overlay.ensures.parts)
     (added_left (Seed c.args.seed) [] p c.args.count c.self.inside.limits.file_bytes old b asked g.D.Disk c.args.disk.now c.add_changes.new.disk c.add_changes.new.held.live added c.in_ok-added.ensures.adds c.in_ok-added.ensures.disk.crash))
