@@ -99,5 +99,21 @@ pub record AuxState : Type 0 where
   pub room : ℕ
 
 -- there is room for the turns of so many events: two of each
-abbrev pub HasRoomFor : AuxState → List Event → Type 0
-HasRoomFor aux events = 2 * length events ≤ aux.room
+abbrev pub HasRoomFor : AuxState → ℕ → Type 0
+HasRoomFor aux count = 2 * count ≤ aux.room
+
+-- ---- what an index says
+
+-- Of each value of the key, at each node and each instant, whether it is there; and how often one comes.
+pub record ValuesSaid : Type 0 where
+  pub key : ℕ
+  pub says : ℕ → ℕ → ℕ → Bool
+  pub additions : ℕ
+
+-- what the index says
+abbrev pub said_by : AuxState → ValuesSaid
+said_by aux = record { key = aux.key; says = says aux.turns; additions = additions aux.turns }
+
+-- what is to be said of the key over these events
+abbrev pub said_over : List Event → ℕ → ValuesSaid
+said_over events key = record { key = key; says = says (turns_of key events); additions = additions (turns_of key events) }

@@ -61,12 +61,12 @@ impl Aux {
     /// Makes room for so many events more, of whatever keys, values and nodes.
     ///
     /// An `Err` says that memory ran out.
-    pub fn reserve(&mut self, events: &[Event]) -> Result<(), AllocError>
-        ensures room { OnOk result (HasRoomFor self.new events.now) }
+    pub fn reserve(&mut self, count: usize) -> Result<(), AllocError>
+        ensures room { OnOk result (HasRoomFor self.new count) }
         ensures key { self.new.key ≡ self.old.key }
         ensures turns { self.new.turns ≡ self.old.turns }
     {
-        match events.len().checked_mul(2) {
+        match count.checked_mul(2) {
             Some(most) => self.turns.reserve(most),
             None => Err(AllocError),
         }
@@ -74,7 +74,7 @@ impl Aux {
 
     /// Adds the turns of the events of this key. Takes no memory, and no time for the turns before.
     pub fn apply(&mut self, events: &[Event])
-        requires room { HasRoomFor self.old events.now }
+        requires room { HasRoomFor self.old (length events.now) }
         ensures key { self.new.key ≡ self.old.key }
         ensures turns { self.new.turns ≡ self.old.turns ++ turns_of self.old.key events.now }
         ensures room { self.old.room ≤ self.new.room + 2 * length events.now }
