@@ -501,8 +501,9 @@ def failing_calls():
 
 
 def calls_of_commands():
-    """What commands ask of the system. A retrieval reads each column that it enters and that has bytes, once. A batch looks
-    at the file before each of its two parts and at what it has left behind them, and the first one takes the lock."""
+    """What commands ask of the system. A retrieval reads each column that it enters and that has bytes, once: one of events
+    by one call, a delta's by two, its counts and what is behind them. A batch looks at the file before each of its two parts
+    and at what it has left behind them, and the first one takes the lock."""
     if not has_strace():
         return
     index = Path("counted")
@@ -512,11 +513,11 @@ def calls_of_commands():
     reading = [
         ("at 50 sne", 0),
         ("at 10 s", 1),
-        ("at 20 s", 1),
-        ("several s 20 30", 2),
+        ("at 20 s", 2),
+        ("several s 20 30", 3),
         ("expression s and 30 not 20", 1),
-        ("expression s or 20 30", 2),
-        ("materialise inner 1 1 s", 1),
+        ("expression s or 20 30", 3),
+        ("materialise inner 1 1 s", 2),
         ("at 20 s", 0),
         ("plan 10 sne", 0),
         ("tree", 0),
