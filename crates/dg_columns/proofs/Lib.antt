@@ -5,7 +5,6 @@ pub mod FieldElements
 pub mod ColumnGrammarDeltas
 mod SoundEnds
 pub mod Fields
-mod LastElement
 pub mod ColumnLawSpelling
 pub mod ColumnLawEvents
 pub mod ColumnLawDeltas

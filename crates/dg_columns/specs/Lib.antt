@@ -8,3 +8,4 @@ pub mod MergeWalk
 pub mod ReadFits
 pub mod Added
 pub mod Fronts
+pub mod Runs

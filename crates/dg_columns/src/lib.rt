@@ -15,6 +15,7 @@ mod fault;
 mod laws;
 mod layout;
 mod numbers;
+mod runs;
 mod sound_elements;
 
 pub use column_join::join;

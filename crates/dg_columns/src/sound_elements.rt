@@ -1,7 +1,7 @@
 //! The elements of a column that has no damage, read with one test of the room for each element. What
 //! is wrong, and where, is not looked for here.
 
-ghost use Rattle.std.specs.Prelude.{◌≡◌, ◌+◌, ◌≤◌, List, [], length, true, false, Ok, None, IfSome, IsTrue};
+ghost use Rattle.std.specs.Prelude.{◌≡◌, ◌+◌, ◌≤◌, List, [], length, true, false, Ok, None, IfSome, IsTrue, vec_len, vec_capacity};
 ghost use Rattle.std.specs.Option.{option_copied};
 ghost use Rattle.dg_graph.specs.Elements.{IsSet, before, has};
 ghost use Rattle.dg_graph.specs.ColumnGrammar.{element_size, elements_at, rises_from};
@@ -12,6 +12,7 @@ use crate::delta_reader::AttrFields;
 use crate::delta_writer::element_size;
 use crate::edge::EdgeFields;
 use crate::layout::{EDGE, EDGE_SIZE, NODE, NODE_SIZE, SMALLEST_ELEMENT, VALUE_SIZE};
+use crate::runs::{push_edges, push_nodes, push_values};
 use dg_delta::{Element, Set};
 use dg_graph::Column;
 use dg_numbers::{byte_at, u32_at, u64_at};
@@ -19,7 +20,7 @@ use std::alloc::Global;
 
 // The fields of a value.
 #[inline(always)]
-fn attr_here(bytes: &[u8], offset: usize, name_count: u32) -> Option<AttrFields>
+pub(crate) fn attr_here(bytes: &[u8], offset: usize, name_count: u32) -> Option<AttrFields>
     requires { offset ≤ length bytes.now }
     ensures fields { IfSome result (λ v. attr_at name_count bytes.now offset ≡ Ok v) }
     ensures fits { IfSome result (λ v. offset + 16 ≤ length bytes.now) }
@@ -39,7 +40,7 @@ fn attr_here(bytes: &[u8], offset: usize, name_count: u32) -> Option<AttrFields>
 
 // The fields of an edge, after its kind.
 #[inline(always)]
-fn edge_here(bytes: &[u8], offset: usize) -> Option<EdgeFields>
+pub(crate) fn edge_here(bytes: &[u8], offset: usize) -> Option<EdgeFields>
     requires { offset ≤ length bytes.now }
     ensures fields { IfSome result (λ e. edge_fields_at bytes.now offset ≡ Ok e) }
     ensures fits { IfSome result (λ e. offset + 25 ≤ length bytes.now) }
@@ -93,7 +94,7 @@ fn is_greater(last: &Element, element: Element) -> bool
 // Whether the element comes after the last one, by all their fields. Few need that. The element is taken by value, so
 // that it stands in memory for those alone.
 #[inline(never)]
-fn is_behind(last: &Element, element: Element) -> bool
+pub(crate) fn is_behind(last: &Element, element: Element) -> bool
     ensures { result ≡ before last.now element }
 {
     last.cmp(&element).is_lt()
@@ -188,6 +189,24 @@ fn next_here(
     }
 }
 
+// Adds so many nodes and edges from the offset on: the nodes stand first.
+fn push_structure(
+    items: &mut Vec<Element>,
+    bytes: &[u8],
+    start: usize,
+    count: u32,
+    name_count: u32,
+) -> Option<usize>
+    requires within { start ≤ length bytes.now }
+    requires room { vec_len items.old + count ≤ vec_capacity items.old }
+    ensures kept { IsKept items.old.items items.new.items }
+    ensures elements { IfSome result (λ end. elements_at count Column.Structure name_count bytes.now [] start None ≡ Ok (added items.old.items items.new.items, end)) }
+    ensures fits { IfSome result (λ end. end ≤ length bytes.now) }
+{
+    let (offset, left, node) = push_nodes(items, bytes, start, count, name_count);
+    push_edges(items, bytes, offset, left, name_count, node)
+}
+
 /// Adds so many elements from the offset on, each after the one before it, to the list. Answers the offset behind them;
 /// `None` where something is wrong, or memory ran out. What the list had stands in front also then, and the first
 /// element is not compared with it.
@@ -210,15 +229,12 @@ pub(crate) fn push_elements(
         return None;
     }
     items.reserve(room).ok()?;
-    let mut offset = start;
-    let first = items.len();
-    for _ in 0..count {
-        let last = items[first..].last();
-        let element = next_here(bytes, offset, col, name_count, last)?;
-        offset += element_size(&element);
-        items.push_reserved(element);
+    match col {
+        Column::Structure => push_structure(items, bytes, start, count, name_count),
+        Column::NodeAttr => push_values(items, bytes, start, count, name_count, false),
+        Column::EdgeAttr => push_values(items, bytes, start, count, name_count, true),
+        Column::Transient => None,
     }
-    Some(offset)
 }
 
 /// So many elements as a set, and the offset behind them.
