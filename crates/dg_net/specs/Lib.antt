@@ -2,3 +2,4 @@ pub mod Lists
 pub mod EventMarks
 pub mod NetLaws
 pub mod Surplus
+pub mod Ranks

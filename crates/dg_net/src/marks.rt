@@ -7,10 +7,11 @@ ghost use Rattle.dg_graph.specs.Composition.{Composes};
 ghost use Rattle.dg_graph.specs.Elements.{element_cmp};
 ghost use Rattle.dg_graph.specs.Effect.{removed_by, added_by};
 ghost use Rattle.dg_net.specs.Lists.{counts};
+ghost use Rattle.dg_net.specs.Ranks.{kind_of, first_of};
 ghost use Rattle.dg_net.specs.EventMarks.{word_of, marks_of, earlier, names_first, lasts};
 
 use dg_delta::{Delta, Element, Set};
-use dg_event::{Event, effect};
+use dg_event::{Body, Event};
 use std::alloc::{AllocError, Global};
 use std::cmp::Ordering;
 
@@ -21,10 +22,56 @@ pub(crate) struct Mark {
     puts_in: bool,
 }
 
-pub(crate) fn compare(left: &Element, right: &Element) -> Ordering
+// The place of the element's kind in the order of kinds.
+#[inline(always)]
+fn kind_of(element: &Element) -> u8
+    ensures { result ≡ kind_of element.now }
+{
+    match *element {
+        Element::Node { .. } => 0,
+        Element::Edge { .. } => 1,
+        Element::NodeAttr { .. } => 2,
+        Element::EdgeAttr { .. } => 3,
+        Element::Message { .. } => 4,
+    }
+}
+
+// The first of the element's numbers.
+#[inline(always)]
+fn first_of(element: &Element) -> u64
+    ensures { result ≡ first_of element.now }
+{
+    match *element {
+        Element::Node { id }
+        | Element::Edge { id, .. }
+        | Element::NodeAttr { id, .. }
+        | Element::EdgeAttr { id, .. } => id,
+        Element::Message { src, .. } => src,
+    }
+}
+
+// Compares all that the elements are. Few need that.
+#[inline(never)]
+fn compare_whole(left: &Element, right: &Element) -> Ordering
     ensures { result ≡ element_cmp left.now right.now }
 {
     left.cmp(right)
+}
+
+/// The order of the elements: their kinds and first numbers tell most of them apart.
+#[inline(always)]
+pub(crate) fn compare(left: &Element, right: &Element) -> Ordering
+    ensures { result ≡ element_cmp left.now right.now }
+{
+    let kinds = kind_of(left).cmp(&kind_of(right));
+    if kinds.is_ne() {
+        return kinds;
+    }
+    let firsts = first_of(left).cmp(&first_of(right));
+    if firsts.is_ne() {
+        return firsts;
+    }
+    compare_whole(left, right)
 }
 
 /// Whether the event is up to the instant. Where there is none, each event is.
@@ -37,7 +84,50 @@ fn counts(event: &Event, until: Option<u64>) -> bool
     }
 }
 
+// What the event removes and what it adds, as `dg_event::effect` says it. It is laid into the loops, where the kind of an
+// event of structure tells which of the two there is.
+#[inline(always)]
+fn effect(event: &Event) -> (Option<Element>, Option<Element>)
+    ensures removed { result.0 ≡ removed_by event.now.body }
+    ensures added { result.1 ≡ added_by event.now.body }
+{
+    match event.body {
+        Body::NodeAdded { id } => (None, Some(Element::Node { id })),
+        Body::NodeRemoved { id } => (Some(Element::Node { id }), None),
+        Body::EdgeAdded {
+            id,
+            src,
+            dst,
+            directed,
+        } => (
+            None,
+            Some(Element::Edge {
+                id,
+                src,
+                dst,
+                directed,
+            }),
+        ),
+        Body::EdgeRemoved {
+            id,
+            src,
+            dst,
+            directed,
+        } => (
+            Some(Element::Edge {
+                id,
+                src,
+                dst,
+                directed,
+            }),
+            None,
+        ),
+        _ => dg_event::effect(event),
+    }
+}
+
 /// Adds the marks of an element that goes out and of one that comes in, where there are such.
+#[inline(always)]
 fn push_marks(
     marks: &mut Vec<Mark>,
     out: Option<Element>,
@@ -114,14 +204,20 @@ fn is_of(element: &Element, marks: &[Mark], index: usize) -> bool
     }
 }
 
+// How many of the marks put an element in.
+fn put_in(marks: &[Mark]) -> usize {
+    marks.iter().filter(|mark| mark.puts_in).count()
+}
+
 /// The elements of whose marks the last takes out, and those of whose marks the last puts in, where
 /// the marks of an element follow one another.
 fn lasts(alloc: Global, marks: &[Mark]) -> Result<(Vec<Element>, Vec<Element>), AllocError>
     ensures out { IfOk result (λ sets. sets.0.items ≡ lasts false marks.now) }
     ensures into { IfOk result (λ sets. sets.1.items ≡ lasts true marks.now) }
 {
-    let mut minus = Vec::new(alloc);
-    let mut plus = Vec::new(alloc);
+    let into = put_in(marks);
+    let mut minus = Vec::with_capacity(alloc, marks.len().saturating_sub(into))?;
+    let mut plus = Vec::with_capacity(alloc, into)?;
     for index in 0..marks.len() {
         let mark = marks[index];
         if !is_of(&mark.element, marks, index + 1) {
