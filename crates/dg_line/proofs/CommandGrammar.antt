@@ -5,23 +5,23 @@ use Rattle.std.proofs.lemmas.Bool.{false≢true}
 use Rattle.std.proofs.lemmas.Slice.Eq.{bytes_eq-Decides}
 use Rattle.std.proofs.lemmas.Fmt.{decimal_digit}
 use Rattle.std.proofs.lemmas.List.{length-take-le, take-append-drop}
-use Rattle.dg_expr.specs.ExpressionGrammar.{IsExpressionText}
 use Rattle.dg_graph.specs.declared.limits.TheConstants.{TIME_MAX}
 use Rattle.dg_history.specs.declared.limits.TheConstants.{BATCH_LINES_MAX}
-use Rattle.dg_text.specs.Verbs.{Verb, is_word, look_up, read_by}
+use Rattle.dg_text.specs.Verbs.{Verb, is_word, look_up, one, read_by}
 use Rattle.dg_text.specs.Words.{words}
 use Rattle.dg_changes.specs.ChangeGrammar.{id_of, time_of}
 use Rattle.dg_machine.specs.declared.command.Command.{Command}
 use Rattle.dg_machine.specs.declared.command.Command.TheVariants as command
-use Rattle.dg_machine.specs.CommandGrammar.{BeginsCommand, IsColumn, choice_of, columns_of, command_of, command_verbs, count_from_0, count_of, function_of, handle_of, heard_columns_of, held_node_verbs, n32_of, skewed_of, sweep_of}
+use Rattle.dg_machine.specs.CommandGrammar.{BeginsCommand, IsColumn, choice_of, columns_of, command_of, command_verbs, count_from_0, count_of, function_of, handle_of, heard_columns_of, held_node_verbs, key_word, n32_of, search_of, skewed_of, sweep_of}
 use Rattle.dg_grammar.specs.Prefixes.{IsLongestPrefix, IsPrefixOfOne}
-use Rattle.dg_grammar.specs.Symbols.{Terminal, One_of, Number, IsLineOfOne}
+use Rattle.dg_grammar.specs.Symbols.{Terminal, One_of, Number, IsLineOfOne, IsWordOf}
 use Rattle.dg_grammar.proofs.WordNumbers.{number_within}
 use Rattle.dg_line.proofs.CommandGrammarInstants.{several_row, zero_text, zero_words}
 use Rattle.dg_grammar.proofs.Prefixes.{Plain, either}
 use Rattle.dg_grammar.proofs.Symbols.{Words_are, fine_word, lines_short, some_words}
-use Rattle.dg_line.specs.Tails.{IsLineThen}
-use Rattle.dg_line.proofs.CommandTails.{either_verb, expression_row, first_verbs, gives_expression, takes_expression}
+use Rattle.dg_line.specs.declared.tails.Tail.TheVariants as tail
+use Rattle.dg_line.specs.Tails.{IsLineThen, IsTail}
+use Rattle.dg_line.proofs.CommandTails.{either_verb, expression_row, find_row, first_verbs, gives_expression, gives_find, gives_index, index_row, takes_expression, takes_find, takes_index}
 use Rattle.dg_line.proofs.LineTails.{then_short}
 use Rattle.dg_line.proofs.Verbs.{AreWordsOf, Is, ReadsWord, ReadsEither, Rows, number_word, more_texts, no_text, no_words, one_row, two_row, three_row, four_row, text_or, either_rows, or_rows, row, filled_row, zeros, table, ◌▸◌}
 
@@ -65,12 +65,12 @@ each_held = row (two_row n32 columns _) ▸ row (three_row n32 n32 columns _) �
 abbrev pub held_nodes : Rows (read_by held_node_verbs)
 held_nodes = table held_node_verbs each_held refl
 
--- the commands that are words alone, and the one behind them in the table
+-- the commands that are words alone, and those behind them in the table
 abbrev pub row_verbs : List (Verb Command)
-row_verbs = take 19 command_verbs
+row_verbs = take 20 command_verbs
 
 abbrev pub tail_verbs : List (Verb Command)
-tail_verbs = drop 19 command_verbs
+tail_verbs = drop 20 command_verbs
 
 -- what each command takes that is words alone, in the order of the table
 abbrev pub each_command : AllByRecursion (λ (v : Verb Command). Rows v.read) row_verbs
@@ -94,6 +94,7 @@ each_command =
     ▸ row (no_words _)
     ▸ row (no_words _)
     ▸ row (two_row id count _)
+    ▸ row (three_row time time heard_columns _)
     ▸ tt
 
 abbrev pub commands : Rows (read_by row_verbs)
@@ -110,26 +111,46 @@ some_command = (
       (number_within 1 BATCH_LINES_MAX 1 (codes "1") (omega arith) (sym (decimal_digit 1 (omega arith))) (omega arith) (omega arith)),
 )
 
--- a line of words alone, or of some words with an expression behind them
+-- a line of words alone, or of some words with a key, an expression, or a key and a value behind them
+abbrev pub IsKeyLine : List ℕ → Type 0
+IsKeyLine line = IsLineThen index_row (IsTail tail.Key) line
+
 abbrev pub IsExpressionLine : List ℕ → Type 0
-IsExpressionLine line = IsLineThen expression_row IsExpressionText line
+IsExpressionLine line = IsLineThen expression_row (IsTail tail.Expression) line
+
+abbrev pub IsSearchLine : List ℕ → Type 0
+IsSearchLine line = IsLineThen find_row (IsTail tail.Search) line
 
 abbrev pub IsCommandLine : List ℕ → Type 0
-IsCommandLine line = IsLineOfOne command_rows line ⊎ IsExpressionLine line
+IsCommandLine line = ((IsLineOfOne command_rows line ⊎ IsKeyLine line) ⊎ IsExpressionLine line) ⊎ IsSearchLine line
 
 -- which words of a command
-behind_rows : (line w : List ℕ) (ws : List (List ℕ)) → words line ≡ w ∷ ws → Is (look_up w tail_verbs ws) → IsExpressionLine line
-behind_rows line w ws e h = first (is_word w (codes "expression")) refl h
+behind_rows : (line w : List ℕ) (ws : List (List ℕ)) → words line ≡ w ∷ ws → Is (look_up w tail_verbs ws) → IsKeyLine line ⊎ (IsExpressionLine line ⊎ IsSearchLine line)
+behind_rows line w ws e h = first (is_word w (codes "index")) refl h
   where
     named : (text : List ℕ) → is_word w text ≡ true → words line ≡ text ∷ ws
     named text same = e ∙ ap (λ (x : List ℕ). x ∷ ws) ((bytes_eq-Decides w text).0 same)
 
-    first : (b : Bool) → is_word w (codes "expression") ≡ b → Is (cond b (choice_of ws) None) → IsExpressionLine line
-    first true same h = takes_expression columns line ws (named (codes "expression") same) h
-    first false same h = absurd (false≢true h)
+    third : (b : Bool) → is_word w (codes "find") ≡ b → Is (cond b (search_of ws) None) → IsKeyLine line ⊎ (IsExpressionLine line ⊎ IsSearchLine line)
+    third true same h = inr (inr (takes_find line ws (named (codes "find") same) h))
+    third false same h = absurd (false≢true h)
+
+    second : (b : Bool) → is_word w (codes "expression") ≡ b → Is (cond b (choice_of ws) (cond (is_word w (codes "find")) (search_of ws) None))
+        → IsKeyLine line ⊎ (IsExpressionLine line ⊎ IsSearchLine line)
+    second true same h = inr (inl (takes_expression columns line ws (named (codes "expression") same) h))
+    second false same h = third (is_word w (codes "find")) refl h
+
+    first : (b : Bool) → is_word w (codes "index") ≡ b
+        → Is (cond b (one key_word (λ key. command.Index key) ws) (cond (is_word w (codes "expression")) (choice_of ws) (cond (is_word w (codes "find")) (search_of ws) None)))
+        → IsKeyLine line ⊎ (IsExpressionLine line ⊎ IsSearchLine line)
+    first true same h = inl (takes_index line ws (named (codes "index") same) h)
+    first false same h = second (is_word w (codes "expression")) refl h
 
 plain_columns : (w : List ℕ) → Contains (codes "s" ∷ codes "sn" ∷ codes "se" ∷ codes "sne" ∷ []) w → Plain w
 plain_columns w h = (fine_word (One_of (codes "s" ∷ codes "sn" ∷ codes "se" ∷ codes "sne" ∷ [])) w refl h).plain
+
+plain_time : (w : List ℕ) → IsWordOf (Number 0 TIME_MAX) w → Plain w
+plain_time w h = (fine_word (Number 0 TIME_MAX) w refl h).plain
 
 -- a line of words alone is a command
 row_is : (line : List ℕ) → IsLineOfOne command_rows line → Is (command_of line)
@@ -141,8 +162,10 @@ row_is line h = elim (some_words line) [
 ]
 
 line_is : (line : List ℕ) → IsCommandLine line → Is (command_of line)
-line_is line (inl h) = row_is line h
-line_is line (inr h) = gives_expression columns plain_columns line h
+line_is line (inl (inl (inl h))) = row_is line h
+line_is line (inl (inl (inr h))) = gives_index line h
+line_is line (inl (inr h)) = gives_expression columns plain_columns line h
+line_is line (inr h) = gives_find plain_time line h
 
 -- the column behind the longest prefix of such a line
 pub column_is : (line : List ℕ) (longest column : ℕ) → IsLongestPrefix IsCommandLine line longest → column ≡ longest + 1
@@ -161,13 +184,19 @@ column_is line longest column f is = record {
         let found = commands.takes (words (bytes ++ rest)) h in
         let same : words (bytes ++ rest) ++ zeros found.0 ≡ words (bytes ++ (rest ++ zero_text found.0)) =
         sym (zero_words found.0 (bytes ++ rest)) ∙ ap words (append_assoc bytes rest (zero_text found.0)) in
-        (rest ++ zero_text found.0, inl (subst (λ (ws : List (List ℕ)). Any (AreWordsOf ws) command_rows) same found.1))
+        (rest ++ zero_text found.0, inl (inl (inl (subst (λ (ws : List (List ℕ)). Any (AreWordsOf ws) command_rows) same found.1))))
 
     fills : (bytes : List ℕ) → BeginsCommand bytes → IsPrefixOfOne IsCommandLine bytes
     fills bytes b = elim (some_words (bytes ++ b.0)) [
       | Words_are w ws some ↦ elim (either_verb row_verbs tail_verbs w ws (subst (λ l. Is (read_by command_verbs l)) some b.1)) [
         | inl h ↦ by_row bytes b.0 (subst (λ l. Is (read_by row_verbs l)) (sym some) h)
-        | inr h ↦ (b.0, inr (behind_rows (bytes ++ b.0) w ws some h))
+        | inr h ↦ elim (behind_rows (bytes ++ b.0) w ws some h) [
+          | inl key ↦ (b.0, inl (inl (inr key)))
+          | inr other ↦ elim other [
+            | inl expression ↦ (b.0, inl (inr expression))
+            | inr search ↦ (b.0, inr search)
+          ]
+        ]
       ]
     ]
 
@@ -177,15 +206,21 @@ column_is line longest column f is = record {
         let b = g.begins (omega arith) in
         (b.0, line_is (take (suc n) line ++ b.0) b.1)
 
--- the longest prefix, from those of the two kinds of line
-pub longest_of_both : (line : List ℕ) (n e k : ℕ) → IsLongestPrefix (IsLineOfOne command_rows) line n → IsLongestPrefix IsExpressionLine line e → k ≡ max n e
-    → IsLongestPrefix IsCommandLine line k
-longest_of_both line n e k rows expression is =
-    either (IsLineOfOne command_rows) IsExpressionLine IsCommandLine line n e k rows expression is (λ w h. inl h) (λ w h. inr h) (λ w h. h)
+-- the longest prefix, from those of the four kinds of line
+pub longest_of_all : (line : List ℕ) (n i e f : ℕ) → IsLongestPrefix (IsLineOfOne command_rows) line n → IsLongestPrefix IsKeyLine line i
+    → IsLongestPrefix IsExpressionLine line e → IsLongestPrefix IsSearchLine line f → IsLongestPrefix IsCommandLine line (max (max (max n i) e) f)
+longest_of_all line n i e f rows index expression search =
+    let first = either (IsLineOfOne command_rows) IsKeyLine (λ l. IsLineOfOne command_rows l ⊎ IsKeyLine l) line n i (max n i) rows index refl (λ w h. inl h) (λ w h. inr h) (λ w h. h) in
+    let second = either (λ l. IsLineOfOne command_rows l ⊎ IsKeyLine l) IsExpressionLine (λ l. (IsLineOfOne command_rows l ⊎ IsKeyLine l) ⊎ IsExpressionLine l) line (max n i) e (max (max n i) e)
+    first expression refl (λ w h. inl h) (λ w h. inr h) (λ w h. h) in
+    either (λ l. (IsLineOfOne command_rows l ⊎ IsKeyLine l) ⊎ IsExpressionLine l) IsSearchLine IsCommandLine line (max (max n i) e) f (max (max (max n i) e) f)
+    second search refl (λ w h. inl h) (λ w h. inr h) (λ w h. h)
 
 line_short : (line : List ℕ) → IsCommandLine line → length line < 2100
-line_short line (inl h) = lines_short command_rows line 100 refl refl h
-line_short line (inr h) = let short = then_short expression_row line refl h in omega arith
+line_short line (inl (inl (inl h))) = lines_short command_rows line 100 refl refl h
+line_short line (inl (inl (inr h))) = let short = then_short index_row tail.Key line refl h in omega arith
+line_short line (inl (inr h)) = let short = then_short expression_row tail.Expression line refl h in omega arith
+line_short line (inr h) = let short = then_short find_row tail.Search line refl h in omega arith
 
 -- the longest prefix is short
 pub prefix_short : (line : List ℕ) (longest : ℕ) → IsLongestPrefix IsCommandLine line longest → longest < 2100

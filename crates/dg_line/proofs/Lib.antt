@@ -1,3 +1,4 @@
+pub mod TailTexts
 pub mod LineTails
 pub mod Verbs
 pub mod VerbReaders

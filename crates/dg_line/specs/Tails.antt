@@ -1,7 +1,27 @@
 -- Lines of some words, with what comes behind them.
-use Rattle.std.specs.Prelude.{ℕ, List, [], ◌∷◌}
+use Rattle.std.specs.Prelude.{ℕ, List, [], ◌∷◌, IsTrue}
+use Rattle.dg_expr.specs.ExpressionGrammar.{IsExpressionText}
 use Rattle.dg_grammar.specs.Prefixes.{Parted}
 use Rattle.dg_grammar.specs.Symbols.{Terminal, IsWordOf}
+use Rattle.dg_line.specs.declared.tails.Tail.{Tail}
+use Rattle.dg_line.specs.declared.tails.Tail.TheVariants as tail
+use Rattle.dg_text.specs.Names.{is_key, is_name}
+
+abbrev pub IsKeyText : List ℕ → Type 0
+IsKeyText text = IsTrue (is_key text)
+
+abbrev pub IsValueText : List ℕ → Type 0
+IsValueText text = IsTrue (is_name text)
+
+-- a key, a space and a value
+abbrev pub IsSearchText : List ℕ → Type 0
+IsSearchText text = Parted IsKeyText IsValueText text
+
+-- what comes behind the words is of this kind
+abbrev pub IsTail : Tail → List ℕ → Type 0
+IsTail tail.Expression text = IsExpressionText text
+IsTail tail.Key text = IsKeyText text
+IsTail tail.Search text = IsSearchText text
 
 -- the line is of words of the row, one by one, and behind them of what comes last
 abbrev pub IsLineThen : List Terminal → (List ℕ → Type 0) → List ℕ → Type 0

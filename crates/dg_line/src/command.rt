@@ -8,11 +8,11 @@ use crate::handle_parsers::{
     at, clean, counts, list, materialise, neighbours, node, pool, release, several,
 };
 use crate::index_parsers::{append, certify, create, load, plan, tree, upgrade, verify, workload};
-use crate::selection_parsers::expression;
+use crate::selection_parsers::{expression, find, index, interval};
 use crate::symbols::{
     CELLS, COLUMNS, COUNT, COUNT_FROM_0, FUNCTION, HANDLE, HEARD_COLUMNS, ID, N32, TIME,
 };
-use crate::tails::then_expression_prefix;
+use crate::tails::{Tail, then_prefix};
 use crate::words::{Words, found, is};
 use dg_grammar::{Symbol, longest_prefix};
 use dg_machine::Command;
@@ -21,8 +21,8 @@ use thiserror::Error;
 /// The word `several`, whose row has many symbols.
 const SEVERAL: Symbol = Symbol::OneOf(&[b"several"]);
 
-/// The commands that are words alone, as rows of symbols: one for each, and two for `create`, for `materialise` and for
-/// `clean`. One space parts two words. A command of fewer instants than `TIMES_MAX` is a prefix of one of so many.
+/// The commands that are words alone, as rows of symbols: one for each, and two for `create`, for `materialise` and for `clean`. One space
+/// parts two words. A command of fewer instants than `TIMES_MAX` is a prefix of one of so many.
 const COMMANDS: &[&[Symbol]] = &[
     &[Symbol::OneOf(&[b"create"]), N32, N32, FUNCTION],
     &[
@@ -98,12 +98,20 @@ const COMMANDS: &[&[Symbol]] = &[
     &[Symbol::OneOf(&[b"upgrade"])],
     &[Symbol::OneOf(&[b"tree"])],
     &[Symbol::OneOf(&[b"workload"]), ID, COUNT],
+    &[Symbol::OneOf(&[b"interval"]), TIME, TIME, HEARD_COLUMNS],
 ];
+
+/// The words before the key of `index`.
+const INDEX: &[Symbol] = &[Symbol::OneOf(&[b"index"])];
 
 /// The words before an expression.
 const EXPRESSION: &[Symbol] = &[Symbol::OneOf(&[b"expression"]), COLUMNS];
 
-/// Every command has fewer bytes: at most 100 words, of at most 20 bytes and a space each, or two words and an expression.
+/// The words before the key and the value of `find`.
+const FIND: &[Symbol] = &[Symbol::OneOf(&[b"find"]), TIME];
+
+/// Every command has fewer bytes: at most 100 words, of at most 20 bytes and a space each, or few words and an expression, or a
+/// key and a value.
 const COMMAND_BYTES: usize = 2100;
 
 /// The line is in no command; the column, from 1, at which it leaves the grammar.
@@ -113,8 +121,8 @@ pub struct Syntax(pub u32);
 
 /// The command that the line is, or the column at which it leaves the grammar of commands: it is 1
 /// more than the length of the longest prefix of the line that is a prefix of some command. The number
-/// of lines that follow a command, of its generated changes, of its instants, or of its cells, is in its
-/// range. It takes no memory.
+/// of lines that follow a command, of its generated changes, of its instants, of its cells, or of the
+/// bytes of its texts, is in its range. It takes no memory.
 pub fn read_command(line: &[u8]) -> Result<Command, Syntax>
     ensures command { result_ok result ≡ command_of line.now }
     ensures ranges { IfOk result (λ c. CountIsInRange c) }
@@ -139,7 +147,10 @@ fn command_prefix(line: &[u8]) -> usize
     ensures column { IsColumn line.now (result + 1) }
     ensures short { result < COMMAND_BYTES }
 {
-    longest_prefix(COMMANDS, line).max(then_expression_prefix(EXPRESSION, line))
+    longest_prefix(COMMANDS, line)
+        .max(then_prefix(INDEX, Tail::Key, line))
+        .max(then_prefix(EXPRESSION, Tail::Expression, line))
+        .max(then_prefix(FIND, Tail::Search, line))
 }
 
 // The command that the line is.
@@ -150,20 +161,24 @@ fn command(line: &[u8]) -> Option<Command>
     let mut words = Words::of(line);
     let verb = found!(words.next());
     if is(verb, b"create") {
-        create(words)
-    } else if is(verb, b"load") {
-        load(words)
-    } else if is(verb, b"append") {
-        append(words)
-    } else if is(verb, b"at") {
-        at(words)
-    } else if is(verb, b"several") {
-        several(words)
-    } else if is(verb, b"materialise") {
-        materialise(words)
-    } else {
-        handle_command(verb, words)
+        return create(words);
     }
+    if is(verb, b"load") {
+        return load(words);
+    }
+    if is(verb, b"append") {
+        return append(words);
+    }
+    if is(verb, b"at") {
+        return at(words);
+    }
+    if is(verb, b"several") {
+        return several(words);
+    }
+    if is(verb, b"materialise") {
+        return materialise(words);
+    }
+    handle_command(verb, words)
 }
 
 // The command that this verb and the words after it are, of those that stand behind `materialise` in the table.
@@ -172,20 +187,24 @@ fn handle_command(verb: &[u8], words: Words) -> Option<Command>
     ensures range { IfSome result (λ c. CountIsInRange c) }
 {
     if is(verb, b"list") {
-        list(words)
-    } else if is(verb, b"counts") {
-        counts(words)
-    } else if is(verb, b"node") {
-        node(words)
-    } else if is(verb, b"neighbours") {
-        neighbours(words)
-    } else if is(verb, b"release") {
-        release(words)
-    } else if is(verb, b"clean") {
-        clean(words)
-    } else {
-        index_command(verb, words)
+        return list(words);
     }
+    if is(verb, b"counts") {
+        return counts(words);
+    }
+    if is(verb, b"node") {
+        return node(words);
+    }
+    if is(verb, b"neighbours") {
+        return neighbours(words);
+    }
+    if is(verb, b"release") {
+        return release(words);
+    }
+    if is(verb, b"clean") {
+        return clean(words);
+    }
+    index_command(verb, words)
 }
 
 // The command that this verb and the words after it are, of those that stand behind `clean` in the table.
@@ -194,22 +213,45 @@ fn index_command(verb: &[u8], words: Words) -> Option<Command>
     ensures range { IfSome result (λ c. CountIsInRange c) }
 {
     if is(verb, b"pool") {
-        pool(words)
-    } else if is(verb, b"plan") {
-        plan(words)
-    } else if is(verb, b"certify") {
-        certify(words)
-    } else if is(verb, b"verify") {
-        verify(words)
-    } else if is(verb, b"upgrade") {
-        upgrade(words)
-    } else if is(verb, b"tree") {
-        tree(words)
-    } else if is(verb, b"workload") {
-        workload(words)
-    } else if is(verb, b"expression") {
-        expression(words)
-    } else {
-        None
+        return pool(words);
     }
+    if is(verb, b"plan") {
+        return plan(words);
+    }
+    if is(verb, b"certify") {
+        return certify(words);
+    }
+    if is(verb, b"verify") {
+        return verify(words);
+    }
+    if is(verb, b"upgrade") {
+        return upgrade(words);
+    }
+    if is(verb, b"tree") {
+        return tree(words);
+    }
+    if is(verb, b"workload") {
+        return workload(words);
+    }
+    selection_command(verb, words)
+}
+
+// The command that this verb and the words after it are, of those that stand behind `workload` in the table.
+fn selection_command(verb: &[u8], words: Words) -> Option<Command>
+    ensures command { result ≡ look_up verb.now (drop 19 command_verbs) words.entry }
+    ensures range { IfSome result (λ c. CountIsInRange c) }
+{
+    if is(verb, b"interval") {
+        return interval(words);
+    }
+    if is(verb, b"index") {
+        return index(words);
+    }
+    if is(verb, b"expression") {
+        return expression(words);
+    }
+    if is(verb, b"find") {
+        return find(words);
+    }
+    None
 }

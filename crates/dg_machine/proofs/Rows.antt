@@ -368,7 +368,7 @@ messages : due_of_none (no_plan ∷ no_plan ∷ no_plan ∷ steps_are (0 ∷ 13 
 unfolding digits due_from due_of_none due_in output answered
 messages = refl
 
--- ---- selections
+-- ---- selections and value indexes
 
 -- What came in from 20 to 30, by the tree of the two instants; what is not there as of 20 alone is nothing. A selection
 -- has no nodes to ask for.
@@ -382,3 +382,20 @@ asked_of_selections : over_five (grafts_are (graft node.Root (0 ∷ 13 ∷ 15 �
     ≡ made_five ++ codes "ok expression 1 40\nend\nok counts 1 0 1 0 0\nend\nok pool 1 4\nend\nok release 1\nend\nrefused 8 unknown-handle 1\nend\nok pool 0 3\nend\n"
 unfolding digits due_from over_five due_of_none five made_five due_in output answered
 asked_of_selections = refl
+
+-- both lists meet the first interval; the others meet none
+added_elements : over_five [] (codes "interval 20 40 s\nlist 1\ninterval 50 51 s\nlist 2\ninterval 40 20 s\ninterval 9 20 s\ninterval 20 52 s\ninterval 51 51 s\n")
+    ≡ made_five ++ codes "ok interval 1 82\nend\nok list 1 2\nnode 2\nedge 5 1 2 dir\nend\nok interval 2 0\nend\nok list 2 0\nend\nok interval 3 0\nend\nrefused 7 out-of-range 10 50\nend\nrefused 7 out-of-range 10 50\nend\nrefused 7 out-of-range 10 50\nend\n"
+unfolding digits due_from over_five due_of_none five made_five due_in output answered
+added_elements = refl
+
+-- the messages of an interval, and where they are not asked for
+added_messages : due_of_none [] (codes "create 2 2 intersection\nload 4\n10 +node 1\n10 +node 2\n20 msg 1 2 hi\n20 msg 1 2 yo\ninterval 20 21 st\nlist 1\ninterval 20 21 s\nlist 2\n")
+    ≡ codes "ok create\nend\nok load 4 4 20\nend\nok interval 1 64\nend\nok list 1 2\nmsg 1 2 hi\nmsg 1 2 yo\nend\nok interval 2 0\nend\nok list 2 0\nend\n"
+unfolding digits due_from due_of_none due_in output answered
+added_messages = refl
+
+value_index : over_five [] (codes "index size\nfind 40 name A\nindex name\nindex name\nfind 40 name A\nfind 30 name A\nfind 51 name A\nfind 40 name other\nappend 2\n60 nset 1 name B\n70 ndel 1 name\nfind 60 name B\nfind 60 name A\nfind 70 name B\n")
+    ≡ made_five ++ codes "refused 23 unknown-key\nend\nrefused 24 not-indexed\nend\nok index 1 34\nend\nrefused 25 already-indexed\nend\nok find 1\nnode 1\nend\nok find 0\nend\nrefused 7 out-of-range 10 50\nend\nok find 0\nend\nok append 2 7 70\nend\nok find 1\nnode 1\nend\nok find 0\nend\nok find 0\nend\n"
+unfolding digits due_from over_five due_of_none five made_five due_in output answered
+value_index = refl

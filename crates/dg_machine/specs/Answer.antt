@@ -37,16 +37,20 @@ use Rattle.dg_machine.specs.declared.reply.Refusal.{Refusal}
 use Rattle.dg_machine.specs.declared.reply.Refusal.TheVariants as refusal
 use Rattle.dg_machine.specs.declared.reply.Reply.{Reply}
 use Rattle.dg_machine.specs.declared.selection.Selection.{Selection}
-use Rattle.dg_machine.specs.declared.selection.Selection.TheVariants.{Chosen}
+use Rattle.dg_machine.specs.declared.selection.Selection.TheVariants.{Chosen, Added}
 use Rattle.dg_machine.specs.declared.stands.Stands.{Stands}
 use Rattle.dg_machine.specs.declared.stands.Stands.TheVariants.{Overlay, Base, Selected}
-use Rattle.dg_machine.specs.MachineState.{MachineState, elements, elements_held, stands_at, history_in, without_handle}
+use Rattle.dg_aux.specs.Values.{additions_of}
+use Rattle.dg_machine.specs.Selections.{added_length}
+use Rattle.dg_machine.specs.ValueIndex.{found, key_text, node_attrs_length, value_text}
+use Rattle.dg_text.specs.Names.{number_in}
+use Rattle.dg_machine.specs.MachineState.{MachineState, elements, elements_held, names_in, stands_at, history_in, without_handle}
 use Rattle.dg_machine.specs.CommandGrammar.{plan_line_in}
 use Rattle.dg_changes.specs.GeneratedChanges.{batch_of_changes, generated}
 use Rattle.dg_query.specs.Queries.{counts_of, degree_of, neighbours_of, values_of}
 use Rattle.dg_sound.specs.declared.soundness.Soundness.TheVariants.{Sound}
 use Rattle.dg_sound.specs.Soundness.{record_total}
-use Rattle.dg_machine.specs.Needs.{needs, refused, is_followed}
+use Rattle.dg_machine.specs.Needs.{needs, number_in_index, refused, is_followed}
 use Rattle.dg_machine.specs.Planning.{Planned, IsPlanned, no_plan, edges_in, nodes_in, point_for, record_edges_in}
 
 pub record Answered : Type 0 where
@@ -183,13 +187,28 @@ several_reply next weight times singles = record { head = head.Several weight (s
 
 -- ---- what is selected
 
--- the bytes that are read for a selection: of the tree of the instants
+-- the bytes that are read for a selection: of the tree of the instants, or of the lists in between
 abbrev pub weight_of_selection : MachineState → Columns → Selection → Planned → ℕ
 weight_of_selection m cols (Chosen e) p = tree_weight (arcs_of (edges_in m cols)) p.grafts
+weight_of_selection m cols (Added from until) p = added_length (history_in m.index) from until cols
 
 -- the first line of the reply to a selection
 abbrev pub selection_head : Selection → ℕ → ℕ → Head
 selection_head (Chosen e) handle weight = head.Chosen handle weight
+selection_head (Added from until) handle weight = head.Added handle weight
+
+-- ---- the value index
+
+-- the key of this number is indexed
+abbrev pub with_index : MachineState → ℕ → Answered
+with_index m key = record {
+  reply = headed (head.Indexed (additions_of key (events_of (history_in m.index))) (node_attrs_length (history_in m.index)));
+  state = record m { indexes = m.indexes ++ key ∷ [] };
+}
+
+-- a line for each node that was found
+abbrev pub found_reply : List ℕ → Reply
+found_reply ids = record { head = head.Found (length ids); body = map (λ id. line.Element (element.Node id)) ids }
 
 -- ---- plans
 
@@ -297,6 +316,9 @@ accepted m (command.Select what cols) lines p = record {
   reply = headed (selection_head what m.next (weight_of_selection m cols what p));
   state = with_handle m (Selected what cols);
 }
+accepted m (command.Index key) lines p = with_index m (number_in (names_in m.index) (key_text key))
+accepted m (command.Find t key value) lines p =
+    say m (found_reply (found (history_in m.index) t (number_in_index m (key_text key)) (number_in_index m (value_text value))))
 
 -- the refusal, or else the answer of an accepted command
 abbrev pub answer_by : Option Refusal → MachineState → Command → List ScriptLine → Planned → Answered
@@ -358,4 +380,6 @@ weight_told (head.At handle weight) = weight
 weight_told (head.Several weight sum) = weight
 weight_told (head.Materialised handle weight) = weight
 weight_told (head.Chosen handle weight) = weight
+weight_told (head.Added handle weight) = weight
+weight_told (head.Indexed spans weight) = weight
 weight_told h = 0

@@ -10,8 +10,11 @@ use Rattle.dg_machine.specs.declared.command.Command.{Command}
 use Rattle.dg_machine.specs.declared.command.Command.TheVariants as command
 use Rattle.dg_machine.specs.declared.command.Query.TheVariants as query
 use Rattle.dg_machine.specs.declared.command.TheConstants.{TIMES_MAX}
-use Rattle.dg_machine.specs.declared.selection.Selection.TheVariants.{Chosen}
+use Rattle.dg_machine.specs.declared.selection.Selection.TheVariants.{Chosen, Added}
+use Rattle.dg_machine.specs.declared.texts.KeyText.{KeyText}
+use Rattle.dg_machine.specs.ValueIndex.{key_of, value_of}
 use Rattle.dg_history.specs.declared.limits.TheConstants.{BATCH_LINES_MAX}
+use Rattle.dg_text.specs.declared.limits.TheConstants.{KEY_BYTES_MAX, NAME_BYTES_MAX}
 use Rattle.dg_graph.specs.declared.function.Function.{Function}
 use Rattle.dg_graph.specs.declared.function.Function.TheVariants.{Intersection, Union, Balanced}
 use Rattle.dg_text.specs.Words.{words, number}
@@ -21,7 +24,7 @@ use Rattle.dg_history.specs.declared.node.NodeId.{NodeId}
 use Rattle.dg_history.specs.declared.node.NodeId.TheVariants as node
 use Rattle.dg_plan.specs.declared.certificate.PlanLine.{PlanLine}
 use Rattle.dg_plan.specs.declared.certificate.PlanLine.TheVariants as plan_line
-use Rattle.dg_changes.specs.ChangeGrammar.{id_of, time_of}
+use Rattle.dg_changes.specs.ChangeGrammar.{id_of, key_text_of, time_of, value_text_of}
 
 abbrev pub handle_of : List ℕ → Option ℕ
 handle_of word = number 1 4294967295 word
@@ -101,6 +104,16 @@ choice_of (cols ∷ word ∷ more) =
     option_and_then (λ c. option_map (λ ws. command.Select (Chosen (expr_of ws)) c) (expression_of (join_with_byte 32 (word ∷ more)))) (columns_of cols)
 choice_of rest = None
 
+abbrev pub key_word : List ℕ → Option KeyText
+key_word word = option_map key_of (key_text_of word)
+
+-- an instant, a key and a value, which is the rest of the line: words with a space between each two
+abbrev pub search_of : List (List ℕ) → Option Command
+search_of (time ∷ key ∷ word ∷ more) =
+    option_and_then (λ t. option_and_then (λ k.
+    option_map (λ v. command.Find t k (value_of v)) (value_text_of (join_with_byte 32 (word ∷ more)))) (key_word key)) (time_of time)
+search_of rest = None
+
 -- the commands, by their first word
 abbrev pub command_verbs : List (Verb Command)
 command_verbs =
@@ -123,7 +136,10 @@ command_verbs =
     ∷ verb (codes "upgrade") (none_more command.Upgrade)
     ∷ verb (codes "tree") (none_more command.Tree)
     ∷ verb (codes "workload") (two_words id_of count_of (λ seed n. command.Workload seed n))
+    ∷ verb (codes "interval") (three time_of time_of heard_columns_of (λ from until cols. command.Select (Added from until) cols))
+    ∷ verb (codes "index") (one key_word (λ key. command.Index key))
     ∷ verb (codes "expression") choice_of
+    ∷ verb (codes "find") search_of
     ∷ []
 
 -- the command that the line is
@@ -179,8 +195,8 @@ plan_line_in Long = None
 -- ---- ranges
 
 -- The number of lines that follow is in its range: a batch has one at least, and no command has more than a
--- batch may have; and so is the number of instants, that of cells; and the words of an expression are one. Every
--- command that a line is is so.
+-- batch may have; and so is the number of instants, that of cells, and that of the words of an expression, which are one,
+-- and of the bytes of a text. Every command that a line is is so.
 abbrev pub CountIsInRange : Command → Type 0
 CountIsInRange (command.Load count) = (1 ≤ count) × (count ≤ BATCH_LINES_MAX)
 CountIsInRange (command.Append count) = (1 ≤ count) × (count ≤ BATCH_LINES_MAX)
@@ -189,4 +205,6 @@ CountIsInRange (command.Certify t cols count) = count ≤ BATCH_LINES_MAX
 CountIsInRange (command.Several cols times count) = (1 ≤ count) × (count ≤ TIMES_MAX)
 CountIsInRange (command.Clean cells) = 1 ≤ cells
 CountIsInRange (command.Select (Chosen e) cols) = IsTrue (is_expression (words_of e)) × (e.count ≤ EXPRESSION_WORDS_MAX)
+CountIsInRange (command.Index key) = key.count ≤ KEY_BYTES_MAX
+CountIsInRange (command.Find t key value) = (key.count ≤ KEY_BYTES_MAX) × (value.count ≤ NAME_BYTES_MAX)
 CountIsInRange c = Unit {0}

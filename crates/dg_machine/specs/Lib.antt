@@ -1,6 +1,7 @@
 pub mod CommandGrammar
 pub mod ReplyText
 pub mod Selections
+pub mod ValueIndex
 pub mod MachineState
 pub mod Needs
 pub mod Planning

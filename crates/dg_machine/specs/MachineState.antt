@@ -17,16 +17,17 @@ use Rattle.dg_graph.specs.Sets.{unioned}
 use Rattle.dg_index.specs.Hierarchy.{set_of}
 
 -- The limits; an index or none, and its history; the live handles with what they stand for, in the
--- order in which they were given; and the number of the next handle.
+-- order in which they were given; the number of the next handle; and the indexed keys, by their numbers among the names.
 pub record MachineState : Type 0 where
   pub limits : Limits
   pub index : Option History
   pub table : List (ℕ × Stands)
   pub next : ℕ
+  pub indexes : List ℕ
 
 -- the machine before its first command
 abbrev pub machine_at : Limits → Option History → MachineState
-machine_at limits index = record { limits = limits; index = index; table = []; next = limits.first_handle }
+machine_at limits index = record { limits = limits; index = index; table = []; next = limits.first_handle; indexes = [] }
 
 -- no limit is above its standard value, and the first handle has the number of one
 pub record IsWithin (limits : Limits) : Type 0 where

@@ -1,5 +1,5 @@
 -- What each command needs, and the refusals that follow from it.
-use Rattle.std.specs.Prelude.{ℕ, ◌+◌, ◌*◌, Bool, true, false, ◌&&◌, ◌||◌, not, List, [], ◌∷◌, ◌++◌, Option, Some, None, length, nat_le, nat_lt, is_some, take}
+use Rattle.std.specs.Prelude.{ℕ, ◌+◌, ◌*◌, Bool, true, false, ◌==◌, ◌&&◌, ◌||◌, not, List, [], ◌∷◌, ◌++◌, Option, Some, None, length, nat_le, nat_lt, is_some, take}
 use Rattle.std.specs.List.{list_any}
 use Rattle.dg_graph.specs.declared.function.Function.{Function}
 use Rattle.dg_graph.specs.declared.function.Function.TheVariants.{Skewed}
@@ -7,6 +7,7 @@ use Rattle.dg_graph.specs.declared.limits.TheConstants.{SKEW_MAX}
 use Rattle.dg_expr.specs.Expressions.{instants_of, words_of}
 use Rattle.dg_text.specs.declared.limits.TheConstants.{NAMES_MAX}
 use Rattle.dg_text.specs.Lines.{ScriptLine}
+use Rattle.dg_text.specs.Names.{number_of}
 use Rattle.dg_history.specs.declared.node.NodeId.{NodeId}
 use Rattle.dg_history.specs.declared.node.NodeId.TheVariants as node
 use Rattle.dg_history.specs.declared.params.Params.{Params}
@@ -16,14 +17,15 @@ use Rattle.dg_machine.specs.declared.command.Command.{Command}
 use Rattle.dg_machine.specs.declared.command.Command.TheVariants as command
 use Rattle.dg_machine.specs.declared.command.Query.{Query}
 use Rattle.dg_machine.specs.declared.command.Query.TheVariants as query
-use Rattle.dg_machine.specs.declared.limits.TheConstants.{HANDLE_MAX, LIVE_HANDLES_MAX}
+use Rattle.dg_machine.specs.declared.limits.TheConstants.{HANDLE_MAX, INDEXES_MAX, LIVE_HANDLES_MAX}
 use Rattle.dg_machine.specs.declared.reply.Refusal.{Refusal}
 use Rattle.dg_machine.specs.declared.reply.Refusal.TheVariants as refusal
 use Rattle.dg_machine.specs.declared.selection.Selection.{Selection}
-use Rattle.dg_machine.specs.declared.selection.Selection.TheVariants.{Chosen}
+use Rattle.dg_machine.specs.declared.selection.Selection.TheVariants.{Chosen, Added}
 use Rattle.dg_machine.specs.declared.stands.Stands.{Stands}
 use Rattle.dg_machine.specs.declared.stands.Stands.TheVariants.{Overlay, Base, Selected}
 use Rattle.dg_machine.specs.MachineState.{MachineState, dependent_on, events_in_index, history_in, names_in, stands_at}
+use Rattle.dg_machine.specs.ValueIndex.{is_among, key_text}
 
 pub record Needs : Type 0 where
   pub lines : Option ℕ  -- so many lines that follow it, where any may
@@ -33,10 +35,13 @@ pub record Needs : Type 0 where
   pub unloaded : Bool  -- no event yet
   pub changes : ℕ  -- room for so many changes
   pub instants : List ℕ  -- that these are in the history
+  pub until : Option ℕ  -- and this one, or that it is the one behind the last
   pub handle : Option ℕ  -- that this one is live
   pub overlay : Bool  -- and stands for a graph as of an instant
   pub unused : Option ℕ  -- that no live handle rests on this one
   pub node : Option NodeId  -- that the index has this leaf or interior node
+  pub unindexed : Option (List ℕ)  -- that the key of this text is not indexed, and room for one more that is
+  pub indexed : Option (List ℕ)  -- that the key of this text is indexed
   pub handles : ℕ  -- so many new handles
   pub memory : Bool  -- memory
   pub reads : Bool  -- records of the file
@@ -51,10 +56,13 @@ nothing_more = record {
   unloaded = false;
   changes = 0;
   instants = [];
+  until = None;
   handle = None;
   overlay = false;
   unused = None;
   node = None;
+  unindexed = None;
+  indexed = None;
   handles = 0;
   memory = true;
   reads = false;
@@ -84,6 +92,12 @@ share_of function = 0
 -- the instants of which something is asked for a selection
 abbrev pub instants_asked : Selection → List ℕ
 instants_asked (Chosen e) = instants_of (words_of e)
+instants_asked (Added from until) = from ∷ []
+
+-- the instant before which a selection ends
+abbrev pub end_asked : Selection → Option ℕ
+end_asked (Chosen e) = None
+end_asked (Added from until) = Some until
 
 abbrev pub needs : Command → Needs
 needs (command.Create l k function) = record nothing_more { parameters = Some (l, k, share_of function); writes = true }
@@ -106,7 +120,9 @@ needs command.Tree = record nothing_more { index = true }
 needs (command.Workload seed count) =
     record nothing_more { index = true; unloaded = true; changes = count; reads = true; writes = true }
 needs (command.Select what cols) =
-    record nothing_more { index = true; instants = instants_asked what; handles = 1; reads = true }
+    record nothing_more { index = true; instants = instants_asked what; until = end_asked what; handles = 1; reads = true }
+needs (command.Index key) = record nothing_more { index = true; unindexed = Some (key_text key); reads = true }
+needs (command.Find t key value) = record nothing_more { index = true; instants = t ∷ []; indexed = Some (key_text key) }
 
 abbrev pub or_none : Option ℕ → ℕ
 or_none None = 0
@@ -163,6 +179,24 @@ abbrev pub is_full : MachineState → ℕ → Bool
 is_full m count =
     nat_lt m.limits.events (length (events_in_index m.index) + count) || nat_lt NAMES_MAX (length (names_in m.index) + 2 * count)
 
+-- the instant is in the history, or the one behind its last
+abbrev pub in_range_or_next : Option (ℕ × ℕ) → ℕ → Bool
+in_range_or_next None t = false
+in_range_or_next (Some ends) t = in_range (Some ends) t || t == ends.1 + 1
+
+-- an instant is not in the history, or the end is neither there nor behind it
+abbrev pub is_out_of_range : Option (ℕ × ℕ) → List ℕ → Option ℕ → Bool
+is_out_of_range span instants None = list_any (λ t. not (in_range span t)) instants
+is_out_of_range span instants (Some until) = list_any (λ t. not (in_range span t)) instants || not (in_range_or_next span until)
+
+-- the number of the name that has the text
+abbrev pub number_in_index : MachineState → List ℕ → Option ℕ
+number_in_index m text = number_of (names_in m.index) text
+
+-- the key of this text is indexed
+abbrev pub is_indexed : MachineState → List ℕ → Bool
+is_indexed m text = is_among m.indexes (number_in_index m text)
+
 -- The refusals of a command that needs this and is followed by these lines, in the order in which they are
 -- tested. Refused lines of a batch, and a file that is full, come later.
 abbrev pub refusals : MachineState → List ScriptLine → Needs → List Refusal
@@ -174,13 +208,17 @@ refusals m lines n =
     ++ (of n.parameters (λ p. when (not (are_parameters p.0 p.1 && nat_le p.2 SKEW_MAX)) refusal.Parameters)
     ++ (when (n.unloaded && is_some (span_of (events_in_index m.index))) refusal.AlreadyLoaded
     ++ (when (nat_lt 0 n.changes && is_full m n.changes) (refusal.HistoryFull (length (events_in_index m.index)) n.changes)
-    ++ (when (list_any (λ t. not (in_range (span_of (events_in_index m.index)) t)) n.instants) (refusal.OutOfRange (span_of (events_in_index m.index)))
+    ++ (when (is_out_of_range (span_of (events_in_index m.index)) n.instants n.until) (refusal.OutOfRange (span_of (events_in_index m.index)))
     ++ (of n.handle (λ h. when (not (is_some (stands_at h m.table))) (refusal.UnknownHandle h))
     ++ (of n.handle (λ h. when (n.overlay && is_set (stands_at h m.table)) (refusal.NotAnOverlay h))
     ++ (of n.unused (λ h. of (dependent_on h m.table) (λ d. refusal.InUse d ∷ []))
     ++ (of n.node (λ v. when (not (has_index_node m v)) refusal.UnknownNode)
+    ++ (of n.unindexed (λ key. when (not (is_some (number_in_index m key))) refusal.UnknownKey)
+    ++ (of n.indexed (λ key. when (not (is_indexed m key)) refusal.NotIndexed)
+    ++ (of n.unindexed (λ key. when (is_indexed m key) refusal.AlreadyIndexed)
+    ++ (of n.unindexed (λ key. when (nat_le INDEXES_MAX (length m.indexes)) refusal.IndexesFull)
     ++ (when (nat_lt 0 n.handles && nat_lt LIVE_HANDLES_MAX (length m.table + n.handles)) (refusal.PoolFull (length m.table) n.handles)
-    ++ when (nat_lt 0 n.handles && nat_lt (HANDLE_MAX + 1) (m.next + n.handles)) refusal.HandlesSpent))))))))))))
+    ++ when (nat_lt 0 n.handles && nat_lt (HANDLE_MAX + 1) (m.next + n.handles)) refusal.HandlesSpent))))))))))))))))
 
 -- the first refusal that holds
 abbrev pub refused : MachineState → Command → List ScriptLine → Option Refusal

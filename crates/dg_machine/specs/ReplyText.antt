@@ -125,6 +125,10 @@ refusal_words refusal.HandlesSpent = codes "19" ∷ codes "handles-spent" ∷ []
 refusal_words refusal.AlreadyLoaded = codes "20" ∷ codes "already-loaded" ∷ []
 refusal_words refusal.NewFormat = codes "21" ∷ codes "new-format" ∷ []
 refusal_words refusal.OldFormat = codes "22" ∷ codes "old-format" ∷ []
+refusal_words refusal.UnknownKey = codes "23" ∷ codes "unknown-key" ∷ []
+refusal_words refusal.NotIndexed = codes "24" ∷ codes "not-indexed" ∷ []
+refusal_words refusal.AlreadyIndexed = codes "25" ∷ codes "already-indexed" ∷ []
+refusal_words refusal.IndexesFull = codes "26" ∷ codes "indexes-full" ∷ []
 
 -- the words of a head line
 abbrev pub head_words : Head → List (List ℕ)
@@ -154,6 +158,9 @@ head_words (head.Generated events last nodes edges) =
 head_words (head.Tree l k function events leaves records) =
     codes "ok" ∷ codes "tree" ∷ decimal l ∷ decimal k ∷ (function_words function ++ decimal events ∷ decimal leaves ∷ decimal records ∷ [])
 head_words (head.Chosen handle weight) = codes "ok" ∷ codes "expression" ∷ decimal handle ∷ decimal weight ∷ []
+head_words (head.Added handle weight) = codes "ok" ∷ codes "interval" ∷ decimal handle ∷ decimal weight ∷ []
+head_words (head.Indexed spans weight) = codes "ok" ∷ codes "index" ∷ decimal spans ∷ decimal weight ∷ []
+head_words (head.Found lines) = codes "ok" ∷ codes "find" ∷ decimal lines ∷ []
 head_words (head.Refused r) = codes "refused" ∷ refusal_words r
 
 -- words with a space between each two, and a line feed

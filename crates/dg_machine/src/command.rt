@@ -1,5 +1,6 @@
 //! The commands of a script, and the queries of a handle.
 use crate::selection::Selection;
+use crate::texts::{KeyText, ValueText};
 use dg_graph::{Columns, Function};
 use dg_history::NodeId;
 
@@ -107,5 +108,15 @@ pub enum Command {
     Select {
         what: Selection,
         cols: Columns,
+    },
+    /// Make an index from the values of this node attribute to the nodes that have them.
+    Index {
+        key: KeyText,
+    },
+    /// List the nodes that have this value of an indexed node attribute as of the instant `t`.
+    Find {
+        t: u64,
+        key: KeyText,
+        value: ValueText,
     },
 }

@@ -8,12 +8,15 @@ mod limits;
 mod reply;
 mod selection;
 mod stands;
+mod texts;
 
 pub use command::{Command, Query, TIMES_MAX};
 pub use laws::law_machine_is_determined;
 pub use limits::{
-    FIRST_HANDLE, HANDLE_MAX, LIVE_HANDLES_MAX, Limits, SCRIPT_BYTES_MAX, machine_limits,
+    FIRST_HANDLE, HANDLE_MAX, INDEXES_MAX, LIVE_HANDLES_MAX, Limits, SCRIPT_BYTES_MAX,
+    machine_limits,
 };
 pub use reply::{BodyLine, BodyLines, Head, Refusal, Reply};
 pub use selection::Selection;
 pub use stands::Stands;
+pub use texts::{KeyText, ValueText};

@@ -24,6 +24,9 @@ pub const SCRIPT_BYTES_MAX: u64 = 1_099_511_627_776;
 /// The most handles that live at one time.
 pub const LIVE_HANDLES_MAX: usize = 127;
 
+/// The most node attributes that are indexed at one time.
+pub const INDEXES_MAX: usize = 16;
+
 /// The number of the first handle, at the standard limits. No handle has a lower one.
 pub const FIRST_HANDLE: u32 = 1;
 
@@ -44,8 +47,8 @@ impl Limits {
     }
 }
 
-/// The limits as numbers: bytes of a script, handles that live, the first of them, the greatest number of one, and
-/// instants of one command.
+/// The limits as numbers: bytes of a script, handles that live, the first of them, the greatest number of one,
+/// instants of one command, and indexed attributes.
 /// Does nothing.
 pub fn machine_limits()
     ensures script { SCRIPT_BYTES_MAX ≡ 2 ^ 40 }
@@ -53,4 +56,5 @@ pub fn machine_limits()
     ensures first { FIRST_HANDLE ≡ 1 }
     ensures greatest { HANDLE_MAX ≡ 2 ^ 32 - 1 }
     ensures times { TIMES_MAX ≡ 32 }
+    ensures indexes { INDEXES_MAX ≡ 16 }
 {}

@@ -130,6 +130,20 @@ pub enum Head {
         handle: u32,
         weight: u64,
     },
+    /// The elements that were added between two instants are held as this handle: the weight of the lists in between.
+    Added {
+        handle: u32,
+        weight: u64,
+    },
+    /// A node attribute is indexed: the events that set a value of it, and the weight of the columns that were read.
+    Indexed {
+        spans: u64,
+        weight: u64,
+    },
+    /// The nodes that have a value of an indexed attribute: as many lines follow.
+    Found {
+        lines: u64,
+    },
     /// The command was refused, and nothing has changed.
     Refused(Refusal),
 }
@@ -183,6 +197,14 @@ pub enum Refusal {
     NewFormat,
     /// 22: a line of the batch is a message, and the file has its first form.
     OldFormat,
+    /// 23: no name has the text of the key that is to be indexed.
+    UnknownKey,
+    /// 24: the key is not indexed.
+    NotIndexed,
+    /// 25: the key is indexed already.
+    AlreadyIndexed,
+    /// 26: as many keys are indexed as may be.
+    IndexesFull,
 }
 
 /// A line of a reply's body.

@@ -7,4 +7,7 @@ use dg_expr::Expr;
 pub enum Selection {
     /// Those of which the expression over instants holds, of those that are in the graph of one of its instants at least.
     Chosen(Expr),
+    /// Those that the events from `from` on and before `until` add, with the messages of these events, whether or not they
+    /// are there later.
+    Added { from: u64, until: u64 },
 }

@@ -72,6 +72,9 @@ pub(crate) fn head_line(head: &Head) -> ReplyLine<'static>
         Head::Chosen { handle, weight } => {
             numbers_line(b"expression", u64::from(handle), weight)
         }
+        Head::Added { handle, weight } => numbers_line(b"interval", u64::from(handle), weight),
+        Head::Indexed { spans, weight } => numbers_line(b"index", spans, weight),
+        Head::Found { lines } => ReplyLine::of(&[OK, Word::Text(b"find"), Word::Number(lines)]),
         Head::Refused(refusal) => refusal_line(refusal),
     }
 }

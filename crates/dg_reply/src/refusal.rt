@@ -56,6 +56,10 @@ pub(crate) fn refusal_line(refusal: Refusal) -> ReplyLine<'static>
         Refusal::AlreadyLoaded => refused(b"20", b"already-loaded"),
         Refusal::NewFormat => refused(b"21", b"new-format"),
         Refusal::OldFormat => refused(b"22", b"old-format"),
+        Refusal::UnknownKey => refused(b"23", b"unknown-key"),
+        Refusal::NotIndexed => refused(b"24", b"not-indexed"),
+        Refusal::AlreadyIndexed => refused(b"25", b"already-indexed"),
+        Refusal::IndexesFull => refused(b"26", b"indexes-full"),
     }
 }
 
