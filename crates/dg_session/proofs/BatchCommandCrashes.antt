@@ -1,5 +1,5 @@
 -- What a crash may leave while a batch is added, as the machine goes.
-use Rattle.std.proofs.Common.{◌≡◌, ◌⊎◌, inl, inr, ℕ, ◌+◌, ◌≤◌, true, List, Option, Some, None, Result, Ok, Err, length, refl, sym, ◌∙◌, ap, subst}
+use Rattle.std.proofs.Common.{◌≡◌, ◌⊎◌, inl, inr, ℕ, ◌+◌, ◌≤◌, true, List, Option, Some, None, Result, Ok, Err, length, refl, sym, ◌∙◌, subst}
 use Rattle.std.specs.Prelude.{IfSome}
 use Rattle.dg_append.specs.AddedBatches.{AddsBatch, AddsBatchOrNot, AddsBehindOrNot, BreaksBatch, ComesToSegment, FailsBatch, TakesForm, batch_with}
 use Rattle.dg_append.specs.declared.batch.AddedBatch.{AddedBatch}
@@ -12,7 +12,6 @@ use Rattle.dg_append.specs.Fronts.{ComeTo}
 use Rattle.dg_batch.specs.Halt.{batch_halt}
 use Rattle.dg_disk.specs.Calls.{LeftByCrash, ReadsDisk}
 use Rattle.dg_disk.specs.declared.disk.Disk.{Ghosts}
-use Rattle.dg_graph.specs.declared.element.Element.{Element}
 use Rattle.dg_graph.specs.declared.event.Event.{Event}
 use Rattle.dg_text.specs.Lines.{ScriptLine}
 use Rattle.dg_graph.specs.Replay.{replay_from}
@@ -130,8 +129,7 @@ module _ (from : Origin) (got : List ScriptLine) (p : Parts) (count limit : ℕ)
         let d : AddsBatch index limit b l new (g.image before) (g.image after) x =
         of_here (index_opening l.history.index) index (λ (o : Opening). AddsBatch o limit b l new (g.image before) (g.image after) x) (opening_there from got p count limit l b asked) adds in
         let is : headed (head_over from new.history.now.graph (length x.events.items) x.total x.last) ≡ reply (g.image before) d.events d.segment d.comes d.fits =
-        (λ i. headed (head_over from new.history.now.graph (length (d.told.0 i)) (d.told.1 i) (d.told.2 i)))
-        ∙ ap (λ (set : List Element). headed (head_over from set (length d.events) (event_total index.batches + length d.events) (last_time_from 0 d.events))) d.graph in
+        λ i. headed (head_over from (d.graph i) (length (d.told.0 i)) (d.told.1 i) (d.told.2 i)) in
         subst (λ (r : Reply). LeftByCrash g before after (LeavesAnswered (adding from count) got p r)) (sym is)
         (wider g before after (AddsBatchOrNot b l.history) (LeavesAnswered (adding from count) got p (reply (g.image before) d.events d.segment d.comes d.fits))
         (λ image left at adds. answered_left (g.image before) d.events d.segment d.comes d.fits image left at adds) run)

@@ -1,5 +1,5 @@
 -- Which bytes a command that adds a batch has read, and which damage it tells of.
-use Rattle.std.proofs.Common.{◌≡◌, ℕ, true, false, List, [], ◌∷◌, Option, Some, Result, Ok, Err, length, refl, sym, ◌∙◌, ap, subst, arith}
+use Rattle.std.proofs.Common.{◌≡◌, inl, inr, ℕ, Bool, true, false, List, [], ◌∷◌, Option, Some, Result, Ok, Err, if◌then◌else◌, length, nat_lt, refl, sym, ◌∙◌, ap, subst, arith}
 use Rattle.std.specs.Prelude.{IfSome}
 use Rattle.std.specs.List.{sum}
 use Rattle.std.proofs.lemmas.Bool.{false≢true}
@@ -42,7 +42,7 @@ use Rattle.dg_session.proofs.PlanStep.{older_are, records_edges_are}
 use Rattle.dg_session.proofs.SessionRetrievals.{every_some, if_some}
 use Rattle.dg_session.proofs.PartStates.{is_of}
 use Rattle.dg_session.proofs.SessionSteps.{refused_not_read}
-use Rattle.dg_session.specs.BatchCommand.{barred, command_with}
+use Rattle.dg_session.specs.BatchCommand.{Bars, barred, command_with}
 use Rattle.dg_batch.specs.BatchLines.{IsBarred, ReadsBatch, first_refusal}
 use Rattle.dg_session.specs.Damage.{Batch_of, DamageIn, DamageIs, MeetsNone, NamesBatchDamage, reads_for}
 use Rattle.dg_session.specs.declared.batch_command.BatchCommand.{BatchCommand}
@@ -123,19 +123,28 @@ added_reads from count p image graph events total last before after older =
 
 -- the lines are no batch to be completed
 barred_no_read : (which : BatchCommand) (count : ℕ) (p : Parts) (names grown : List (List ℕ)) (taken : List ScriptLine → Type 0) (bar : Option Refusal) (r : Refusal)
-    → bar ≡ barred which p count → IsBarred count bar taken names grown r → is_of_read r ≡ false
-barred_no_read which count p names grown taken bar r bar_is b =
+    → Bars (barred which p count) bar → IsBarred count bar taken names grown r → is_of_read r ≡ false
+barred_no_read which count p names grown taken bar r (inl bar_is) b =
     refused_not_read p (length b.got) (needs (command_with which count)) r
     (refused_first which p count (length b.got) ∙ ap (first_refusal (length b.got) count) (sym bar_is) ∙ b.refused)
+barred_no_read which count p names grown taken bar r (inr lacks) b =
+    by (nat_lt (length b.got) count) (ap (first_refusal (length b.got) count) (sym lacks.1) ∙ b.refused)
+  where
+    same_some : (a : Refusal) → (let x : Option Refusal = Some a in x) ≡ Some r → a ≡ r
+    same_some a e = cc
+
+    by : (short : Bool) → (if short then Some (refusal.ShortBatch (length b.got) count) else Some refusal.OutOfMemory) ≡ Some r → is_of_read r ≡ false
+    by true e = ap is_of_read (sym (same_some (refusal.ShortBatch (length b.got) count) e))
+    by false e = ap is_of_read (sym (same_some refusal.OutOfMemory e))
 
 pub unread_damage : (which : BatchCommand) (count : ℕ) (p : Parts) (names grown : List (List ℕ)) (taken : List ScriptLine → Type 0) (cut : Type 0) (bar : Option Refusal) (image : Option (List ℕ)) (h : Halt)
-    → bar ≡ barred which p count → ReadsBatch count bar taken cut names grown (Err h) → DamageIn (command_with which count) p image (Err h)
+    → Bars (barred which p count) bar → ReadsBatch count bar taken cut names grown (Err h) → DamageIn (command_with which count) p image (Err h)
 unread_damage which count p names grown taken cut bar image (halt.Refusal r) bar_is b =
     tells_no_damage (command_with which count) p image r (barred_no_read which count p names grown taken bar r bar_is b)
 unread_damage which count p names grown taken cut bar image (halt.Stop s) bar_is b = tt
 
 pub unread_is_no_read : (which : BatchCommand) (count : ℕ) (p : Parts) (names grown : List (List ℕ)) (taken : List ScriptLine → Type 0) (cut : Type 0) (bar : Option Refusal) (h : Halt)
-    → bar ≡ barred which p count → ReadsBatch count bar taken cut names grown (Err h) → h ≡ halt.Refusal refusal.StoreRead → ⊥
+    → Bars (barred which p count) bar → ReadsBatch count bar taken cut names grown (Err h) → h ≡ halt.Refusal refusal.StoreRead → ⊥
 unread_is_no_read which count p names grown taken cut bar (halt.Refusal r) bar_is b is =
     let e : r ≡ refusal.StoreRead = cc in
     false≢true (sym (barred_no_read which count p names grown taken bar r bar_is b) ∙ ap is_of_read e)

@@ -6,6 +6,7 @@ use Rattle.std.proofs.lemmas.Bool.{false≢true, not-false}
 use Rattle.std.proofs.lemmas.List.{length-map, take-append-drop}
 use Rattle.std.proofs.Math.ListN.{get_or-map}
 use borrow.Author.Tests.{le-leb, lt-ltb, le-ltb, ltb-false}
+use Rattle.dg_aux.specs.Turns.{AuxState, HasRoomFor, said_over}
 use Rattle.dg_append.proofs.Overlays.{same_slots}
 use Rattle.dg_append.specs.Overlays.{IsOverlayOf, SameSlots, pool_in, pool_of}
 use Rattle.dg_append.specs.AddedBatches.{AddsBatch, BreaksBatch, ComesToSegment, FailsBatch, FailsToRead, FillsFile, IsAsKnown, IsBack, IsOldFormat, IsOverHistory, IsReady, MayAdd, TakesForm, batch_with, recent_behind}
@@ -71,7 +72,7 @@ use Rattle.dg_session.proofs.ReplyNames.{head_names}
 use Rattle.dg_session.proofs.PartStates.{IsOf, both_told, by_first, is_of, one_told, opening_of, passes, refused_is, stands}
 use Rattle.dg_session.proofs.SessionSteps.{Comes, accepted_is, accepted_steps, denied, denied_at, failing_denies, is_accepted, lacking_denies, refused_denies}
 use Rattle.dg_batch.specs.HandlesStay.{HandlesStay}
-use Rattle.dg_session.specs.BatchCommand.{barred, command_with}
+use Rattle.dg_session.specs.BatchCommand.{Bars, barred, command_with}
 use Rattle.dg_batch.specs.BatchLines.{IsBarred, IsBatch, NamesGrow, ReadsBatch, first_refusal}
 use Rattle.dg_session.specs.declared.batch_command.BatchCommand.{BatchCommand}
 use Rattle.dg_session.specs.declared.batch_command.BatchCommand.TheVariants.{Load, Append}
@@ -84,7 +85,9 @@ use Rattle.dg_ask.specs.HeldIndex.{events_held, span_held}
 use Rattle.dg_handles.specs.Handles.{HandlesState, slot_graphs}
 use Rattle.dg_pool.specs.Graphs.{PoolState, slot_graph}
 use Rattle.dg_ask.proofs.KeptAdjacencies.{graphs_same}
+use Rattle.dg_session.proofs.IndexesSaid.{all_said_more}
 use Rattle.dg_session.specs.Parts.{Parts}
+use Rattle.dg_session.specs.ValuesSaid.{IndexKept, all_said_with, said_of}
 use Rattle.dg_session.specs.Session.{Accepts, ComesTo, CutsOff, Denies, Moves, StandsFor, TakesLines, is_reached, is_too_full, refusals_by, refused_by}
 use Rattle.dg_stored.specs.declared.stored_history.StoredHistory.{StoredHistory}
 use Rattle.dg_sound_files.proofs.OpenedIndexRecords.{form_is}
@@ -105,6 +108,11 @@ none_first read count bar h = by (nat_lt read count) refl h
     by : (short : Bool) → nat_lt read count ≡ short → (if short then Some (refusal.ShortBatch read count) else bar) ≡ None → (count ≤ read) × (bar ≡ None)
     by true is e = cc
     by false is e = (ltb-false read count is, e)
+
+-- a batch that was read is barred by nothing
+pub none_barred : (bar : Option Refusal) (barred : Option Refusal) (count read : ℕ) → Bars barred bar → first_refusal read count bar ≡ None → (bar ≡ barred) × (bar ≡ None)
+none_barred bar barred count read (inl is) free = (is, (none_first read count bar free).1)
+none_barred bar barred count read (inr lacks) free = absurd (let e : Some refusal.OutOfMemory ≡ None = sym lacks.1 ∙ (none_first read count bar free).1 in cc)
 
 -- what holds where nothing bars the batch
 pub record IsFree (p : Parts) (count : ℕ) : Type 0 where
@@ -146,6 +154,11 @@ none_bars Append p count some h =
     let c = passes (nat_lt 0 count && is_too_full p count) (refusal.HistoryFull (events_held p.index) count) _ a.1 in
     free_by p count some a.0 c.0
 
+-- nothing bars it but what bars the command
+pub bars_none : (bar : Option Refusal) (barred : Option Refusal) → Bars barred bar → bar ≡ None → barred ≡ None
+bars_none bar barred (inl is) none = sym is ∙ none
+bars_none bar barred (inr lacks) none = lacks.0
+
 pub barred_denies : (which : BatchCommand) (count : ℕ) (old new : Parts) (names grown : List (List ℕ)) (taken : List ScriptLine → Type 0) (image : Option (List ℕ)) (r : Refusal)
     → new ≡ old → (b : IsBarred count (barred which old count) taken names grown r)
     → Denies (command_with which count) b.got old image new image r
@@ -162,11 +175,50 @@ unread which count old new names grown taken cut image (halt.Stop stop.Read) bac
 unread which count old new names grown taken cut image (halt.Stop stop.Limit) back b no_store = ([], b.1, record { same = back b.0; same_image = refl })
 unread which count old new names grown taken cut image (halt.Stop stop.Store) back b no_store = absurd (no_store refl)
 
-pub unread_comes : (which : BatchCommand) (count : ℕ) (old new : Parts) (names grown : List (List ℕ)) (taken : List ScriptLine → Type 0) (cut : Type 0) (image : Option (List ℕ)) (h : Halt) (bar : Option Refusal)
-    → (grown ≡ names → new ≡ old) → bar ≡ barred which old count → ReadsBatch count bar taken cut names grown (Err h) → (h ≡ halt.Stop stop.Store → ⊥)
+-- where memory lacks for a batch that nothing else bars
+short_or_lacks : (short : Bool) (read count : ℕ) (r : Refusal) (P : Refusal → Type 0) → (if short then Some (refusal.ShortBatch read count) else Some refusal.OutOfMemory) ≡ Some r
+    → (short ≡ true → P (refusal.ShortBatch read count)) → (short ≡ false → P refusal.OutOfMemory) → P r
+short_or_lacks true read count r P is short lacks = subst P (same_some (refusal.ShortBatch read count) r is) (short refl)
+  where
+    same_some : (a b : Refusal) → (let x : Option Refusal = Some a in x) ≡ Some b → a ≡ b
+    same_some a b e = cc
+short_or_lacks false read count r P is short lacks = subst P (same_some refusal.OutOfMemory r is) (lacks refl)
+  where
+    same_some : (a b : Refusal) → (let x : Option Refusal = Some a in x) ≡ Some b → a ≡ b
+    same_some a b e = cc
+
+takes_memory : (which : BatchCommand) (count : ℕ) → (needs (command_with which count)).memory ≡ true
+takes_memory Load count = refl
+takes_memory Append count = refl
+
+without_memory_denies : (which : BatchCommand) (count : ℕ) (old new : Parts) (names grown : List (List ℕ)) (taken : List ScriptLine → Type 0) (image : Option (List ℕ)) (r : Refusal)
+    → new ≡ old → barred which old count ≡ None → (b : IsBarred count (Some refusal.OutOfMemory) taken names grown r)
+    → Denies (command_with which count) b.got old image new image r
+without_memory_denies which count old new names grown taken image r same none b =
+    let read : ℕ = length b.got in
+    let by_test : (short : Bool) → nat_lt read count ≡ short → refused_by old read (needs (command_with which count)) ≡ (if short then Some (refusal.ShortBatch read count) else None) =
+    λ short e. refused_first which old count read ∙ ap (λ (bar : Option Refusal). first_refusal read count bar) none ∙ ap (λ (s : Bool). if s then Some (refusal.ShortBatch read count) else None) e in
+    short_or_lacks (nat_lt read count) read count r (Denies (command_with which count) b.got old image new image) b.refused
+    (λ e. refused_denies (command_with which count) b.got old new image image (refusal.ShortBatch read count) same refl (by_test true e))
+    (λ e. lacking_denies (command_with which count) b.got old new image image same refl (takes_memory which count) (by_test false e))
+
+unread_without_memory : (which : BatchCommand) (count : ℕ) (old new : Parts) (names grown : List (List ℕ)) (taken : List ScriptLine → Type 0) (cut : Type 0) (image : Option (List ℕ)) (h : Halt)
+    → (grown ≡ names → new ≡ old) → barred which old count ≡ None → ReadsBatch count (Some refusal.OutOfMemory) taken cut names grown (Err h) → (h ≡ halt.Stop stop.Store → ⊥)
     → Comes (command_with which count) taken cut old image new image (Err h)
-unread_comes which count old new names grown taken cut image h bar back bar_is b no_store =
-    unread which count old new names grown taken cut image h back (subst (λ (r : Option Refusal). ReadsBatch count r taken cut names grown (Err h)) bar_is b) no_store
+unread_without_memory which count old new names grown taken cut image (halt.Refusal r) back none b no_store =
+    (b.got, b.taken, without_memory_denies which count old new names grown taken image r (back b.same) none b)
+unread_without_memory which count old new names grown taken cut image (halt.Stop stop.Read) back none b no_store = ([], b.1, record { same = back b.0; same_image = refl })
+unread_without_memory which count old new names grown taken cut image (halt.Stop stop.Limit) back none b no_store = ([], b.1, record { same = back b.0; same_image = refl })
+unread_without_memory which count old new names grown taken cut image (halt.Stop stop.Store) back none b no_store = absurd (no_store refl)
+
+-- it is barred so only where this bars it, or memory lacks
+pub unread_comes : (which : BatchCommand) (count : ℕ) (old new : Parts) (names grown : List (List ℕ)) (taken : List ScriptLine → Type 0) (cut : Type 0) (image : Option (List ℕ)) (h : Halt) (bar : Option Refusal)
+    → (grown ≡ names → new ≡ old) → Bars (barred which old count) bar → ReadsBatch count bar taken cut names grown (Err h) → (h ≡ halt.Stop stop.Store → ⊥)
+    → Comes (command_with which count) taken cut old image new image (Err h)
+unread_comes which count old new names grown taken cut image h bar back (inl is) b no_store =
+    unread which count old new names grown taken cut image h back (subst (λ (r : Option Refusal). ReadsBatch count r taken cut names grown (Err h)) is b) no_store
+unread_comes which count old new names grown taken cut image h bar back (inr lacks) b no_store =
+    unread_without_memory which count old new names grown taken cut image h back lacks.0 (subst (λ (r : Option Refusal). ReadsBatch count r taken cut names grown (Err h)) lacks.1 b) no_store
 
 -- a batch that was read and is not added
 pub takes_failed : (taken : List ScriptLine → Type 0) (cut : Type 0) (got : List ScriptLine) (f : BatchFault)
@@ -208,11 +260,11 @@ pub record IsAsked (from : Origin) (got : List ScriptLine) (p : Parts) (count li
   pub few_names : b.front ≡ Whole → length l.history.names ≤ NAMES_MAX
 
 -- it is so of lines that were read, where the session's parts are those that it was called with
-pub is_asked : (which : BatchCommand) (p called : Parts) (count : ℕ) (l : Live) (b : Batch) (taken : List ScriptLine → Type 0) (bar : Option Refusal)
-    → p ≡ called → bar ≡ barred which called count → p.index ≡ index_opening l.history.index → l.history.now.graph ≡ p.graph → l.history.recent.items ≡ p.recent → p.limits.events ≤ EVENTS_MAX → 1 ≤ count → count ≤ BATCH_LINES_MAX
+pub is_asked : (which : BatchCommand) (p called : Parts) (count : ℕ) (l : Live) (b : Batch) (taken : List ScriptLine → Type 0) (plain bar : Option Refusal)
+    → p ≡ called → plain ≡ barred which called count → Bars plain bar → p.index ≡ index_opening l.history.index → l.history.now.graph ≡ p.graph → l.history.recent.items ≡ p.recent → p.limits.events ≤ EVENTS_MAX → 1 ≤ count → count ≤ BATCH_LINES_MAX
     → (r : IsBatch count bar taken p.names l.history.names b) → IsAsked (Lines_of which) r.got p count p.limits.file_bytes l b
-is_asked which p called count l b taken bar same bar_is index graph recent few_events some few r =
-    let bar_here : bar ≡ barred which p count = bar_is ∙ ap (λ (x : Parts). barred which x count) (sym same) in
+is_asked which p called count l b taken plain bar same plain_is bars index graph recent few_events some few r =
+    let bar_here : bar ≡ barred which p count = (none_barred bar plain count (length r.got) bars r.free).0 ∙ plain_is ∙ ap (λ (x : Parts). barred which x count) (sym same) in
     let first : first_refusal (length r.got) count (barred which p count) ≡ None = ap (first_refusal (length r.got) count) (sym bar_here) ∙ r.free in
     let none = none_first (length r.got) count (barred which p count) first in
     let all : length (map change_by_text_in r.got) ≡ count = omega (arith, length-map r.got change_by_text_in, r.most, none.0) in
@@ -321,6 +373,10 @@ kept_handles x h h' pool pool' same graphs =
 -- the session with what the history holds
 abbrev pub with_history : Parts → StoredHistory → Parts
 with_history p c = record p { index = index_opening c.index; names = c.names; graph = c.now.graph; recent = c.recent.items }
+
+-- the session with these indexes of values
+abbrev pub with_indexes : Parts → List IndexKept → Parts
+with_indexes p indexes = record p { indexes = indexes }
 
 -- the recent events behind those of a history and so many others
 recent_with : (p : Params) → 0 < p.l → (before events : List Event) → recent_behind p (length before) (recent_of p before) events ≡ recent_of p (before ++ events)
@@ -567,9 +623,9 @@ module _ (from : Origin) (got : List ScriptLine) (p : Parts) (count limit : ℕ)
       recent = recent_behind free.index.params (event_total free.index.batches) c.recent.items events;
     }
 
-    add_moves : (q : Parts) (before after : List ℕ) (reply : Reply) → told ≡ Some before → needed_for free.index segment ≤ limit → GainsBatch segment before after → q ≡ added_to → reply ≡ said
+    add_moves : (q : Parts) (indexes : List IndexKept) (before after : List ℕ) (reply : Reply) → told ≡ Some before → needed_for free.index segment ≤ limit → GainsBatch segment before after → q ≡ record added_to { indexes = indexes } → map said_of indexes ≡ all_said_with events (map said_of p.indexes) → reply ≡ said
         → Moves (adding from count) got p before q after reply
-    add_moves q before after reply at fits gains q_is reply_is m s =
+    add_moves q indexes before after reply at fits gains q_is values reply_is m s =
         let found = is_of p free.index before m free.there s in
         let z : History = found.0 in
         let h : IsOf p free.index before m z = found.1 in
@@ -582,12 +638,16 @@ module _ (from : Origin) (got : List ScriptLine) (p : Parts) (count limit : ℕ)
         let reached : All (λ (e : ℕ × Stands). is_reached z e.1 ≡ true) m.table =
         subst (λ (i : Option History). All (λ (e : ℕ × Stands). is_reached (history_in i) e.1 ≡ true) m.table) h.index s.reached in
         let graphs : p.graphs ≡ map (λ (e : ℕ × Stands). elements (with_batch z New) e.1) m.table =
-        s.graphs ∙ ap (λ (i : Option History). map (λ (e : ℕ × Stands). elements (history_in i) e.1) m.table) h.index ∙ graphs_more z pos New is.rises m.table reached in (
+        s.graphs ∙ ap (λ (i : Option History). map (λ (e : ℕ × Stands). elements (history_in i) e.1) m.table) h.index ∙ graphs_more z pos New is.rises m.table reached in
+        let of_keys : map said_of indexes ≡ map (said_over (events_of (with_batch z New))) m.indexes =
+        values ∙ ap (all_said_with events) (s.indexes ∙ ap (λ (i : Option History). map (said_over (events_of (history_in i))) m.indexes) h.index)
+        ∙ all_said_more (events_of z) events m.indexes
+        ∙ ap (λ es. map (said_over es) m.indexes) (sym (events_with z New)) in (
           k,
           subst (λ (r : Reply). Step m (Asked (adding from count) got) r k) (sym reply_is) (steps_as before m s (record { reply = said; state = k }) is.answered),
-          stands q after k
-              (q_is ∙ (λ i. record { limits = s.limits i; index = index i; names = is.names i; graph = is.graph i; recent = is.recent i; table = s.table i; graphs = graphs i; next = s.next i }))
-              (gains z New h.stands is.legal (segment_is before at m z h)) (all_reached_more z pos New is.rises m.table reached) (λ none. cc),
+          stands q after k indexes
+              (q_is ∙ (λ i. record { limits = s.limits i; index = index i; names = is.names i; graph = is.graph i; recent = is.recent i; table = s.table i; graphs = graphs i; next = s.next i; indexes = indexes }))
+              of_keys (gains z New h.stands is.legal (segment_is before at m z h)) (all_reached_more z pos New is.rises m.table reached) (λ none. cc),
         )
 
     -- the disk failed
@@ -623,6 +683,15 @@ module _ (from : Origin) (got : List ScriptLine) (p : Parts) (count limit : ℕ)
     kept_as h h' back hs same =
         kept_handles (with_history p new.history) h h' (pool_of l.pool) (pool_of new.pool) hs (same_slots (pool_in l.pool) (pool_in new.pool) back.graphs) ∙ ap (λ (y : Parts). with_handles y h (pool_of l.pool)) (stays back) ∙ same
 
+    -- there is room in each index for the values of what was added
+    pub room_for_values : (x : AddedBatch) (indexes : List AuxState) → IfSome (index_opening c.index) (λ o. AddsBatch o limit b l new before after x) → All (λ (aux : AuxState). HasRoomFor aux count) indexes
+        → All (λ (aux : AuxState). HasRoomFor aux (length x.events.items)) indexes
+    room_for_values x indexes adds room =
+        let d : AddsBatch free.index limit b l new before after x =
+        of_here (index_opening c.index) free.index (λ o. AddsBatch o limit b l new before after x) opening_there adds in
+        let few : length x.events.items ≤ count = omega (arith, ap length d.told.0, d.many, a.within) in
+        λ k aux lt. let all = room k aux lt in omega arith
+
     -- after a fault the session keeps what it kept, its handles and their graphs among it
     pub failed_stays : (f : BatchFault) (h h' : HandlesState) → IsBack f known l new → HandlesStay (Err f) h h' → with_handles p h (pool_of l.pool) ≡ p → StaysAs f p (with_handles (with_history p new.history) h' (pool_of new.pool))
     failed_stays (fault.BadChange line reason) h h' back hs same = kept_as h h' back hs same
@@ -640,21 +709,22 @@ module _ (from : Origin) (got : List ScriptLine) (p : Parts) (count limit : ℕ)
     pub added_pool : (x : AddedBatch) → IfSome (index_opening c.index) (λ o. AddsBatch o limit b l new before after x) → is_some (pool_in new.pool) ≡ is_some (pool_in l.pool)
     added_pool x adds = (of_here (index_opening c.index) free.index (λ o. AddsBatch o limit b l new before after x) opening_there adds).pool
 
-    pub batch_added : (x : AddedBatch) → IfSome (index_opening c.index) (λ o. AddsBatch o limit b l new before after x)
-        → Accepts (adding from count) got p before (with_history p new.history) after (headed (head_over from new.history.now.graph (length x.events.items) x.total x.last))
-    batch_added x adds =
+    pub batch_added : (x : AddedBatch) (indexes : List IndexKept) → map said_of indexes ≡ all_said_with x.events.items (map said_of p.indexes) → IfSome (index_opening c.index) (λ o. AddsBatch o limit b l new before after x)
+        → Accepts (adding from count) got p before (with_indexes (with_history p new.history) indexes) after (headed (head_over from new.history.now.graph (length x.events.items) x.total x.last))
+    batch_added x indexes tells adds =
         let d : AddsBatch free.index limit b l new before after x =
         of_here (index_opening c.index) free.index (λ o. AddsBatch o limit b l new before after x) opening_there adds in
         let index : index_opening new.history.index ≡ Some (index_with free.index d.segment) = d.index in
         let names : new.history.names ≡ c.names = d.names in
-        let q_is : with_history p new.history ≡ added_to before d.events d.segment d.comes = λ i. record p { index = index i; names = names i; graph = d.graph i; recent = d.recent i } in
+        let q : Parts = with_indexes (with_history p new.history) indexes in
+        let values : map said_of indexes ≡ all_said_with d.events (map said_of p.indexes) = tells ∙ ap (λ es. all_said_with es (map said_of p.indexes)) d.told.0 in
+        let q_is : q ≡ record (added_to before d.events d.segment d.comes) { indexes = indexes } = λ i. record p { index = index i; names = names i; graph = d.graph i; recent = d.recent i; indexes = indexes } in
         let told : headed (head_over from new.history.now.graph (length x.events.items) x.total x.last) ≡ said before d.events d.segment d.comes =
-        (λ i. headed (head_over from new.history.now.graph (length (d.told.0 i)) (d.told.1 i) (d.told.2 i)))
-        ∙ ap (λ (set : List Element). headed (head_over from set (length d.events) (event_total free.index.batches + length d.events) (last_time_from 0 d.events))) d.graph in
+        λ i. headed (head_over from (d.graph i) (length (d.told.0 i)) (d.told.1 i) (d.told.2 i)) in
         record {
           moves = λ y z ey ez.
-              add_moves before d.events d.segment d.comes (with_history p new.history) y z (headed (head_over from new.history.now.graph (length x.events.items) x.total x.last)) ey d.fits
-              (both_told before after (GainsBatch d.segment) d.gains y z ey ez) q_is told;
+              add_moves before d.events d.segment d.comes q indexes y z (headed (head_over from new.history.now.graph (length x.events.items) x.total x.last)) ey d.fits
+              (both_told before after (GainsBatch d.segment) d.gains y z ey ez) q_is values told;
           accepted = ok_head from new.history.now.graph (length x.events.items) x.total x.last;
           free = a.not_refused;
           fits = fits_head from count new.history.now.graph (length x.events.items) x.total x.last;

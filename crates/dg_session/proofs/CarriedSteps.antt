@@ -98,6 +98,11 @@ no_file d c got p q before after r none comes same = record {
 
 module _ {S D : Type 0} {s : source.Ghosts S} {d : disk.Ghosts D} {c : Command} {lines : LinesState} {from : S} {then_lines : LinesState} {then_from : S}
     {old : SessionState} {before : D} {new : SessionState} {after : D} where
+  -- and the session is the same behind it
+  pub carried_as : (then_new : SessionState) (r : Result Reply Halt) → then_new ≡ new → CarriesOut s d c lines from then_lines then_from old before new after r
+      → CarriesOut s d c lines from then_lines then_from old before then_new after r
+  carried_as then_new r same carries = subst (λ (x : SessionState). CarriesOut s d c lines from then_lines then_from old before x after r) (sym same) carries
+
   -- it is answered by no refusal
   pub accepted_answers : (r : Result Reply Halt) (reply : Reply) → r ≡ Ok reply → HoldsImage old.parts (d.image before)
       → CarriesOut s d c lines from then_lines then_from old before new after r → AnswersCommand s d c lines from then_lines then_from old before new after reply
@@ -166,6 +171,24 @@ module _ {S D : Type 0} {s : source.Ghosts S} {d : disk.Ghosts D} {c : Command} 
         reads = k.file.reads;
         unwritten = λ other. k.unwritten (λ e. other (same_stop why stop.Store e));
       }
+
+  -- whatever the session forgets behind it where the file could not be written
+  pub stopped_after : (then_new : SessionState) (why : Stop) → (why ≢ stop.Store → then_new ≡ new) → StopsCommand s d c lines from then_lines then_from old before new after why
+      → StopsCommand s d c lines from then_lines then_from old before then_new after why
+  stopped_after then_new why same h = record {
+    stopped = record {
+      as_before = λ e. subst (λ (x : SessionState). IsAsBefore old.parts (d.image before) x.parts (d.image after)) (sym (same e)) (h.stopped.as_before e);
+      read = h.stopped.read;
+      limit = h.stopped.limit;
+      lines = h.stopped.lines;
+      unread = h.stopped.unread;
+      store = h.stopped.store;
+      store_cause = h.stopped.store_cause;
+    };
+    store_command = h.store_command;
+    reads = h.reads;
+    unwritten = h.unwritten;
+  }
 
 -- ---- what the methods say together
 

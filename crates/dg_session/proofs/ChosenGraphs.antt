@@ -2,7 +2,7 @@
 use Rattle.std.proofs.Common.{◌≡◌, inl, inr, ℕ, ◌||◌, Bool, true, false, not, ◌&&◌, List, [], ◌∷◌, cond, filter, length, map, refl, sym, ◌∙◌, ap, subst, arith}
 use Rattle.std.specs.Prelude.{Err, IfOk, Ok, Result, nat_eq}
 use Rattle.std.specs.List.{All, list_all, list_any}
-use Rattle.std.proofs.lemmas.Bool.{and_parts, eq-eqb, false≢true, or_cases}
+use Rattle.std.proofs.lemmas.Bool.{and_parts, eq-eqb, false≢true, not-false, or_cases, or_parts}
 use Rattle.std.proofs.lemmas.List.Elements.{All-head, All-tail}
 use Rattle.dg_expr.proofs.Expressions.{selected_is}
 use Rattle.dg_expr.specs.declared.expression.Word.{Word}
@@ -27,12 +27,12 @@ same_at_each pass f g (t ∷ times) each all =
     let parts = and_parts (pass t) (list_all pass times) all in
     λ i. each t parts.0 i ∷ same_at_each pass f g times each parts.1 i
 
--- what passes one test passes another
-pub each_passes : (p q : ℕ → Bool) (times : List ℕ) → ((t : ℕ) → p t ≡ true → q t ≡ true) → list_all p times ≡ true → list_all q times ≡ true
-each_passes p q [] each all = refl
-each_passes p q (t ∷ times) each all =
-    let parts = and_parts (p t) (list_all p times) all in
-    ap (λ (b : Bool). b && list_all q times) (each t parts.0) ∙ each_passes p q times each parts.1
+-- where what passes one test passes another, and none fails the one, none fails the other
+pub none_fails : (p q : ℕ → Bool) (times : List ℕ) → ((t : ℕ) → p t ≡ true → q t ≡ true) → list_any (λ t. not (p t)) times ≡ false → list_any (λ t. not (q t)) times ≡ false
+none_fails p q [] each none = refl
+none_fails p q (t ∷ times) each none =
+    let parts = or_parts (not (p t)) (list_any (λ u. not (p u)) times) none in
+    λ i. not (each t (not-false (p t) parts.0) i) || none_fails p q times each parts.1 i
 
 -- where none fails all pass
 pub all_pass : (p : ℕ → Bool) (times : List ℕ) → list_any (λ t. not (p t)) times ≡ false → list_all p times ≡ true

@@ -16,6 +16,8 @@ use Rattle.dg_machine.specs.declared.reply.Reply.{Reply}
 use Rattle.dg_machine.specs.Answer.{is_refusal, refusal_of}
 use Rattle.dg_machine.specs.Needs.{needs}
 use Rattle.dg_machine.specs.Run.{is_failed_read}
+use Rattle.dg_range.specs.Added.{range_columns}
+use Rattle.dg_range.specs.ColumnRuns.{TellsColumnDamage}
 use Rattle.dg_records.specs.declared.fault.RecordFault.{RecordFault}
 use Rattle.dg_records.specs.declared.fault.RecordFault.TheVariants as retrieval_fault
 use Rattle.dg_retrieval.specs.declared.retrieval.Retrieved.{Retrieved}
@@ -29,7 +31,7 @@ use Rattle.dg_retrieval.specs.Calls.{TellsDamage}
 use Rattle.dg_session.proofs.SessionRetrievals.{IsSession}
 use Rattle.dg_batch.specs.declared.halt.Halt.{Halt}
 use Rattle.dg_batch.specs.declared.halt.Halt.TheVariants as halt
-use Rattle.dg_session.specs.Damage.{DamageIn, DamageIs, Graphs, damage_told, IsMetBy, MeetsNone, NamesDamage, NamesNodeDamage, Node_set, ReadsFor, TellsGraphDamage, TellsNodeDamage, reads_for}
+use Rattle.dg_session.specs.Damage.{DamageIn, DamageIs, Events_of_lists, Graphs, damage_told, events_between, IsMetBy, MeetsNone, NamesDamage, NamesListFault, NamesNodeDamage, Node_set, ReadsFor, TellsGraphDamage, TellsListDamage, TellsNodeDamage, reads_for}
 use Rattle.dg_batch.specs.Halt.{retrieval_halt}
 use Rattle.dg_session.specs.Parts.{Parts}
 use Rattle.dg_session.specs.Retrievals.{TellsLeadDamage}
@@ -110,6 +112,24 @@ node_damage_in c p image node cols retrieval_fault.Disk is damage = tt
 node_damage_in c p image node cols retrieval_fault.Memory is damage = tt
 node_damage_in c p image node cols (retrieval_fault.Damaged key col) is damage = subst (λ (x : ReadsFor). IsMetBy x p image key col) (sym is) damage
 
+-- the fault of what reads these events of lists, by the index that the session has
+pub list_damage_over : {A : Type 0} (p : Parts) (o : Opening) (from until : ℕ) (cols : Columns) (told : Option (List ℕ)) (names : ℕ) (r : Result A RecordFault) → p.index ≡ Some o → names ≡ length p.names
+    → IfSome told (λ image. TellsColumnDamage names o (range_columns o from until cols) image r) → TellsListDamage p told (events_between from until cols) r
+list_damage_over {A = B} p o from until cols told names r there count damage =
+    by r (subst (λ n. IfSome told (λ image. TellsColumnDamage n o (range_columns o from until cols) image r)) count damage)
+  where
+    by : (r : Result B RecordFault) → IfSome told (λ image. TellsColumnDamage (length p.names) o (range_columns o from until cols) image r) → TellsListDamage p told (events_between from until cols) r
+    by (Ok x) d = (o, there, d)
+    by (Err retrieval_fault.Disk) d = tt
+    by (Err retrieval_fault.Memory) d = tt
+    by (Err (retrieval_fault.Damaged key col)) d = (o, there, d)
+
+pub list_damage_in : (c : Command) (p : Parts) (image : Option (List ℕ)) (read : ℕ → List ℕ → Opening → Result (List Event) (ℕ × Column)) (f : RecordFault) → reads_for c ≡ Events_of_lists read
+    → NamesListFault p image read f → DamageIn c p image (Err (retrieval_halt f))
+list_damage_in c p image read retrieval_fault.Disk is damage = tt
+list_damage_in c p image read retrieval_fault.Memory is damage = tt
+list_damage_in c p image read (retrieval_fault.Damaged key col) is damage = subst (λ (x : ReadsFor). IsMetBy x p image key col) (sym is) damage
+
 -- ---- what is read, and is not damaged
 
 -- a command that reads no records
@@ -123,6 +143,8 @@ reads_undamaged (command.At t cols) p image e = absurd (false≢true (sym e))
 reads_undamaged (command.Several cols times count) p image e = absurd (false≢true (sym e))
 reads_undamaged (command.Materialise node cols) p image e = absurd (false≢true (sym e))
 reads_undamaged (command.Select what cols) p image e = absurd (false≢true (sym e))
+reads_undamaged (command.Index key) p image e = absurd (false≢true (sym e))
+reads_undamaged (command.Find t key value) p image e = tt
 reads_undamaged (command.Ask handle q) p image e = tt
 reads_undamaged (command.Release handle) p image e = tt
 reads_undamaged (command.Clean cells) p image e = tt

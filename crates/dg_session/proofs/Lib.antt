@@ -1,3 +1,5 @@
+pub mod IndexesSaid
+pub mod IndexRuns
 pub mod PartStates
 pub mod SessionSteps
 pub mod AnswerHandles
@@ -13,6 +15,10 @@ pub mod SessionLeads
 pub mod SessionInstantStep
 pub mod SessionSeveralStep
 pub mod SessionSelectionStep
+pub mod SessionIndexStep
+pub mod SessionFindStep
+pub mod IntervalLists
+pub mod SessionIntervalStep
 pub mod ReadsStep
 pub mod DamageStep
 pub mod RecordListingStep

@@ -1,4 +1,4 @@
--- A command that lines follow stops for the limit where it is due.
+-- A command that lines follow stops for the limit where it is due; and which commands are not stopped for the file.
 use Rattle.std.proofs.Common.{◌≡◌, Result, Ok, Err, sym, ◌∙◌}
 use Rattle.dg_batch.specs.declared.halt.Halt.{Halt}
 use Rattle.dg_batch.specs.declared.halt.Halt.TheVariants as halt
@@ -17,3 +17,9 @@ not_refused r q stops is = let bad : halt.Refusal q ≡ halt.Stop stop.Limit = s
 
 pub stop_is : {A : Type 0} (r : Result A Halt) (s : Stop) → r ≡ Err (halt.Stop stop.Limit) → r ≡ Err (halt.Stop s) → s ≡ stop.Limit
 stop_is r s stops is = let same : halt.Stop s ≡ halt.Stop stop.Limit = same_fault r (halt.Stop stop.Limit) (halt.Stop s) stops is in cc
+
+pub refused_not_store : {A : Type 0} (r : Result A Halt) (q : Refusal) → r ≡ Err (halt.Refusal q) → r ≡ Err (halt.Stop stop.Store) → ⊥
+refused_not_store r q is stops = let bad : halt.Refusal q ≡ halt.Stop stop.Store = same_fault r (halt.Stop stop.Store) (halt.Refusal q) stops is in cc
+
+pub stops_as : {A : Type 0} (r : Result A Halt) (a b : Stop) → r ≡ Err (halt.Stop a) → r ≡ Err (halt.Stop b) → a ≡ b
+stops_as r a b first second = let same : halt.Stop a ≡ halt.Stop b = same_fault r (halt.Stop b) (halt.Stop a) second first in cc

@@ -1,7 +1,7 @@
 -- What a session keeps of the state that it stands for, and the refusals that follow from it.
 use Rattle.std.proofs.Common.{◌≡◌, ℕ, ◌+◌, Bool, true, false, not, List, [], ◌∷◌, ◌++◌, Option, Some, None, if◌then◌else◌, length, map, refl, sym, ◌∙◌, ap, subst, nat_le, nat_lt}
 use Rattle.std.specs.Prelude.{◌*◌, ◌&&◌, ◌||◌, IfSome, is_some}
-use Rattle.std.specs.List.{All, list_any}
+use Rattle.std.specs.List.{All}
 use Rattle.std.specs.Option.{option_map}
 use Rattle.std.proofs.lemmas.List.{map-append}
 use Rattle.std.proofs.lemmas.List.Elements.{All-append, All-cons, All-nil}
@@ -10,27 +10,32 @@ use Rattle.dg_graph.specs.declared.element.Element.{Element}
 use Rattle.dg_graph.specs.declared.event.Event.{Event}
 use Rattle.dg_graph.specs.declared.limits.TheConstants.{SKEW_MAX}
 use Rattle.dg_text.specs.declared.limits.TheConstants.{NAMES_MAX}
+use Rattle.dg_aux.specs.Turns.{said_over}
 use Rattle.dg_text.specs.Lines.{ScriptLine}
+use Rattle.dg_text.specs.Names.{number_of}
 use Rattle.dg_graph.specs.Replay.{replay}
 use Rattle.dg_history.specs.declared.params.Params.{Params}
-use Rattle.dg_history.specs.History.{History, are_parameters, events_of, in_range, is_wide, names_of, span_of}
+use Rattle.dg_history.specs.History.{History, are_parameters, events_of, is_wide, names_of, span_of}
 use Rattle.dg_index.specs.ImageOfHistory.{IsImageOf, StandsAs}
 use Rattle.dg_index.specs.IndexRecords.{recent_of}
 use Rattle.dg_index.specs.OpenedIndex.{Opening, opened_of}
 use Rattle.dg_machine.specs.declared.command.Command.{Command}
 use Rattle.dg_machine.specs.declared.limits.Limits.{Limits}
-use Rattle.dg_machine.specs.declared.limits.TheConstants.{HANDLE_MAX, LIVE_HANDLES_MAX}
+use Rattle.dg_machine.specs.declared.limits.TheConstants.{HANDLE_MAX, INDEXES_MAX, LIVE_HANDLES_MAX}
 use Rattle.dg_machine.specs.declared.reply.Refusal.{Refusal}
 use Rattle.dg_machine.specs.declared.reply.Refusal.TheVariants as refusal
 use Rattle.dg_machine.specs.declared.stands.Stands.{Stands}
 use Rattle.dg_machine.specs.Answer.{with_handle}
 use Rattle.dg_machine.specs.MachineState.{MachineState, dependent_on, elements, stands_at, events_in_index, graphs_of, history_in, names_in}
-use Rattle.dg_machine.specs.Needs.{Needs, can_be_held, earliest, is_set, needs, of, refused, when}
+use Rattle.dg_machine.specs.Needs.{Needs, can_be_held, earliest, is_out_of_range, is_set, needs, of, refused, when}
+use Rattle.dg_machine.specs.ValueIndex.{is_among}
 use Rattle.dg_ask.proofs.HeldIndexHistory.{count_is, span_is}
 use Rattle.dg_index.proofs.OpenedLegalHistories.{behind}
 use Rattle.dg_ask.specs.HeldIndex.{events_held, params_held, span_held}
+use Rattle.dg_session.proofs.IndexesSaid.{keys_of, many_of}
 use Rattle.dg_session.specs.Parts.{Parts}
-use Rattle.dg_session.specs.Session.{StandsFor, WhereBothTold, is_reached, is_wide_held, refused_by}
+use Rattle.dg_session.specs.ValuesSaid.{IndexKept, said_of}
+use Rattle.dg_session.specs.Session.{StandsFor, WhereBothTold, indexed_keys, is_reached, is_wide_held, refused_by}
 use Rattle.dg_sound_files.proofs.OpenedIndexRecords.{form_is}
 use Rattle.dg_stored.specs.StoredHistory.{KeepsHistory}
 
@@ -47,9 +52,9 @@ abbrev pub recent_in : Option History → List Event
 recent_in None = []
 recent_in (Some z) = recent_of z.params (events_of z)
 
--- what a session that stands for the state keeps
-abbrev pub parts_of : MachineState → Parts
-parts_of m = record {
+-- what a session that stands for the state keeps, with these indexes of values
+abbrev pub parts_of : MachineState → List IndexKept → Parts
+parts_of m indexes = record {
   limits = m.limits;
   index = option_map opening_of m.index;
   names = names_in m.index;
@@ -58,7 +63,12 @@ parts_of m = record {
   table = m.table;
   graphs = graphs_of m;
   next = m.next;
+  indexes = indexes;
 }
+
+-- these indexes say of the keys of the state what its history says
+abbrev pub AreOfKeys : MachineState → List IndexKept → Type 0
+AreOfKeys m indexes = map said_of indexes ≡ map (said_over (events_of (history_in m.index))) m.indexes
 
 -- what is kept of a history, or of none
 pub record AreOf (index : Option History) (p : Parts) : Type 0 where
@@ -75,7 +85,7 @@ keeps : (index : Option History) (p : Parts) → AreOf index p → KeepsHistory 
 keeps None p a = (a.index_is, a.names_are, a.graph_is, a.recent_are)
 keeps (Some z) p a = record { index_is = a.index_is; names_are = a.names_are; graph_is = a.graph_is; recent_are = a.recent_are }
 
-pub kept : (p : Parts) (image : List ℕ) (m : MachineState) → StandsFor p image m → p ≡ parts_of m
+pub kept : (p : Parts) (image : List ℕ) (m : MachineState) → StandsFor p image m → p ≡ parts_of m p.indexes
 kept p image m s =
     let a : AreOf m.index p = are_of m.index p s.kept in
     λ i. record {
@@ -87,14 +97,16 @@ kept p image m s =
       table = s.table i;
       graphs = s.graphs i;
       next = s.next i;
+      indexes = p.indexes;
     }
 
 -- the instants of all live handles are in the history
 abbrev pub AreReached : MachineState → Type 0
 AreReached m = All (λ (e : ℕ × Stands). is_reached (history_in m.index) e.1 ≡ true) m.table
 
-pub stands : (p : Parts) (image : List ℕ) (m : MachineState) → p ≡ parts_of m → StandsAs m.index image → AreReached m → (m.index ≡ None → m.table ≡ []) → StandsFor p image m
-stands p image m is here reached none = record {
+pub stands : (p : Parts) (image : List ℕ) (m : MachineState) (indexes : List IndexKept) → p ≡ parts_of m indexes → AreOfKeys m indexes → StandsAs m.index image → AreReached m → (m.index ≡ None → m.table ≡ [])
+    → StandsFor p image m
+stands p image m indexes is said here reached none = record {
   image_stands = here;
   kept = keeps m.index p (record {
     index_is = ap (λ (x : Parts). x.index) is;
@@ -107,6 +119,7 @@ stands p image m is here reached none = record {
   graphs = ap (λ (x : Parts). x.graphs) is;
   reached = reached;
   next = ap (λ (x : Parts). x.next) is;
+  indexes = ap (λ (x : Parts). map said_of x.indexes) is ∙ said;
   no_handles = none;
 }
 
@@ -168,24 +181,28 @@ is_of p o image m there s =
 
 -- ---- refusals
 
--- the refusals, by the form and the parameters, by how many events and names there are, by the first and the last instant, and
--- by the handles
-abbrev refusals_of : Bool → Bool → Limits → Params → ℕ → Option (ℕ × ℕ) → ℕ → List (ℕ × Stands) → ℕ → ℕ → Needs → List Refusal
-refusals_of there wide limits params events span names table next read n =
+-- the refusals, by the form and the parameters, by how many events there are, by the first and the last instant, by the names,
+-- by the keys that are indexed and how many they are, and by the handles
+abbrev refusals_of : Bool → Bool → Limits → Params → ℕ → Option (ℕ × ℕ) → List (List ℕ) → List ℕ → ℕ → List (ℕ × Stands) → ℕ → ℕ → Needs → List Refusal
+refusals_of there wide limits params events span names keys many table next read n =
     of n.lines (λ count. when (nat_lt read count) (refusal.ShortBatch read count))
     ++ (when (n.index && not there) refusal.NoIndex
     ++ (of n.parameters (λ p. when there refusal.IndexExists)
     ++ (when (n.first_form && wide) refusal.NewFormat
     ++ (of n.parameters (λ p. when (not (are_parameters p.0 p.1 && nat_le p.2 SKEW_MAX)) refusal.Parameters)
     ++ (when (n.unloaded && is_some span) refusal.AlreadyLoaded
-    ++ (when (nat_lt 0 n.changes && (nat_lt limits.events (events + n.changes) || nat_lt NAMES_MAX (names + 2 * n.changes))) (refusal.HistoryFull events n.changes)
-    ++ (when (list_any (λ t. not (in_range span t)) n.instants) (refusal.OutOfRange span)
+    ++ (when (nat_lt 0 n.changes && (nat_lt limits.events (events + n.changes) || nat_lt NAMES_MAX (length names + 2 * n.changes))) (refusal.HistoryFull events n.changes)
+    ++ (when (is_out_of_range span n.instants n.until) (refusal.OutOfRange span)
     ++ (of n.handle (λ h. when (not (is_some (stands_at h table))) (refusal.UnknownHandle h))
     ++ (of n.handle (λ h. when (n.overlay && is_set (stands_at h table)) (refusal.NotAnOverlay h))
     ++ (of n.unused (λ h. of (dependent_on h table) (λ d. refusal.InUse d ∷ []))
     ++ (of n.node (λ v. when (not (can_be_held params events v)) refusal.UnknownNode)
+    ++ (of n.unindexed (λ key. when (not (is_some (number_of names key))) refusal.UnknownKey)
+    ++ (of n.indexed (λ key. when (not (is_among keys (number_of names key))) refusal.NotIndexed)
+    ++ (of n.unindexed (λ key. when (is_among keys (number_of names key)) refusal.AlreadyIndexed)
+    ++ (of n.unindexed (λ key. when (nat_le INDEXES_MAX many) refusal.IndexesFull)
     ++ (when (nat_lt 0 n.handles && nat_lt LIVE_HANDLES_MAX (length table + n.handles)) (refusal.PoolFull (length table) n.handles)
-    ++ when (nat_lt 0 n.handles && nat_lt (HANDLE_MAX + 1) (next + n.handles)) refusal.HandlesSpent))))))))))))
+    ++ when (nat_lt 0 n.handles && nat_lt (HANDLE_MAX + 1) (next + n.handles)) refusal.HandlesSpent))))))))))))))))
 
 held_wide : (index : Option History) (image : List ℕ) → StandsAs index image → is_wide_held (option_map opening_of index) ≡ is_wide (history_in index).form
 held_wide None image h = refl
@@ -218,6 +235,13 @@ params_are p image m s = ap params_held (are_of m.index p s.kept).index_is ∙ h
 pub instants_are : (p : Parts) (image : List ℕ) (m : MachineState) → StandsFor p image m → span_held p.index ≡ span_of (events_in_index m.index)
 instants_are p image m s = ap span_held (are_of m.index p s.kept).index_is ∙ held_span m.index image s.image_stands
 
+-- the keys that are indexed, and how many indexes there are
+pub keys_are : (p : Parts) (image : List ℕ) (m : MachineState) → StandsFor p image m → indexed_keys p ≡ m.indexes
+keys_are p image m s = keys_of (events_of (history_in m.index)) p.indexes m.indexes s.indexes
+
+pub many_indexes : (p : Parts) (image : List ℕ) (m : MachineState) → StandsFor p image m → length p.indexes ≡ length m.indexes
+many_indexes p image m s = many_of (events_of (history_in m.index)) p.indexes m.indexes s.indexes
+
 pub refused_is : (p : Parts) (image : List ℕ) (m : MachineState) (c : Command) (lines : List ScriptLine) → StandsFor p image m
     → refused_by p (length lines) (needs c) ≡ refused m c lines
 refused_is p image m c lines s =
@@ -226,8 +250,10 @@ refused_is p image m c lines s =
     let params : params_held p.index ≡ (history_in m.index).params = params_are p image m s in
     let events : events_held p.index ≡ length (events_in_index m.index) = events_are p image m s in
     let span : span_held p.index ≡ span_of (events_in_index m.index) = instants_are p image m s in
-    let names : length p.names ≡ length (names_in m.index) = ap length (are_of m.index p s.kept).names_are in
-    λ i. earliest (refusals_of (there i) (wide i) (s.limits i) (params i) (events i) (span i) (names i) (s.table i) (s.next i) (length lines) (needs c))
+    let names : p.names ≡ names_in m.index = (are_of m.index p s.kept).names_are in
+    let keys : indexed_keys p ≡ m.indexes = keys_are p image m s in
+    let many : length p.indexes ≡ length m.indexes = many_indexes p image m s in
+    λ i. earliest (refusals_of (there i) (wide i) (s.limits i) (params i) (events i) (span i) (names i) (keys i) (many i) (s.table i) (s.next i) (length lines) (needs c))
 
 -- the first of these does not hold
 pub passes : (b : Bool) (r : Refusal) (rest : List Refusal) → earliest (when b r ++ rest) ≡ None → (b ≡ false) × (earliest rest ≡ None)
@@ -272,12 +298,12 @@ pub handle_taken : (p q : Parts) (image : List ℕ) (m : MachineState) (stands_a
     → q ≡ record p { table = p.table ++ (p.next, stands_as) ∷ []; graphs = p.graphs ++ graph ∷ []; next = p.next + 1 } → StandsFor q image (with_handle m stands_as)
 handle_taken p q image m stands_as graph s there reached graph_is is =
     let reaches : ℕ × Stands → Type 0 = λ e. is_reached (history_in m.index) e.1 ≡ true in
-    stands q image (with_handle m stands_as)
+    stands q image (with_handle m stands_as) p.indexes
     (is
     ∙ ap (λ (x : Parts). let y : Parts = record x { table = x.table ++ (x.next, stands_as) ∷ []; graphs = x.graphs ++ graph ∷ []; next = x.next + 1 } in y) (kept p image m s)
-    ∙ ap (λ (g : List Element). let y : Parts = record (parts_of m) { table = m.table ++ (m.next, stands_as) ∷ []; graphs = graphs_of m ++ g ∷ []; next = m.next + 1 } in y) graph_is
-    ∙ ap (λ (gs : List (List Element)). let y : Parts = record (parts_of m) { table = m.table ++ (m.next, stands_as) ∷ []; graphs = gs; next = m.next + 1 } in y) (graphs_with m stands_as))
-    s.image_stands
+    ∙ ap (λ (g : List Element). let y : Parts = record (parts_of m p.indexes) { table = m.table ++ (m.next, stands_as) ∷ []; graphs = graphs_of m ++ g ∷ []; next = m.next + 1 } in y) graph_is
+    ∙ ap (λ (gs : List (List Element)). let y : Parts = record (parts_of m p.indexes) { table = m.table ++ (m.next, stands_as) ∷ []; graphs = gs; next = m.next + 1 } in y) (graphs_with m stands_as))
+    s.indexes s.image_stands
     (All-append reaches m.table ((m.next, stands_as) ∷ []) s.reached (All-cons reaches (m.next, stands_as) [] reached (All-nil reaches)))
     (λ none. let e : false ≡ true = ap is_some (sym none) ∙ sym (there_is p image m s) ∙ there in cc)
 

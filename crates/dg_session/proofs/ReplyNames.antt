@@ -10,7 +10,7 @@ use Rattle.dg_graph.specs.Elements.{has, same}
 use Rattle.dg_graph.specs.declared.element.Element.{Element}
 use Rattle.dg_graph.specs.declared.element.Element.TheVariants as element
 use Rattle.dg_history.specs.declared.node.NodeId.{NodeId}
-use Rattle.dg_machine.specs.Answer.{handle_lines, headed, listing, neighbours_reply, node_reply, plan_reply, potential_line, potential_lines, step_if, step_lines}
+use Rattle.dg_machine.specs.Answer.{found_reply, handle_lines, headed, listing, neighbours_reply, node_reply, plan_reply, potential_line, potential_lines, step_if, step_lines}
 use Rattle.dg_machine.specs.declared.reply.BodyLine.{BodyLine}
 use Rattle.dg_machine.specs.declared.reply.BodyLine.TheVariants as line
 use Rattle.dg_machine.specs.declared.reply.Head.{Head}
@@ -66,6 +66,9 @@ module _ (n : ℕ) where
 
   pub record_names : (o : _) (count : ℕ) (reply : Reply) → reply ≡ listing_of o count → ReplyNamesAreThere n reply
   record_names o count reply is = subst (ReplyNamesAreThere n) (sym is) (made_names (held_line o.records) (λ k. tt) _)
+
+  pub found_names : (ids : List ℕ) (reply : Reply) → reply ≡ found_reply ids → ReplyNamesAreThere n reply
+  found_names ids reply is = subst (ReplyNamesAreThere n) (sym is) (made_names (λ id. line.Element (element.Node id)) (λ id. tt) ids)
 
   -- ---- lines of a graph whose names are there
 

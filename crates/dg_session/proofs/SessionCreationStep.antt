@@ -1,5 +1,5 @@
 -- The answer to the making of an index.
-use Rattle.std.proofs.Common.{◌≡◌, inl, inr, ℕ, zero, suc, ◌*◌, true, false, ◌&&◌, not, List, [], ◌++◌, Option, Some, None, Ok, Err, drop, length, nat_le, refl, sym, ◌∙◌, ap, subst}
+use Rattle.std.proofs.Common.{◌≡◌, inl, inr, ℕ, zero, suc, ◌*◌, true, false, ◌&&◌, not, List, [], ◌++◌, Option, Some, None, Ok, Err, drop, length, map, nat_le, refl, sym, ◌∙◌, ap, subst}
 use Rattle.std.specs.Prelude.{IfSome, is_some}
 use Rattle.std.proofs.lemmas.Bool.{and_parts, false≢true, not-false}
 use Rattle.dg_file.specs.declared.fault.CreateFault.{CreateFault}
@@ -10,7 +10,8 @@ use Rattle.dg_graph.specs.declared.event.Event.{Event}
 use Rattle.dg_graph.specs.declared.limits.TheConstants.{SKEW_MAX}
 use Rattle.dg_history.specs.declared.form.Form.TheVariants as form
 use Rattle.dg_history.specs.declared.params.Params.{Params}
-use Rattle.dg_history.specs.History.{History, are_parameters, empty_history}
+use Rattle.dg_aux.specs.Turns.{said_over}
+use Rattle.dg_history.specs.History.{History, are_parameters, empty_history, events_of}
 use Rattle.dg_index.specs.ImageOfHistory.{IsImageOf, StandsAs}
 use Rattle.dg_index.specs.OpenedIndex.{Opening, opened_of, opening}
 use Rattle.dg_machine.specs.declared.reply.Head.TheVariants as head
@@ -18,7 +19,7 @@ use Rattle.dg_machine.specs.declared.reply.Refusal.TheVariants as refusal
 use Rattle.dg_machine.specs.declared.reply.Reply.{Reply}
 use Rattle.dg_machine.specs.Answer.{accepted, answer, headed, is_refusal}
 use Rattle.dg_machine.specs.CutImage.{IsAcceptedWrite, IsCut, As_before, As_after, First_byte, makes_index}
-use Rattle.dg_machine.specs.MachineState.{MachineState}
+use Rattle.dg_machine.specs.MachineState.{MachineState, history_in}
 use Rattle.dg_machine.specs.Needs.{Needs, earliest, is_writing, needs, nothing_more, refused, when}
 use Rattle.dg_machine.specs.Planning.{IsPlanned, no_plan}
 use Rattle.dg_machine.specs.Run.{Step}
@@ -134,9 +135,10 @@ module _ (l k : ℕ) (asked : AskedFunction) (params : Params) (params_are : par
         let recent : p.recent ≡ recent_of params [] = kept.recent_are ∙ ap recent_in gone ∙ no_recent (leaves params 0 * params.l) in (
           made_in m params,
           made_as m ∙ (λ i. record { reply = sym reply_is i; state = made_in m params }),
-          stands q y (made_in m params)
+          stands q y (made_in m params) p.indexes
               (is
-              ∙ (λ i. record { limits = s.limits i; index = Some (o_is i); names = names i; graph = graph i; recent = recent i; table = s.table i; graphs = (s.graphs ∙ no_graphs m (made_in m params) handles handles) i; next = s.next i }))
+              ∙ (λ i. record { limits = s.limits i; index = Some (o_is i); names = names i; graph = graph i; recent = recent i; table = s.table i; graphs = (s.graphs ∙ no_graphs m (made_in m params) handles handles) i; next = s.next i; indexes = p.indexes }))
+              (s.indexes ∙ ap (λ (i : Option History). map (said_over (events_of (history_in i))) m.indexes) gone)
               (one_told after (λ image. IsImageOf (made_with params) image) y made b)
               (no_handle_reached (made_in m params) handles) (λ e. cc),
         ));

@@ -1,9 +1,11 @@
 -- A batch leaves what the live handles list as it is, since its events are later than every instant of the history.
-use Rattle.std.proofs.Common.{◌≡◌, ℕ, ◌+◌, ◌*◌, ◌^◌, ◌<◌, ◌≤◌, ◌==◌, Bool, true, false, None, if◌then◌else◌, cond, List, [], ◌∷◌, ◌++◌, length, map, refl, sym, subst, ap, ◌∙◌, arith, length-append}
+use Rattle.std.proofs.Common.{◌≡◌, inl, inr, ℕ, ◌+◌, ◌*◌, ◌^◌, ◌<◌, ◌≤◌, ◌==◌, Bool, true, false, not, Option, Some, None, if◌then◌else◌, cond, List, [], ◌∷◌, ◌++◌, length, map, refl, sym, subst, ap, ◌∙◌, arith, length-append}
 use native.Mathlib.Nat.{pow-zero}
-use Rattle.std.specs.Prelude.{◌&&◌, nat_le}
-use Rattle.std.specs.List.{All}
-use Rattle.std.proofs.lemmas.Bool.{leb-true, lt-leb, le-leb, ne_eqb, false≢true, and_parts}
+use Rattle.std.specs.Prelude.{◌&&◌, ◌||◌, nat_le, nat_lt}
+use Rattle.std.specs.List.{All, list_any}
+use Rattle.std.proofs.lemmas.Bool.{leb-true, lt-leb, le-leb, le-ltb, eqb-true, ne_eqb, false≢true, and_parts, and_right, not-true, not-false, or_cases, or_parts}
+use Rattle.std.proofs.lemmas.List.{append-nil}
+use Rattle.dg_added.specs.Additions.{added_between, lies_within, put_by}
 use Rattle.std.proofs.lemmas.List.Elements.{All-head, All-tail, All-nil, All-cons}
 use Rattle.dg_graph.specs.declared.element.Element.{Element}
 use Rattle.dg_graph.specs.declared.event.Event.{Event}
@@ -21,13 +23,13 @@ use Rattle.dg_index.proofs.HierarchyStability.{stable}
 use Rattle.dg_index.specs.Hierarchy.{leaves, set_of}
 use Rattle.dg_machine.specs.declared.stands.Stands.{Stands}
 use Rattle.dg_machine.specs.declared.stands.Stands.TheVariants.{Overlay, Base, Selected}
-use Rattle.dg_machine.specs.declared.selection.Selection.TheVariants.{Chosen}
+use Rattle.dg_machine.specs.declared.selection.Selection.TheVariants.{Chosen, Added}
 use Rattle.dg_machine.specs.MachineState.{elements}
-use Rattle.dg_machine.specs.Needs.{can_be_held, instants_asked}
+use Rattle.dg_machine.specs.Needs.{can_be_held, in_range_or_next, is_out_of_range}
 use Rattle.dg_batch.proofs.HeldIndexNodes.{held_more}
 use Rattle.dg_batch.proofs.LegalHistory.{events_with}
 use Rattle.dg_expr.specs.Expressions.{instants_of, words_of}
-use Rattle.dg_session.proofs.ChosenGraphs.{chosen_same, each_passes, same_at_each}
+use Rattle.dg_session.proofs.ChosenGraphs.{all_pass, chosen_same, none_fails, same_at_each}
 use Rattle.dg_session.specs.Session.{is_reached}
 
 -- ---- instants
@@ -74,6 +76,54 @@ range_more (e ∷ events) more t rises r =
     let within : t ≤ last_time_from e.time (events ++ more) = omega (arith, leb-true t last parts.1, up, last_two e.time events more) in
     ap (λ (b : Bool). b && nat_le t (last_time_from e.time (events ++ more))) parts.0 ∙ le-leb t (last_time_from e.time (events ++ more)) within
 
+-- ---- intervals
+
+-- the beginning of an interval is an instant of the history, and its end is one or the next
+ends_inside : (span : Option (ℕ × ℕ)) (from until : ℕ) → not (is_out_of_range span (from ∷ []) (Some until)) ≡ true → (in_range span from ≡ true) × (in_range_or_next span until ≡ true)
+ends_inside span from until r =
+    let both = or_parts (not (in_range span from) || false) (not (in_range_or_next span until)) (not-true (is_out_of_range span (from ∷ []) (Some until)) r) in
+    let first = or_parts (not (in_range span from)) false both.0 in
+    (not-false (in_range span from) first.0, not-false (in_range_or_next span until) both.1)
+
+-- the next batch does not begin before the end of an interval
+up_to_next : (events : List Event) (t : ℕ) → in_range_or_next (span_of events) t ≡ true → t ≤ earliest_next (span_of events)
+up_to_next [] t r = absurd (false≢true r)
+up_to_next (e ∷ events) t r = elim (or_cases (in_range (span_of (e ∷ events)) t) (t == last_time_from e.time events + 1) r) [
+  | inl within ↦ omega (arith, before_next (e ∷ events) t within)
+  | inr next ↦ omega (arith, eqb-true t (last_time_from e.time events + 1) next)
+]
+
+-- nothing is put in before an instant from which events rise
+none_added : (from until s : ℕ) (events : List Event) → RisesFrom s events → until ≤ s → added_between from until events ≡ []
+none_added from until s [] rises late = refl
+none_added from until s (e ∷ events) rises late =
+    let out : lies_within from until e ≡ false = and_right (nat_le from e.time) (nat_lt e.time until) (le-ltb e.time until (omega (arith, late, rises.0))) in
+    ap (λ b. with_one (added_between from until events) (if b then put_by e.body else None)) out ∙ none_added from until e.time events rises.1 (omega (arith, late, rises.0))
+
+-- so what is put in stays
+added_more : (from until s : ℕ) (events more : List Event) → RisesFrom s more → until ≤ s → added_between from until (events ++ more) ≡ added_between from until events
+added_more from until s [] more rises late = none_added from until s more rises late
+added_more from until s (e ∷ events) more rises late =
+    ap (λ set. with_one set (if lies_within from until e then put_by e.body else None)) (added_more from until s events more rises late)
+
+-- the end of an interval of the history is one with the batch
+next_more : (events more : List Event) (from until : ℕ) → RisesFrom (earliest_next (span_of events)) more → in_range (span_of events) from ≡ true → in_range_or_next (span_of events) until ≡ true
+    → in_range_or_next (span_of (events ++ more)) until ≡ true
+next_more [] more from until rises begins ends = absurd (false≢true begins)
+next_more (e ∷ events) [] from until rises begins ends = ap (λ (es : List Event). in_range_or_next (span_of (e ∷ es)) until) (append-nil events) ∙ ends
+next_more (e ∷ events) (x ∷ more) from until rises begins ends =
+    ap (λ (b : Bool). b || (until == last_time_from e.time (events ++ x ∷ more) + 1))
+    (elim (or_cases (in_range (span_of (e ∷ events)) until) (until == last_time_from e.time events + 1) ends) [
+      | inl within ↦ range_more (e ∷ events) (x ∷ more) until rises within
+      | inr next ↦
+          let parts = and_parts (nat_le e.time from) (nat_le from (last_time_from e.time events)) begins in
+          let last : ℕ = last_time_from e.time events in
+          let here : until ≡ last + 1 = eqb-true until (last + 1) next in
+          let low : e.time ≤ until = omega (arith, here, leb-true e.time from parts.0, leb-true from last parts.1) in
+          let high : until ≤ last_time_from e.time (events ++ x ∷ more) = omega (arith, here, rises.0, rises_last x.time more rises.1, last_two e.time events (x ∷ more)) in
+          λ i. le-leb e.time until low i && le-leb until (last_time_from e.time (events ++ x ∷ more)) high i
+    ])
+
 -- ---- nodes
 
 -- a node that can be held is there with more events and has the same set
@@ -102,13 +152,19 @@ module _ (z : History) (pos : 0 < z.params.l) (b : Batch) (rises : RisesFrom (ea
   elements_more (Base node cols) r =
       ap (λ (es : List Event). shown (set_of z.params es node) cols) (events_with z b)
       ∙ ap (λ (es : List Element). shown es cols) (set_more z.params pos (events_of z) b.events node r)
+  elements_more (Selected (Added from until) cols) r =
+      ap (λ (es : List Event). shown (added_between from until es) cols) (events_with z b)
+      ∙ ap (λ (set : List Element). shown set cols)
+      (added_more from until (earliest_next (span_of (events_of z))) (events_of z) b.events rises
+      (up_to_next (events_of z) until (ends_inside (span_of (events_of z)) from until r).1))
   elements_more (Selected (Chosen e) cols) r =
       chosen_same (words_of e) (λ t. shown (replay_at (events_of (with_batch z b)) t) cols) (λ t. shown (replay_at (events_of z) t) cols)
       (same_at_each (in_range (span_of (events_of z))) (λ t. shown (replay_at (events_of (with_batch z b)) t) cols) (λ t. shown (replay_at (events_of z) t) cols) (instants_of (words_of e))
       (λ t within.
       ap (λ (es : List Event). shown (replay_at es t) cols) (events_with z b)
       ∙ ap (λ (graph : List Element). shown graph cols)
-      (replay_at_more (events_of z) b.events t (none_until (earliest_next (span_of (events_of z))) t b.events rises (before_next (events_of z) t within)))) r)
+      (replay_at_more (events_of z) b.events t (none_until (earliest_next (span_of (events_of z))) t b.events rises (before_next (events_of z) t within))))
+      (all_pass (in_range (span_of (events_of z))) (instants_of (words_of e)) (not-true (list_any (λ t. not (in_range (span_of (events_of z)) t)) (instants_of (words_of e))) r)))
 
   pub reached_more : (s : Stands) → is_reached z s ≡ true → is_reached (with_batch z b) s ≡ true
   reached_more (Overlay t cols on) r = ap (λ (es : List Event). in_range (span_of es) t) (events_with z b) ∙ range_more (events_of z) b.events t rises r
@@ -116,9 +172,18 @@ module _ (z : History) (pos : 0 < z.params.l) (b : Batch) (rises : RisesFrom (ea
       ap (λ (es : List Event). can_be_held z.params (length es) node) (events_with z b)
       ∙ ap (λ n. can_be_held z.params n node) (length-append (events_of z) b.events)
       ∙ held_more z.params pos (length (events_of z)) (length b.events) node r
-  reached_more (Selected what cols) r =
-      each_passes (in_range (span_of (events_of z))) (in_range (span_of (events_of (with_batch z b)))) (instants_asked what)
-      (λ t within. ap (λ (es : List Event). in_range (span_of es) t) (events_with z b) ∙ range_more (events_of z) b.events t rises within) r
+  reached_more (Selected (Chosen e) cols) r =
+      ap not
+      (none_fails (in_range (span_of (events_of z))) (in_range (span_of (events_of (with_batch z b)))) (instants_of (words_of e))
+      (λ t within. ap (λ (es : List Event). in_range (span_of es) t) (events_with z b) ∙ range_more (events_of z) b.events t rises within)
+      (not-true (list_any (λ t. not (in_range (span_of (events_of z)) t)) (instants_of (words_of e))) r))
+  reached_more (Selected (Added from until) cols) r =
+      let inside = ends_inside (span_of (events_of z)) from until r in
+      let begins : in_range (span_of (events_of (with_batch z b))) from ≡ true =
+      ap (λ (es : List Event). in_range (span_of es) from) (events_with z b) ∙ range_more (events_of z) b.events from rises inside.0 in
+      let ends : in_range_or_next (span_of (events_of (with_batch z b))) until ≡ true =
+      ap (λ (es : List Event). in_range_or_next (span_of es) until) (events_with z b) ∙ next_more (events_of z) b.events from until rises inside.0 inside.1 in
+      λ i. not ((not (begins i) || false) || not (ends i))
 
   -- of every live handle
   pub graphs_more : (table : List (ℕ × Stands)) → All (λ (e : ℕ × Stands). is_reached z e.1 ≡ true) table

@@ -100,10 +100,10 @@ state_without handle m = record m { table = without_handle handle m.table }
 
 stands_without : (p q : Parts) (image : List ℕ) (m : MachineState) (handle : ℕ) → StandsFor p image m → q ≡ parts_without handle p → StandsFor q image (state_without handle m)
 stands_without p q image m handle s is =
-    stands q image (state_without handle m)
+    stands q image (state_without handle m) p.indexes
     (is ∙ ap (parts_without handle) (kept p image m s)
-    ∙ (λ i. let x : Parts = record (parts_of m) { table = without_handle handle m.table; graphs = graphs_left (history_in m.index) handle m.table i } in x))
-    s.image_stands
+    ∙ (λ i. let x : Parts = record (parts_of m p.indexes) { table = without_handle handle m.table; graphs = graphs_left (history_in m.index) handle m.table i } in x))
+    s.indexes s.image_stands
     (all_without (λ (e : ℕ × Stands). is_reached (history_in m.index) e.1 ≡ true) handle m.table s.reached)
     (λ none. ap (without_handle handle) (s.no_handles none))
 

@@ -1,7 +1,7 @@
 -- The answer to an expression over instants.
-use Rattle.std.proofs.Common.{◌≡◌, ℕ, ◌+◌, true, false, List, [], ◌∷◌, ◌++◌, Option, None, Result, Ok, Err, length, map, refl, sym, ◌∙◌, ap, subst, arith}
+use Rattle.std.proofs.Common.{◌≡◌, ℕ, ◌+◌, true, false, not, List, [], ◌∷◌, ◌++◌, Option, None, Result, Ok, Err, length, map, refl, sym, ◌∙◌, ap, subst, arith}
 use Rattle.std.specs.Prelude.{IfSome, OnErr, OnOk}
-use Rattle.std.specs.List.{list_all, list_any}
+use Rattle.std.specs.List.{list_any}
 use Rattle.std.proofs.lemmas.List.{append-nil}
 use Rattle.std.proofs.lemmas.List.Elements.{All-cons, All-nil}
 use Rattle.dg_ask.proofs.HeldIndexHandles.{kept_same}
@@ -22,7 +22,7 @@ use Rattle.dg_graph.specs.Replay.{events_until, replay_at}
 use Rattle.dg_handles.specs.Handles.{HandlesState, overlays_on, with_messages}
 use Rattle.dg_history.specs.declared.node.NodeId.{NodeId}
 use Rattle.dg_history.specs.declared.node.NodeId.TheVariants.{Root}
-use Rattle.dg_history.specs.History.{History, events_of, in_range, span_of}
+use Rattle.dg_history.specs.History.{History, events_of, span_of}
 use Rattle.dg_index.specs.OpenedIndex.{Opening}
 use Rattle.dg_machine.specs.declared.command.Command.{Command}
 use Rattle.dg_machine.specs.declared.command.Command.TheVariants as command
@@ -41,7 +41,6 @@ use Rattle.dg_plan.specs.IndexGraph.{arcs_of, edges_of}
 use Rattle.dg_plan.specs.Walks.{Graft, IsTree, tree_weight}
 use Rattle.dg_planner.specs.Whole.{PlannerGraph}
 use Rattle.dg_retrieval.specs.Retrieval.{IsTreeOf}
-use Rattle.dg_session.proofs.ChosenGraphs.{all_pass}
 use Rattle.dg_session.proofs.GraphSets.{shown_again, shown_without}
 use Rattle.dg_session.proofs.PartStates.{events_there, instants_are, one_image, one_told}
 use Rattle.dg_session.proofs.ReplyNames.{head_names}
@@ -97,8 +96,7 @@ chosen_again law z e cols =
 chosen_reached : (p : Parts) (image : List ℕ) (m : MachineState) (e : Expr) (cols : Columns) → StandsFor p image m → list_any (is_out (span_held p.index)) (instants_of (words_of e)) ≡ false
     → is_reached (history_in m.index) (Selected (Chosen e) cols) ≡ true
 chosen_reached p image m e cols s inside =
-    ap (λ (ends : Option (ℕ × ℕ)). list_all (in_range ends) (instants_of (words_of e))) (ap span_of (events_there m.index) ∙ sym (instants_are p image m s))
-    ∙ all_pass (in_range (span_held p.index)) (instants_of (words_of e)) inside
+    ap (λ (ends : Option (ℕ × ℕ)). not (list_any (is_out ends) (instants_of (words_of e)))) (ap span_of (events_there m.index) ∙ sym (instants_are p image m s)) ∙ ap not inside
 
 module _ (law : ChosenAreShown) (p : Parts) (e : Expr) (cols : Columns) (free : refused_by p 0 (retrieval_needs (instants_of (words_of e)) 1) ≡ None) where
   pub chosen_answers : (q : Parts) (before after : Option (List ℕ)) (weight : ℕ) (singles : List ℕ) (bases : List (Option ℕ)) (graphs : List (List Element)) (set : List Element) (reply : Reply) → after ≡ before

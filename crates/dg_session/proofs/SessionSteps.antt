@@ -1,7 +1,6 @@
 -- How a step comes from what is refused, for every command alike.
 use Rattle.std.proofs.Common.{◌≡◌, inl, inr, ℕ, ◌+◌, ◌++◌, nat_le, nat_lt, Bool, true, false, List, [], Option, Some, None, Result, Ok, Err, length, refl, sym, ◌∙◌, ap, subst, ◌∷◌}
 use Rattle.std.specs.Prelude.{IfSome, ◌⊎◌, not, is_some, ◌||◌, ◌&&◌, IsErr, IsErrAnd}
-use Rattle.std.specs.List.{list_any}
 use Rattle.std.proofs.lemmas.Bool.{false≢true}
 use Rattle.std.proofs.lemmas.Option.{none-some}
 use Rattle.dg_graph.specs.declared.limits.TheConstants.{SKEW_MAX}
@@ -15,9 +14,10 @@ use Rattle.dg_machine.specs.declared.reply.Reply.{Reply}
 use Rattle.dg_machine.specs.Answer.{Answered, IsPlannedBy, accepted, answer, answer_by, headed, is_begun, is_behind_reads, no_memory, is_refusal, refusal_of, store_read}
 use Rattle.dg_machine.specs.CutImage.{IsAcceptedWrite}
 use Rattle.dg_machine.specs.MachineState.{MachineState, stands_at, dependent_on}
-use Rattle.dg_history.specs.History.{are_parameters, in_range}
-use Rattle.dg_machine.specs.declared.limits.TheConstants.{HANDLE_MAX, LIVE_HANDLES_MAX}
-use Rattle.dg_machine.specs.Needs.{Needs, earliest, following, is_followed, is_writing, needs, of, refused, when, is_set}
+use Rattle.dg_history.specs.History.{are_parameters}
+use Rattle.dg_text.specs.Names.{number_of}
+use Rattle.dg_machine.specs.declared.limits.TheConstants.{HANDLE_MAX, INDEXES_MAX, LIVE_HANDLES_MAX}
+use Rattle.dg_machine.specs.Needs.{Needs, earliest, following, is_followed, is_out_of_range, is_writing, needs, of, refused, when, is_set}
 use Rattle.dg_machine.specs.Planning.{Planned, IsPlanned, no_plan}
 use Rattle.dg_machine.specs.Run.{Step, Answers, Fails_to_read, Lacks_memory}
 use Rattle.dg_machine.specs.Script.{Asked}
@@ -31,7 +31,7 @@ use Rattle.dg_batch.specs.declared.halt.Halt.{Halt}
 use Rattle.dg_batch.specs.declared.halt.Halt.TheVariants as halt
 use Rattle.dg_batch.specs.declared.stop.Stop.TheVariants as stop
 use Rattle.dg_session.specs.Decided.{IsHeadOf}
-use Rattle.dg_session.specs.Session.{Accepts, ComesTo, Decides, Denies, IsDecided, LeavesAnswered, LeavesCommand, MayRead, Moves, StandsFor, Steps, TakesLines, WhereBothTold, is_of_read, is_too_full, is_wide_held, refused_by}
+use Rattle.dg_session.specs.Session.{Accepts, ComesTo, Decides, Denies, IsDecided, LeavesAnswered, LeavesCommand, MayRead, Moves, StandsFor, Steps, TakesLines, WhereBothTold, is_indexed_by, is_of_read, is_too_full, is_wide_held, refused_by}
 
 -- ---- of the machine
 
@@ -136,13 +136,17 @@ never_read p read n =
     (of_not_read n.parameters (λ x. not (are_parameters x.0 x.1 && nat_le x.2 SKEW_MAX)) (λ x. refusal.Parameters) _ (λ x. refl)
     (when_not_read (n.unloaded && is_some (span_held p.index)) refusal.AlreadyLoaded _ refl
     (when_not_read (nat_lt 0 n.changes && is_too_full p n.changes) (refusal.HistoryFull (events_held p.index) n.changes) _ refl
-    (when_not_read (list_any (λ t. not (in_range (span_held p.index) t)) n.instants) (refusal.OutOfRange (span_held p.index)) _ refl
+    (when_not_read (is_out_of_range (span_held p.index) n.instants n.until) (refusal.OutOfRange (span_held p.index)) _ refl
     (of_not_read n.handle (λ h. not (is_some (stands_at h p.table))) (λ h. refusal.UnknownHandle h) _ (λ h. refl)
     (of_not_read n.handle (λ h. n.overlay && is_set (stands_at h p.table)) (λ h. refusal.NotAnOverlay h) _ (λ h. refl)
     (used_not_read n.unused (λ h. dependent_on h p.table) _
     (of_not_read n.node (λ v. not (has_node_held p.index v)) (λ v. refusal.UnknownNode) _ (λ v. refl)
+    (of_not_read n.unindexed (λ key. not (is_some (number_of p.names key))) (λ key. refusal.UnknownKey) _ (λ key. refl)
+    (of_not_read n.indexed (λ key. not (is_indexed_by p key)) (λ key. refusal.NotIndexed) _ (λ key. refl)
+    (of_not_read n.unindexed (λ key. is_indexed_by p key) (λ key. refusal.AlreadyIndexed) _ (λ key. refl)
+    (of_not_read n.unindexed (λ key. nat_le INDEXES_MAX (length p.indexes)) (λ key. refusal.IndexesFull) _ (λ key. refl)
     (when_not_read (nat_lt 0 n.handles && nat_lt LIVE_HANDLES_MAX (length p.table + n.handles)) (refusal.PoolFull (length p.table) n.handles) _ refl
-    (last_not_read (nat_lt 0 n.handles && nat_lt (HANDLE_MAX + 1) (p.next + n.handles)) refusal.HandlesSpent refl)))))))))))))
+    (last_not_read (nat_lt 0 n.handles && nat_lt (HANDLE_MAX + 1) (p.next + n.handles)) refusal.HandlesSpent refl)))))))))))))))))
 
 pub refused_not_read : (p : Parts) (read : ℕ) (n : Needs) (r : Refusal) → refused_by p read n ≡ Some r → is_of_read r ≡ false
 refused_not_read p read n r is = subst IsNotOfRead is (never_read p read n)
@@ -297,6 +301,9 @@ refuses_so (head.At handle weight) r is = absurd (none-some r is)
 refuses_so (head.Several weight sum) r is = absurd (none-some r is)
 refuses_so (head.Materialised handle weight) r is = absurd (none-some r is)
 refuses_so (head.Chosen handle weight) r is = absurd (none-some r is)
+refuses_so (head.Indexed spans weight) r is = absurd (none-some r is)
+refuses_so (head.Found lines) r is = absurd (none-some r is)
+refuses_so (head.Added handle weight) r is = absurd (none-some r is)
 refuses_so (head.List handle lines) r is = absurd (none-some r is)
 refuses_so (head.Counts handle counts with_messages) r is = absurd (none-some r is)
 refuses_so (head.NodeThere handle id degree) r is = absurd (none-some r is)

@@ -4,6 +4,7 @@ use Rattle.std.specs.Prelude.{IfSome, is_some}
 use Rattle.std.specs.List.{All}
 use Rattle.std.proofs.lemmas.Bool.{false≢true, not-false}
 use borrow.Author.Tests.{lt-ltb, le-ltb}
+use Rattle.dg_aux.specs.Turns.{said_over}
 use Rattle.dg_batch.specs.Held.{graphs_held}
 use Rattle.dg_batch.specs.declared.held.Held.{Held}
 use Rattle.dg_disk.specs.declared.disk.Disk.{Ghosts}
@@ -13,7 +14,7 @@ use Rattle.dg_file.specs.Calls.{Upgrades}
 use Rattle.dg_file.specs.Images.{GainsMarker, GainsUpgrade, GainsUpgradeOrNot}
 use Rattle.dg_history.specs.declared.form.Form.{Form}
 use Rattle.dg_history.specs.declared.form.Form.TheVariants as form
-use Rattle.dg_history.specs.History.{History, is_wide, with_upgrade}
+use Rattle.dg_history.specs.History.{History, events_of, is_wide, with_upgrade}
 use Rattle.dg_index.proofs.OpenedIndexGrowth.{opened_upgraded, used_is}
 use Rattle.dg_index.specs.FileOfHistory.{size}
 use Rattle.dg_index.specs.ImageOfHistory.{IsImageOf, StandsAs}
@@ -26,7 +27,7 @@ use Rattle.dg_machine.specs.declared.reply.Refusal.TheVariants as refusal
 use Rattle.dg_machine.specs.declared.reply.Reply.{Reply}
 use Rattle.dg_machine.specs.declared.stands.Stands.{Stands}
 use Rattle.dg_machine.specs.declared.stands.Stands.TheVariants.{Overlay, Base, Selected}
-use Rattle.dg_machine.specs.declared.selection.Selection.TheVariants.{Chosen}
+use Rattle.dg_machine.specs.declared.selection.Selection.TheVariants.{Chosen, Added}
 use Rattle.dg_machine.specs.Answer.{Answered, answer, headed, is_refusal, refuse, upgrading}
 use Rattle.dg_machine.specs.CutImage.{IsAcceptedWrite, IsCut, As_before, As_after}
 use Rattle.dg_machine.specs.MachineState.{MachineState, elements, history_in}
@@ -41,12 +42,13 @@ use Rattle.dg_session.specs.Decided.{IsHeadOf}
 use Rattle.dg_session.specs.Parts.{Parts}
 use Rattle.dg_session.specs.Session.{Accepts, ComesTo, CutsOff, Denies, HoldsImage, StandsFor, is_reached, is_wide_held, refused_by}
 use Rattle.dg_session.specs.Upgrade.{MarksHeld, upgrade_halt}
+use Rattle.dg_session.specs.ValuesSaid.{IndexKept}
 use Rattle.dg_sound_files.proofs.OpenedIndexRecords.{form_is}
 use Rattle.dg_stored.specs.StoredHistory.{IsHeldBy, index_opening}
 
 -- what a session keeps within these limits
-abbrev pub held_parts : Limits → Held → Parts
-held_parts limits h = record {
+abbrev pub held_parts : Limits → List IndexKept → Held → Parts
+held_parts limits kept h = record {
   limits = limits;
   index = index_opening h.live.history.index;
   names = h.live.history.names;
@@ -55,6 +57,7 @@ held_parts limits h = record {
   table = h.handles.table;
   graphs = graphs_held h;
   next = h.handles.next;
+  indexes = kept;
 }
 
 -- ---- where nothing refuses it
@@ -87,6 +90,7 @@ elements_stay : (z : History) (s : Stands) → elements z s ≡ elements (with_u
 elements_stay z (Overlay t cols on) = refl
 elements_stay z (Base node cols) = refl
 elements_stay z (Selected (Chosen e) cols) = refl
+elements_stay z (Selected (Added from until) cols) = refl
 
 reached_stays : (z : History) (s : Stands) → is_reached z s ≡ true → is_reached (with_upgrade z) s ≡ true
 reached_stays z (Overlay t cols on) r = r
@@ -178,8 +182,9 @@ module _ (p : Parts) (limit : ℕ) (limit_is : limit ≡ p.limits.file_bytes) (n
         ∙ (λ i. map (λ (e : ℕ × Stands). elements_stay z e.1 i) m.table) in
         let reached : All (λ (e : ℕ × Stands). is_reached z e.1 ≡ true) m.table =
         subst (λ (i : Option History). All (λ (e : ℕ × Stands). is_reached (history_in i) e.1 ≡ true) m.table) h.index s.reached in
-        stands q after upgraded_in
-        (is ∙ (λ i. record { limits = s.limits i; index = index i; names = h.names i; graph = h.graph i; recent = h.recent i; table = s.table i; graphs = graphs i; next = s.next i }))
+        stands q after upgraded_in p.indexes
+        (is ∙ (λ i. record { limits = s.limits i; index = index i; names = h.names i; graph = h.graph i; recent = h.recent i; table = s.table i; graphs = graphs i; next = s.next i; indexes = p.indexes }))
+        (s.indexes ∙ ap (λ (i : Option History). map (said_over (events_of (history_in i))) m.indexes) h.index)
         (gains z h.stands one) (λ k d lt. reached_stays z (get_or m.table k d).1 (reached k d lt)) (λ e. cc)
 
   -- ---- what the command comes to
@@ -225,7 +230,7 @@ module _ (p : Parts) (limit : ℕ) (limit_is : limit ≡ p.limits.file_bytes) (n
 
   -- ---- by what the call below comes to
 
-  module _ {D : Type 0} (g : Ghosts D) (A : Type 0) (limits_held : Limits) (old new : Held) (before after : D) (view : held_parts limits_held old ≡ p) where
+  module _ {D : Type 0} (g : Ghosts D) (A : Type 0) (limits_held : Limits) (indexes : List IndexKept) (old new : Held) (before after : D) (view : held_parts limits_held indexes old ≡ p) where
     -- what it says, where the index is this and it comes to this
     pub marked_here : (r x : Result A CommitFault) → IfSome (index_opening old.live.history.index) (λ (i : Opening). MarksHeld g limit i old new before after r) → r ≡ x → MarksHeld g limit o old new before after x
     marked_here r x marks is =
@@ -234,17 +239,17 @@ module _ (p : Parts) (limit : ℕ) (limit_is : limit ≡ p.limits.file_bytes) (n
         (subst (λ (k : Option Opening). IfSome k (λ (i : Opening). MarksHeld g limit i old new before after r)) there marks)
 
     pub upgrade_marked : (x : A) → MarksHeld g limit o old new before after (Ok x) → is_some (g.image after) ≡ is_some (g.image before) → (reply : Reply) → reply ≡ headed head.Upgraded
-        → Accepts command.Upgrade [] p (g.image before) (held_parts limits_held new) (g.image after) reply
+        → Accepts command.Upgrade [] p (g.image before) (held_parts limits_held indexes new) (g.image after) reply
     upgrade_marked x marks told reply is =
         let u : Upgrades g limit o marks.0.opening before after = marks.2 in
-        upgrade_answers (held_parts limits_held new) (g.image before) (g.image after) reply told u.fits
+        upgrade_answers (held_parts limits_held indexes new) (g.image before) (g.image after) reply told u.fits
         (subst (λ (n : Opening). IfSome (g.image before) (λ x. IfSome (g.image after) (λ y. GainsMarker o n x y))) u.index u.opened) u.gained
-        (ap (held_parts limits_held) marks.1 ∙ (λ i. record (view i) { index = Some (u.index i) })) is
+        (ap (held_parts limits_held indexes) marks.1 ∙ (λ i. record (view i) { index = Some (u.index i) })) is
 
     pub upgrade_fails : (f : CommitFault) → MarksHeld {A = A} g limit o old new before after (Err f)
-        → ComesTo command.Upgrade [] p (g.image before) (held_parts limits_held new) (g.image after) (Err (upgrade_halt limit f))
+        → ComesTo command.Upgrade [] p (g.image before) (held_parts limits_held indexes new) (g.image after) (Err (upgrade_halt limit f))
     upgrade_fails (fault.FileFull n) marks =
-        upgrade_fills (held_parts limits_held new) (g.image before) (g.image after) n (ap (held_parts limits_held) marks.0 ∙ view) (ap (λ (d : D). g.image d) marks.3) marks.1 marks.2
+        upgrade_fills (held_parts limits_held indexes new) (g.image before) (g.image after) n (ap (held_parts limits_held indexes) marks.0 ∙ view) (ap (λ (d : D). g.image d) marks.3) marks.1 marks.2
     upgrade_fails fault.Disk marks = (
       refl,
       none,

@@ -11,6 +11,7 @@ use Rattle.dg_graph.specs.declared.element.Columns.{Columns}
 use Rattle.dg_graph.specs.declared.event.Change.{Change}
 use Rattle.dg_graph.specs.declared.event.Event.{Event}
 use Rattle.dg_history.specs.declared.node.Key.{Key}
+use Rattle.dg_history.specs.declared.node.Key.TheVariants as a_key
 use Rattle.dg_index.specs.OpenedIndex.{Opening, earliest_in, event_total}
 use Rattle.dg_machine.specs.declared.command.Command.{Command}
 use Rattle.dg_machine.specs.declared.command.Command.TheVariants as command
@@ -20,9 +21,12 @@ use Rattle.dg_machine.specs.Answer.{refusal_of}
 use Rattle.dg_machine.specs.declared.reply.Head.{Head}
 use Rattle.dg_machine.specs.declared.reply.Refusal.{Refusal}
 use Rattle.dg_machine.specs.declared.reply.Reply.{Reply}
-use Rattle.dg_machine.specs.declared.selection.Selection.TheVariants.{Chosen}
+use Rattle.dg_machine.specs.declared.selection.Selection.TheVariants.{Chosen, Added}
 use Rattle.dg_messages.specs.Calls.{AreHeard, IsFirstMessageDamage}
 use Rattle.dg_plan.specs.declared.edge.Edge.{Edge}
+use Rattle.dg_range.specs.Added.{range_columns}
+use Rattle.dg_range.specs.ColumnRuns.{events_along}
+use Rattle.dg_range.specs.ListValues.{values_along}
 use Rattle.dg_records.specs.declared.fault.RecordFault.{RecordFault}
 use Rattle.dg_records.specs.declared.fault.RecordFault.TheVariants as fault
 use Rattle.dg_retrieval.specs.KeptGraph.{index_edges, kept_edges}
@@ -34,19 +38,27 @@ use Rattle.dg_session.specs.Parts.{Parts}
 use Rattle.dg_session.specs.Reads.{reply_head}
 use Rattle.dg_session.specs.Session.{damage_of}
 
--- what a command reads records for: the graphs as of instants, in columns; the set of a node, in columns; the older
--- children of a batch of so many lines; or nothing. Of the instants of an expression each is asked for once, and no message.
+-- What a command reads records for: the graphs as of instants, in columns; the set of a node, in columns; the older
+-- children of a batch of so many lines; the events of columns of lists, which are read as events or have a first one that
+-- cannot be; or nothing. Of the instants of an expression each is asked for once, and no message.
 pub data ReadsFor : Type 0 where
   Graphs : List ℕ → Columns → ReadsFor
   Node_set : NodeId → Columns → ReadsFor
   Batch_of : ℕ → ReadsFor
+  Events_of_lists : (ℕ → List ℕ → Opening → Result (List Event) (ℕ × Column)) → ReadsFor
   Nothing_read : ReadsFor
+
+-- the events of the lists between two instants, by their asked columns
+abbrev pub events_between : ℕ → ℕ → Columns → ℕ → List ℕ → Opening → Result (List Event) (ℕ × Column)
+events_between from until cols names bytes o = events_along names bytes o (range_columns o from until cols)
 
 abbrev pub reads_for : Command → ReadsFor
 reads_for (command.At t cols) = Graphs (t ∷ []) cols
 reads_for (command.Several cols times count) = Graphs (take count times) cols
 reads_for (command.Materialise node cols) = Node_set node cols
 reads_for (command.Select (Chosen e) cols) = Graphs (instants_of (words_of e)) (graph_columns cols)
+reads_for (command.Select (Added from until) cols) = Events_of_lists (events_between from until cols)
+reads_for (command.Index key) = Events_of_lists values_along
 reads_for (command.Load count) = Batch_of count
 reads_for (command.Append count) = Batch_of count
 reads_for (command.Workload seed count) = Batch_of count
@@ -84,11 +96,18 @@ NamesBatchDamage old image count key col =
     × (events : List Event) × (completed 1 (earliest_in 0 o.batches) old.graph (lines changes) ≡ Ok events)
     × IfSome image (λ bytes. IsNamedDamage (length old.names) bytes o old.recent events old.graph key col)
 
+-- of the events of lists: the first of their columns that cannot be read
+abbrev pub NamesListDamage : Parts → Option (List ℕ) → (ℕ → List ℕ → Opening → Result (List Event) (ℕ × Column)) → Key → Column → Type 0
+NamesListDamage old image read key col =
+    (o : Opening) × (old.index ≡ Some o)
+    × IfSome image (λ bytes. (p : ℕ × Column) × (read (length old.names) bytes o ≡ Err p) × (key ≡ a_key.List p.0) × (col ≡ p.1))
+
 -- the damage is one that what is read for it meets
 abbrev pub IsMetBy : ReadsFor → Parts → Option (List ℕ) → Key → Column → Type 0
 IsMetBy (Graphs times cols) old image key col = NamesDamage old image (times, cols) (fault.Damaged key col)
 IsMetBy (Node_set node cols) old image key col = NamesNodeDamage old image (node, cols) (fault.Damaged key col)
 IsMetBy (Batch_of count) old image key col = NamesBatchDamage old image count key col
+IsMetBy (Events_of_lists read) old image key col = NamesListDamage old image read key col
 IsMetBy Nothing_read old image key col = ⊥
 
 -- what is read for it meets no damage
@@ -102,6 +121,9 @@ MeetsNone (Node_set node cols) old image =
 MeetsNone (Batch_of count) old image =
     (o : Opening) × (old.index ≡ Some o)
     × IfSome image (λ bytes. AreUndamaged (length old.names) o bytes (in_groups (older_children o count)))
+MeetsNone (Events_of_lists read) old image =
+    (o : Opening) × (old.index ≡ Some o)
+    × IfSome image (λ bytes. (events : List Event) × (read (length old.names) bytes o ≡ Ok events))
 MeetsNone Nothing_read old image = Unit {0}
 
 -- what a retrieval tells of damage: none is met where it gives something, and else it names the first
@@ -114,12 +136,23 @@ abbrev pub TellsNodeDamage : {A : Type 0} → Parts → Option (List ℕ) → No
 TellsNodeDamage old image asked (Ok r) = MeetsNone (Node_set asked.0 asked.1) old image
 TellsNodeDamage old image asked (Err f) = NamesNodeDamage old image asked f
 
+-- the fault of what reads events of lists names that column
+abbrev pub NamesListFault : Parts → Option (List ℕ) → (ℕ → List ℕ → Opening → Result (List Event) (ℕ × Column)) → RecordFault → Type 0
+NamesListFault old image read fault.Disk = Unit {0}
+NamesListFault old image read fault.Memory = Unit {0}
+NamesListFault old image read (fault.Damaged key col) = NamesListDamage old image read key col
+
+-- the same of events of lists
+abbrev pub TellsListDamage : {A : Type 0} → Parts → Option (List ℕ) → (ℕ → List ℕ → Opening → Result (List Event) (ℕ × Column)) → Result A RecordFault → Type 0
+TellsListDamage old image read (Ok r) = MeetsNone (Events_of_lists read) old image
+TellsListDamage old image read (Err f) = NamesListFault old image read f
+
 -- the damage that a refusal tells, if there is one
 abbrev pub damage_told : Option Refusal → Option (Key × Column)
 damage_told None = None
 damage_told (Some r) = damage_of r
 
--- a refusal for damage comes of a retrieval or a batch alone, and names that damage
+-- a refusal for damage comes of what reads records alone, and names that damage
 abbrev pub DamageIs : Command → Parts → Option (List ℕ) → Head → Type 0
 DamageIs c old image h = IfSome (damage_told (refusal_of h)) (λ d. IsMetBy (reads_for c) old image d.0 d.1)
 

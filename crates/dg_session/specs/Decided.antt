@@ -9,7 +9,7 @@ use Rattle.dg_machine.specs.declared.reply.Head.{Head}
 use Rattle.dg_machine.specs.declared.reply.Head.TheVariants as head
 use Rattle.dg_machine.specs.declared.reply.Refusal.{Refusal}
 use Rattle.dg_machine.specs.declared.reply.Refusal.TheVariants as refusal
-use Rattle.dg_machine.specs.declared.selection.Selection.TheVariants.{Chosen}
+use Rattle.dg_machine.specs.declared.selection.Selection.TheVariants.{Chosen, Added}
 use Rattle.dg_machine.specs.Needs.{Needs}
 
 -- The refusal may come of something else than what the session keeps, where a command needs this: of changes where a batch is
@@ -43,6 +43,9 @@ IsHeadOf (command.At t cols) (head.At handle weight) = Unit {0}
 IsHeadOf (command.Several cols times count) (head.Several weight sum) = Unit {0}
 IsHeadOf (command.Materialise node cols) (head.Materialised handle weight) = Unit {0}
 IsHeadOf (command.Select (Chosen e) cols) (head.Chosen handle weight) = Unit {0}
+IsHeadOf (command.Select (Added from until) cols) (head.Added handle weight) = Unit {0}
+IsHeadOf (command.Index key) (head.Indexed spans weight) = Unit {0}
+IsHeadOf (command.Find t key value) (head.Found lines) = Unit {0}
 IsHeadOf (command.Ask handle q) h = IsHeadOfQuery q handle h
 IsHeadOf (command.Release handle) (head.Released h) = h ≡ handle
 IsHeadOf (command.Clean cells) head.Cleaned = Unit {0}

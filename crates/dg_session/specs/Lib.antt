@@ -1,3 +1,4 @@
+pub mod ValuesSaid
 pub mod Parts
 pub mod SessionState
 pub mod Sweeps

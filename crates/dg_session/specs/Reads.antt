@@ -1,6 +1,7 @@
 -- What a retrieval gives, the handles that it is given, and the bytes that commands read.
 use Rattle.std.specs.Prelude.{◌≡◌, ℕ, ◌+◌, Bool, true, false, List, [], ◌∷◌, ◌++◌, Option, Some, None, Result, Ok, Err, IfErr, IfOk, IfSome, length, map}
 use Rattle.std.specs.List.{All, sum}
+use Rattle.dg_aux.specs.Turns.{AuxState, said_by, said_over}
 use Rattle.dg_fold.specs.BytesRead.{Takes, TakesAtMost}
 use Rattle.dg_graph.specs.declared.element.Columns.{Columns}
 use Rattle.dg_graph.specs.declared.element.Element.{Element}
@@ -10,6 +11,7 @@ use Rattle.dg_text.specs.Lines.{ScriptLine}
 use Rattle.dg_handles.specs.Handles.{BeginsOn, held_by, numbered, overlays_on, with_messages}
 use Rattle.dg_history.specs.declared.node.NodeId.{NodeId}
 use Rattle.dg_history.specs.declared.node.NodeId.TheVariants.{Root}
+use Rattle.dg_history.specs.History.{events_of}
 use Rattle.dg_index.specs.OpenedIndex.{Opening}
 use Rattle.dg_machine.specs.declared.command.Command.{Command}
 use Rattle.dg_machine.specs.declared.command.Command.TheVariants as command
@@ -19,8 +21,11 @@ use Rattle.dg_machine.specs.declared.reply.Reply.{Reply}
 use Rattle.dg_machine.specs.declared.stands.Stands.{Stands}
 use Rattle.dg_machine.specs.declared.stands.Stands.TheVariants.{Base}
 use Rattle.dg_machine.specs.Answer.{IsPlannedBy, answer, heard_for, is_refusal, weight_told, with_heard}
+use Rattle.dg_machine.specs.declared.selection.Selection.TheVariants.{Added}
 use Rattle.dg_machine.specs.MachineState.{MachineState, elements, history_in}
+use Rattle.dg_machine.specs.Selections.{added_length, selected}
 use Rattle.dg_machine.specs.Needs.{needs, refused}
+use Rattle.dg_machine.specs.ValueIndex.{node_attrs_length}
 use Rattle.dg_machine.specs.Planning.{Planned, edges_in, points_for, record_edges_in}
 use Rattle.dg_plan.specs.HistoryGraph.{all_columns}
 use Rattle.dg_plan.specs.IndexGraph.{arcs_of}
@@ -38,6 +43,7 @@ use Rattle.dg_batch.specs.declared.stop.Stop.TheVariants as stop
 use Rattle.dg_session.specs.BatchReads.{is_early, older_for}
 use Rattle.dg_session.specs.HistoryBytes.{records_length}
 use Rattle.dg_session.specs.Parts.{Parts}
+use Rattle.dg_session.specs.ValuesSaid.{IndexKept}
 use Rattle.dg_session.specs.Session.{StandsFor}
 use Rattle.dg_verify.specs.RecordBytes.{records_bytes}
 
@@ -48,6 +54,10 @@ with_new_handles p new graphs = record p {
   graphs = p.graphs ++ graphs;
   next = p.next + length new;
 }
+
+-- the session with a new index of values behind those that it has
+abbrev pub with_new_index : Parts → IndexKept → Parts
+with_new_index p kept = record p { indexes = p.indexes ++ kept ∷ [] }
 
 -- the handles on which new graphs rest, where they rest on one
 abbrev pub bases_of : List GraphLead → List (Option ℕ)
@@ -97,6 +107,23 @@ pub record HoldsNodeFor (m : MachineState) (node : NodeId) (cols : Columns) (bef
   pub held : IfOk r (λ x. IsNodeHeld m node cols x.weight (shown (applied x.delta []) (with_messages cols)))
   pub takes : IfOk r (λ x. Takes x.weight before after)
   pub most : (steps : List ℕ) → IsPlan (arcs_of (record_edges_in m cols)) (Root ∷ []) node steps → TakesAtMost (weight_of (arcs_of (record_edges_in m cols)) steps) before after
+  pub never : IfErr r IsNoDamage
+
+-- Over an image that stands for the state: the index says what the events of the history say of the key; as many bytes are
+-- read as the columns of node attributes of the lists have, never more, and no damage is met.
+pub record IndexesFor (m : MachineState) (key : ℕ) (before after : ℕ) (r : Result AuxState RecordFault) : Type 0 where
+  pub said : IfOk r (λ aux. said_by aux ≡ said_over (events_of (history_in m.index)) key)
+  pub takes : IfOk r (λ aux. Takes (node_attrs_length (history_in m.index)) before after)
+  pub most : TakesAtMost (node_attrs_length (history_in m.index)) before after
+  pub never : IfErr r IsNoDamage
+
+-- Over an image that stands for the state: what is read of the lists and is recent is what the events between the instants
+-- add, with their messages, in these columns; as many bytes are read as the asked columns of the lists that are met have,
+-- never more, and no damage is met.
+pub record AddsFor (m : MachineState) (from until : ℕ) (cols : Columns) (before after : ℕ) (r : Result (List Element) RecordFault) : Type 0 where
+  pub added : IfOk r (λ set. set ≡ selected (history_in m.index) cols (Added from until))
+  pub takes : IfOk r (λ set. Takes (added_length (history_in m.index) from until cols) before after)
+  pub most : TakesAtMost (added_length (history_in m.index) from until cols) before after
   pub never : IfErr r IsNoDamage
 
 -- ---- the bytes read

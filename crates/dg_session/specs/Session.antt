@@ -1,6 +1,7 @@
 -- How the steps of a session are steps of the machine.
-use Rattle.std.specs.Prelude.{◌≡◌, ◌⊎◌, ℕ, ◌+◌, ◌*◌, Bool, true, false, ◌&&◌, ◌||◌, not, List, [], ◌∷◌, ◌++◌, Option, Some, None, Result, Ok, Err, IfSome, is_some, length, nat_le, nat_lt}
-use Rattle.std.specs.List.{All, list_all, list_any}
+use Rattle.std.specs.Prelude.{◌≡◌, ◌⊎◌, ℕ, ◌+◌, ◌*◌, Bool, true, false, ◌&&◌, ◌||◌, not, List, [], ◌∷◌, ◌++◌, Option, Some, None, Result, Ok, Err, IfSome, is_some, length, map, nat_le, nat_lt}
+use Rattle.std.specs.List.{All}
+use Rattle.dg_aux.specs.Turns.{said_over}
 use Rattle.dg_graph.specs.declared.element.Column.{Column}
 use Rattle.dg_graph.specs.declared.limits.TheConstants.{SKEW_MAX}
 use Rattle.dg_text.specs.declared.limits.TheConstants.{NAMES_MAX}
@@ -11,7 +12,7 @@ use Rattle.dg_history.specs.History.{History, are_parameters, events_of, span_of
 use Rattle.dg_index.specs.ImageOfHistory.{StandsAs}
 use Rattle.dg_index.specs.OpenedIndex.{Opening}
 use Rattle.dg_machine.specs.declared.command.Command.{Command}
-use Rattle.dg_machine.specs.declared.limits.TheConstants.{HANDLE_MAX, LIVE_HANDLES_MAX}
+use Rattle.dg_machine.specs.declared.limits.TheConstants.{HANDLE_MAX, INDEXES_MAX, LIVE_HANDLES_MAX}
 use Rattle.dg_machine.specs.declared.reply.Head.{Head}
 use Rattle.dg_machine.specs.declared.reply.Head.TheVariants as head
 use Rattle.dg_machine.specs.declared.reply.Refusal.{Refusal}
@@ -22,15 +23,18 @@ use Rattle.dg_machine.specs.declared.stands.Stands.TheVariants.{Overlay, Base, S
 use Rattle.dg_machine.specs.Answer.{headed, is_refusal, refusal_of}
 use Rattle.dg_machine.specs.CutImage.{IsCut}
 use Rattle.dg_machine.specs.MachineState.{MachineState, dependent_on, stands_at, graphs_of, history_in}
-use Rattle.dg_machine.specs.Needs.{Needs, can_be_held, earliest, instants_asked, is_followed, is_set, is_writing, needs, nothing_more, of, when}
+use Rattle.dg_machine.specs.Needs.{Needs, can_be_held, earliest, end_asked, instants_asked, is_followed, is_out_of_range, is_set, is_writing, needs, nothing_more, of, when}
 use Rattle.dg_machine.specs.Run.{Step, is_failed_read}
 use Rattle.dg_machine.specs.Script.{Asked}
+use Rattle.dg_machine.specs.ValueIndex.{is_among}
+use Rattle.dg_text.specs.Names.{number_of}
 use Rattle.dg_batch.specs.declared.halt.Halt.{Halt}
 use Rattle.dg_batch.specs.declared.halt.Halt.TheVariants as halt
 use Rattle.dg_batch.specs.declared.stop.Stop.TheVariants as stop
 use Rattle.dg_session.specs.Crashes.{IsFirstByte, is_created}
 use Rattle.dg_session.specs.Decided.{IsHeadOf, is_late}
 use Rattle.dg_session.specs.Parts.{Parts}
+use Rattle.dg_session.specs.ValuesSaid.{IndexKept, said_of}
 use Rattle.dg_session.specs.ReplyNames.{BeginWith, ReplyNamesAreThere}
 use Rattle.dg_ask.specs.HeldIndex.{events_held, has_node_held, span_held}
 use Rattle.dg_stored.specs.StoredHistory.{IsHeldBy, KeepsHistory}
@@ -41,12 +45,12 @@ is_of_node (Overlay t cols on) = false
 is_of_node (Base node cols) = true
 is_of_node (Selected what cols) = false
 
--- the instants of what a handle stands for are in the history, or its index has the node, so that no later event
--- changes it
+-- The instants of what a handle stands for are in the history, and what it ends before is there or next, or its index has
+-- the node, so that no later event changes it.
 abbrev pub is_reached : History → Stands → Bool
 is_reached z (Overlay t cols on) = in_range (span_of (events_of z)) t
 is_reached z (Base node cols) = can_be_held z.params (length (events_of z)) node
-is_reached z (Selected what cols) = list_all (in_range (span_of (events_of z))) (instants_asked what)
+is_reached z (Selected what cols) = not (is_out_of_range (span_of (events_of z)) (instants_asked what) (end_asked what))
 
 -- the session stands for this state of the machine, over the image
 pub record StandsFor (session : Parts) (image : List ℕ) (m : MachineState) : Type 0 where
@@ -57,6 +61,7 @@ pub record StandsFor (session : Parts) (image : List ℕ) (m : MachineState) : T
   pub graphs : session.graphs ≡ graphs_of m
   pub reached : All (λ (e : ℕ × Stands). is_reached (history_in m.index) e.1 ≡ true) m.table
   pub next : session.next ≡ m.next
+  pub indexes : map said_of session.indexes ≡ map (said_over (events_of (history_in m.index))) m.indexes
   pub no_handles : m.index ≡ None → m.table ≡ []
 
 -- the session holds the image, where the disk tells it: it is as the last call left it
@@ -98,6 +103,14 @@ is_wide_held (Some o) = is_wide o.form
 abbrev pub is_too_full : Parts → ℕ → Bool
 is_too_full p count = nat_lt p.limits.events (events_held p.index + count) || nat_lt NAMES_MAX (length p.names + 2 * count)
 
+-- the indexed keys, by their numbers among the names
+abbrev pub indexed_keys : Parts → List ℕ
+indexed_keys p = map (λ (kept : IndexKept). kept.key) p.indexes
+
+-- the key of this text is indexed
+abbrev pub is_indexed_by : Parts → List ℕ → Bool
+is_indexed_by p text = is_among (indexed_keys p) (number_of p.names text)
+
 -- The refusals of a command that needs this and is followed by so many lines, by what a session keeps.
 abbrev pub refusals_by : Bool → Parts → ℕ → Needs → List Refusal
 refusals_by there p read n =
@@ -108,13 +121,17 @@ refusals_by there p read n =
     ++ (of n.parameters (λ p. when (not (are_parameters p.0 p.1 && nat_le p.2 SKEW_MAX)) refusal.Parameters)
     ++ (when (n.unloaded && is_some (span_held p.index)) refusal.AlreadyLoaded
     ++ (when (nat_lt 0 n.changes && is_too_full p n.changes) (refusal.HistoryFull (events_held p.index) n.changes)
-    ++ (when (list_any (λ t. not (in_range (span_held p.index) t)) n.instants) (refusal.OutOfRange (span_held p.index))
+    ++ (when (is_out_of_range (span_held p.index) n.instants n.until) (refusal.OutOfRange (span_held p.index))
     ++ (of n.handle (λ h. when (not (is_some (stands_at h p.table))) (refusal.UnknownHandle h))
     ++ (of n.handle (λ h. when (n.overlay && is_set (stands_at h p.table)) (refusal.NotAnOverlay h))
     ++ (of n.unused (λ h. of (dependent_on h p.table) (λ d. refusal.InUse d ∷ []))
     ++ (of n.node (λ v. when (not (has_node_held p.index v)) refusal.UnknownNode)
+    ++ (of n.unindexed (λ key. when (not (is_some (number_of p.names key))) refusal.UnknownKey)
+    ++ (of n.indexed (λ key. when (not (is_indexed_by p key)) refusal.NotIndexed)
+    ++ (of n.unindexed (λ key. when (is_indexed_by p key) refusal.AlreadyIndexed)
+    ++ (of n.unindexed (λ key. when (nat_le INDEXES_MAX (length p.indexes)) refusal.IndexesFull)
     ++ (when (nat_lt 0 n.handles && nat_lt LIVE_HANDLES_MAX (length p.table + n.handles)) (refusal.PoolFull (length p.table) n.handles)
-    ++ when (nat_lt 0 n.handles && nat_lt (HANDLE_MAX + 1) (p.next + n.handles)) refusal.HandlesSpent))))))))))))
+    ++ when (nat_lt 0 n.handles && nat_lt (HANDLE_MAX + 1) (p.next + n.handles)) refusal.HandlesSpent))))))))))))))))
 
 -- the first of them that holds
 abbrev pub refused_by : Parts → ℕ → Needs → Option Refusal
@@ -178,6 +195,17 @@ Stops command AreTaken old before after crashes =
 -- what a retrieval of these instants needs, as so many handles
 abbrev pub retrieval_needs : List ℕ → ℕ → Needs
 retrieval_needs instants handles = record nothing_more { index = true; instants = instants; handles = handles }
+
+-- what is needed to make an index of the key of this text, and to find something in one
+abbrev pub index_needs : List ℕ → Needs
+index_needs text = record nothing_more { index = true; unindexed = Some text }
+
+abbrev pub find_needs : ℕ → List ℕ → Needs
+find_needs t text = record nothing_more { index = true; instants = t ∷ []; indexed = Some text }
+
+-- what is needed of two instants, between which something is added, as one handle
+abbrev pub interval_needs : ℕ → ℕ → Needs
+interval_needs from until = record nothing_more { index = true; instants = from ∷ []; until = Some until; handles = 1 }
 
 -- what the holding of a node needs, as one handle
 abbrev pub node_needs : NodeId → Needs

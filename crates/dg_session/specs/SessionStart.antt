@@ -16,12 +16,13 @@ use Rattle.dg_start.specs.SessionStart.{RefusesStart, Started, Starts}
 use Rattle.dg_verify.specs.declared.fault.VerifyFault.{VerifyFault}
 use Rattle.dg_verify.specs.declared.fault.VerifyFault.TheVariants as verify_fault
 
--- the session has no handle yet
+-- the session has no handle and no index of values yet
 pub record IsNew (limits : Limits) (session : Parts) : Type 0 where
   pub limits_are : session.limits ≡ limits
   pub table : session.table ≡ []
   pub graphs : session.graphs ≡ []
   pub next : session.next ≡ limits.first_handle
+  pub indexes : session.indexes ≡ []
 
 -- ---- soundness
 

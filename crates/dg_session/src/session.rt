@@ -29,6 +29,7 @@ ghost use Rattle.dg_batch.specs.declared.stop.Stop.TheVariants as stop;
 mod bases;
 mod batches;
 mod handles;
+mod indexes;
 mod opening;
 mod plans;
 mod queries;
@@ -41,39 +42,43 @@ use crate::batch_command::BatchCommand;
 use crate::creation_command::AskedFunction;
 use crate::session_fault::SessionFault;
 use dg_ask::{KeptPlanner, span};
+use dg_aux::Aux;
 use dg_batch::{Halt, Held, Stop};
 use dg_disk::Disk;
 use dg_file::Index;
 use dg_handles::law_tie_is_kept;
 use dg_index::law_images_are_opened;
 use dg_io::{Lines, Source};
-use dg_machine::{BodyLines, Command, Head, Limits, Refusal, Reply};
+use dg_machine::{BodyLines, Command, Head, Limits, Refusal, Reply, Selection};
 use dg_names::Names;
 use dg_pool::Pool;
 use dg_seed::Seed;
 use dg_sound_files::{law_sound_files_stand, law_standing_files_are_sound};
 use dg_start::StartFault;
 use dg_verify::verify;
-use selections::expression_of;
 use std::alloc::{AllocError, Global};
 use std::marker::Model;
 use std::thread::Threads;
 
-/// An index with its history, if there is one, and the live handles over it.
+/// An index with its history, if there is one, the live handles over it, and the indexes of values.
 #[derive(Drop)]
 pub struct Session {
     limits: Limits,
     held: Held,
     planner: KeptPlanner,
+    // The indexes of values, in the order in which they were made.
+    indexes: Vec<Aux>,
     alloc: Global,
 }
 
 impl Model for Session {
+    ghost use Rattle.std.specs.Prelude.{map};
     ghost use Rattle.dg_machine.specs.MachineState.{IsWithin};
     ghost use Rattle.dg_append.specs.Overlays.{pool_in};
     ghost use Rattle.dg_ask.specs.KeptPlanner.{IsKeptFor};
     ghost use Rattle.dg_batch.specs.Held.{IsHeld, graphs_held};
     ghost use Rattle.dg_session.specs.SessionState.{SessionState};
+    ghost use Rattle.dg_session.specs.ValuesSaid.{kept_of};
     ghost use Rattle.dg_stored.specs.StoredHistory.{index_opening};
 
     ghost Value = { SessionState };
@@ -88,6 +93,7 @@ impl Model for Session {
         table = s.held.handles.table;
         graphs = graphs_held s.held;
         next = s.held.handles.next;
+        indexes = map kept_of s.indexes.items;
       };
       pool = pool_in s.held.live.pool;
       slots = s.held.handles.slots;
@@ -216,10 +222,21 @@ impl Session {
         ensures lines { TakesFrom S.Source lines.old source.old lines.new source.new }
         ensures disk { UsesDisk D.Disk disk.old disk.new }
     {
-        match self.carry_out(rt, command, lines, source, disk) {
+        let outcome = self.carry_out(rt, command, lines, source, disk);
+        self.forget_after(&outcome);
+        match outcome {
             Ok(reply) => Ok(reply),
             Err(Halt::Refusal(refusal)) => Ok(headed(self.alloc, Head::Refused(refusal))),
             Err(Halt::Stop(stop)) => Err(stop),
+        }
+    }
+
+    // Forgets the indexes of values where the file could not be written: what it holds is not known then.
+    fn forget_after(&mut self, outcome: &Result<Reply, Halt>)
+        ensures kept { (outcome.now ≡ Err (Halt.Stop Stop.Store) → ⊥) → self.new ≡ self.old }
+    {
+        if let Err(Halt::Stop(Stop::Store)) = outcome {
+            self.indexes.clear();
         }
     }
 
@@ -264,10 +281,15 @@ impl Session {
                 self.several(rt, cols, times, count, disk)
             }
             Command::Materialise { node, cols } => self.materialise(rt, node, cols, disk),
-            Command::Select { what, cols } => {
-                let expr = expression_of(what);
-                self.choose(rt, expr, cols, disk)
-            }
+            Command::Select {
+                what: Selection::Chosen(expr),
+                cols,
+            } => self.choose(rt, expr, cols, disk),
+            Command::Select {
+                what: Selection::Added { from, until },
+                cols,
+            } => self.interval(from, until, cols, disk),
+            Command::Index { key } => self.index_values(key, disk),
             Command::Certify { t, cols, count } => self.certify(t, cols, count, lines, source),
             Command::Verify => self.verify(rt, disk),
             Command::Workload { seed, count } => self.workload(rt, seed, count, disk),
@@ -292,6 +314,7 @@ impl Session {
             Command::Pool => Ok(self.pool_size()),
             Command::Plan { t, cols } => self.plan(t, cols),
             Command::Tree => self.tree(),
+            Command::Find { t, key, value } => self.find(t, key, value),
             _ => unreachable!(),
         }
     }

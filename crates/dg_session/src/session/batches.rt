@@ -16,6 +16,7 @@ ghost use Rattle.dg_session.specs.CreationCommand.{making};
 ghost use Rattle.dg_session.specs.Reads.{ReadsIn};
 ghost use Rattle.dg_session.specs.Session.{ComesTo, HoldsImage, LeavesCommand, TakesLines, is_too_full, refused_by};
 
+use super::indexes::{barred_with, pass, reserve};
 use super::{Session, headed};
 use crate::batch_command::BatchCommand;
 use crate::creation_command::AskedFunction;
@@ -142,7 +143,7 @@ impl Session {
         ensures lines { TakesFrom S.Source lines.old source.old lines.new source.new }
         ensures disk { TreatsDisk D.Disk disk.old disk.new result }
     {
-        let barred = self.barred(which, count);
+        let barred = barred_with(self.barred(which, count), &mut self.indexes, count);
         let batch = read_batch(
             self.alloc,
             count,
@@ -160,6 +161,7 @@ impl Session {
             &mut self.held,
             disk,
         )?;
+        pass(&mut self.indexes, &added.events);
         Ok(headed(self.alloc, which.head(added)))
     }
 
@@ -196,6 +198,7 @@ impl Session {
         }
         // The reply counts the graph behind the batch, which the pool does. No element is in it yet.
         self.overlay()?;
+        reserve(&mut self.indexes, count)?;
         let batch = generated_batch(self.alloc, seed, count, &mut self.held.live.history.names)?;
         self.planner.forget();
         let added = add_changes(
@@ -206,6 +209,7 @@ impl Session {
             &mut self.held,
             disk,
         )?;
+        pass(&mut self.indexes, &added.events);
         let Some(pool) = &self.held.live.pool else {
             unreachable!()
         };

@@ -70,6 +70,7 @@ impl Session {
                     adjacency: KeptAdjacency::new(),
                 },
                 planner: KeptPlanner::new(alloc),
+                indexes: Vec::new(alloc),
                 alloc,
             }),
             Err(fault) => Err(fault),

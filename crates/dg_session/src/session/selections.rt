@@ -1,6 +1,6 @@
 //! Elements that are selected from the history, each selection as a new handle.
 
-ghost use Rattle.std.specs.Prelude.{◌≡◌, ◌+◌, ◌≤◌, ℕ, IfOk, IfSome, IsErrOf, IsTrue, List, OnErr, OnOk, [], ◌∷◌, Ok, Err, Option, length, map};
+ghost use Rattle.std.specs.Prelude.{◌≡◌, ◌+◌, ◌≤◌, ℕ, true, is_some, IfOk, IfSome, IsErrOf, IsTrue, List, OnErr, OnOk, [], ◌∷◌, Ok, Err, Option, length, map};
 ghost use Rattle.std.specs.List.{All};
 ghost use Rattle.dg_disk.specs.Calls.{Fails, ReadsDisk};
 ghost use Rattle.dg_expr.specs.Chosen.{chosen};
@@ -12,15 +12,20 @@ ghost use Rattle.dg_graph.specs.Elements.{shown};
 ghost use Rattle.dg_handles.specs.Handles.{with_messages};
 ghost use Rattle.dg_machine.specs.Answer.{headed};
 ghost use Rattle.dg_machine.specs.declared.limits.TheConstants.{HANDLE_MAX, LIVE_HANDLES_MAX};
+ghost use Rattle.dg_machine.specs.MachineState.{MachineState, history_in};
+ghost use Rattle.dg_machine.specs.Needs.{in_range_or_next};
+ghost use Rattle.dg_machine.specs.Selections.{added_length};
 ghost use Rattle.dg_machine.specs.declared.selection.Selection.TheVariants as selection;
 ghost use Rattle.dg_machine.specs.declared.stands.Stands.TheVariants as stands;
 ghost use Rattle.dg_retrieval.specs.Beginnings.{leads_in, led_to};
 ghost use Rattle.dg_retrieval.specs.NamesThere.{NamesAreThere};
 ghost use Rattle.dg_session.specs.Calls.{ReadsFile};
-ghost use Rattle.dg_session.specs.Reads.{listed_by, with_new_handles};
-ghost use Rattle.dg_session.specs.Session.{ComesTo, HoldsImage};
+ghost use Rattle.dg_session.specs.Damage.{TellsListDamage, events_between};
+ghost use Rattle.dg_session.specs.Reads.{AddsFor, listed_by, with_new_handles};
+ghost use Rattle.dg_session.specs.Session.{ComesTo, HoldsImage, StandsFor, interval_needs, refused_by};
 ghost use Rattle.dg_batch.specs.declared.stop.Stop.TheVariants as stop;
 
+use super::plans::in_range;
 use super::retrievals::first_of;
 use super::{Session, headed};
 use crate::graph_sets::led_sets;
@@ -30,6 +35,8 @@ use dg_disk::Disk;
 use dg_expr::{Expr, law_chosen_elements_are_shown, select};
 use dg_graph::Columns;
 use dg_machine::{Command, HANDLE_MAX, Head, LIVE_HANDLES_MAX, Refusal, Reply, Selection, Stands};
+use dg_range::{law_images_have_added, lists_between, lists_bytes, read_added};
+use dg_records::RecordFault;
 use dg_retrieval::{Leads, Retrieved};
 use dg_set::Set;
 use std::alloc::{AllocError, Global};
@@ -93,6 +100,110 @@ impl Session {
         select(self.alloc, expr, &sets)
     }
 
+    // A new handle for what the events from the instant `from` on and before `until` add, with their messages, in these
+    // columns. Of the lists that may have such events the asked columns are read, each once; the recent events are in memory.
+    pub(super) fn interval<D: Disk>(
+        &mut self,
+        from: u64,
+        until: u64,
+        cols: Columns,
+        disk: &mut D,
+    ) -> Result<Reply, Halt>
+        requires image { HoldsImage self.old.parts (D.image disk.old) }
+
+        // what it comes to
+        ensures comes { ComesTo (Command.Select (selection.Added from until) cols) [] self.old.parts (D.image disk.old) self.new.parts (D.image disk.new) result }
+        ensures no_stop { (stop : Stop) → result ≡ Err (Halt.Stop stop) → ⊥ }
+
+        // why it is refused for a read
+        ensures store_read { IsErrOf result (Halt.Refusal Refusal.StoreRead) → Fails D.Disk disk.old disk.new }
+
+        // what it reads and leaves
+        ensures file { ReadsFile D.Disk (Command.Select (selection.Added from until) cols) self.old.parts disk.old disk.new result }
+        ensures disk { ReadsDisk D.Disk disk.old disk.new }
+    {
+        if let Some(refusal) = self.refused_interval(from, until) {
+            return Err(Halt::Refusal(refusal));
+        }
+        let weight = self.interval_bytes(from, until, cols);
+        let elements = self.read_interval(from, until, cols, disk)?;
+        let handle = self.held.handles.next() as u32;
+        self.add_selected(Selection::Added { from, until }, cols, elements)?;
+        Ok(headed(self.alloc, Head::Added { handle, weight }))
+    }
+
+    // Why nothing that is added between these instants is read for a new handle.
+    fn refused_interval(&self, from: u64, until: u64) -> Option<Refusal>
+        ensures { result ≡ refused_by self.now.parts 0 (interval_needs from until) }
+    {
+        if !self.has_index() {
+            return Some(Refusal::NoIndex);
+        }
+        let ends = self.span();
+        if !in_range(ends, from) || !in_range_or_next(ends, until) {
+            return Some(Refusal::OutOfRange(ends));
+        }
+        let live = self.held.handles.live();
+        if (live + 1) as usize > LIVE_HANDLES_MAX {
+            return Some(Refusal::PoolFull(live, 1));
+        }
+        if self.held.handles.next() + 1 > u64::from(HANDLE_MAX) + 1 {
+            return Some(Refusal::HandlesSpent);
+        }
+        None
+    }
+
+    // The bytes of the asked columns of the lists that may have an event between the instants.
+    fn interval_bytes(&self, from: u64, until: u64, cols: Columns) -> u64
+        requires { is_some self.now.parts.index ≡ true }
+        ensures { (image : List ℕ) (m : MachineState) → StandsFor self.now.parts image m → result ≡ added_length (history_in m.index) from until cols }
+    {
+        let Some(index) = &self.held.live.history.index else {
+            unreachable!()
+        };
+        let (low, high) = lists_between(index, from, until);
+        lists_bytes(index, low, high, cols)
+    }
+
+    // What the events between the instants add, with their messages, in these columns.
+    fn read_interval<D: Disk>(
+        &self,
+        from: u64,
+        until: u64,
+        cols: Columns,
+        disk: &mut D,
+    ) -> Result<Set, RecordFault>
+        requires there { is_some self.now.parts.index ≡ true }
+        requires image { HoldsImage self.now.parts (D.image disk.old) }
+
+        // what is added, of which the second holds over an image that stands for a state
+        ensures named { IfOk result (NamesAreThere (length self.now.parts.names)) }
+        ensures over { IfSome (D.image disk.old) (λ image. (m : MachineState) → StandsFor self.now.parts image m
+            → AddsFor m from until cols (D.taken disk.old) (D.taken disk.new) result) }
+
+        // why nothing is
+        ensures cause { IsErrOf result RecordFault.Disk → Fails D.Disk disk.old disk.new }
+        ensures damage { TellsListDamage self.now.parts (D.image disk.old) (events_between from until cols) result }
+
+        // what it leaves
+        ensures disk { ReadsDisk D.Disk disk.old disk.new }
+    {
+        law_images_have_added();
+        let Some(index) = &self.held.live.history.index else {
+            unreachable!()
+        };
+        read_added(
+            self.alloc,
+            index,
+            disk,
+            self.held.live.history.names.len(),
+            &self.held.live.history.recent,
+            from,
+            until,
+            cols,
+        )
+    }
+
     // A new handle for these elements, with what is selected by them and in which columns.
     fn add_selected(
         &mut self,
@@ -118,12 +229,13 @@ impl Session {
     }
 }
 
-// The expression by which elements are selected.
-pub(super) fn expression_of(what: Selection) -> Expr
-    ensures { what ≡ selection.Chosen result }
+// Whether the instant lies between the ends, or is the one behind the last.
+fn in_range_or_next(ends: Option<(u64, u64)>, t: u64) -> bool
+    ensures { result ≡ in_range_or_next ends t }
 {
-    match what {
-        Selection::Chosen(expr) => expr,
+    match ends {
+        Some((_, last)) => in_range(ends, t) || last < t && t - last == 1,
+        None => false,
     }
 }
 

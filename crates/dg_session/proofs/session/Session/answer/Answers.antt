@@ -1,5 +1,6 @@
 use Rattle.std.proofs.Common.{[], sym, subst}
 use Rattle.dg_machine.specs.declared.command.Command.{Command}
+use Rattle.dg_machine.specs.CommandGrammar.{CountIsInRange}
 use Rattle.dg_session.specs.Session.{Accepts, ComesTo}
 use Rattle.dg_session.proofs.session.Session.answer.Goals as goal
 
@@ -23,3 +24,12 @@ returns-in-Plan-clause-comes c image = subst (λ (x : Command). ComesTo x [] c.a
 
 pub returns-in-Tree-clause-comes : goal.returns-in-Tree-clause-comes
 returns-in-Tree-clause-comes c image = subst (λ (x : Command). ComesTo x [] c.args.self.now.parts image c.args.self.now.parts image c.tree.result) (sym c.in-Tree.is) (c.tree.ensures.comes image)
+
+pub find-requires-clause-key : goal.find-requires-clause-key
+find-requires-clause-key c = (subst CountIsInRange c.in-Find.is c.requires.command).0
+
+pub find-requires-clause-value : goal.find-requires-clause-value
+find-requires-clause-value c = (subst CountIsInRange c.in-Find.is c.requires.command).1
+
+pub returns-in-Find-clause-comes : goal.returns-in-Find-clause-comes
+returns-in-Find-clause-comes c image = subst (λ (x : Command). ComesTo x [] c.args.self.now.parts image c.args.self.now.parts image c.find.result) (sym c.in-Find.is) (c.find.ensures.comes image)

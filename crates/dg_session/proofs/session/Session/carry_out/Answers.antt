@@ -7,7 +7,7 @@ use Rattle.dg_cuts.specs.TakenLines.{CutsWithin, TakesBehind}
 use Rattle.dg_machine.specs.declared.command.Command.{Command}
 use Rattle.dg_machine.specs.declared.command.Command.TheVariants as command
 use Rattle.dg_machine.specs.declared.selection.Selection.{Selection}
-use Rattle.dg_machine.specs.declared.selection.Selection.TheVariants.{Chosen}
+use Rattle.dg_machine.specs.declared.selection.Selection.TheVariants.{Added, Chosen}
 use Rattle.dg_machine.specs.CommandGrammar.{CountIsInRange}
 use Rattle.dg_session.specs.Session.{is_at_hand}
 use Rattle.dg_session.specs.Verified.{is_verify}
@@ -46,13 +46,18 @@ workload-requires-clause-few g c = (subst CountIsInRange c.in-Workload.is c.requ
 
 pub choose-requires-clause-expression : goal.choose-requires-clause-expression
 choose-requires-clause-expression g c =
-    let is : c.args.command.now ≡ command.Select (Chosen c.expression_of-expr.result) c.in-Select.cols = c.in-Select.is ∙ ap (λ (w : Selection). command.Select w c.in-Select.cols) c.expression_of-expr.ensures in
+    let what : c.in-Select-Chosen-default.what ≡ Chosen c.in-Select-Chosen-default.expr = rw c.in-Select-Chosen-default.is at c.in-Select-Chosen-default.what-is in
+    let is : c.args.command.now ≡ command.Select (Chosen c.in-Select-Chosen-default.expr) c.in-Select-Chosen-default.cols = c.in-Select-Chosen-default.is ∙ ap (λ (w : Selection). command.Select w c.in-Select-Chosen-default.cols) what in
     (subst CountIsInRange is c.requires.command).0
 
 pub choose-requires-clause-words : goal.choose-requires-clause-words
 choose-requires-clause-words g c =
-    let is : c.args.command.now ≡ command.Select (Chosen c.expression_of-expr.result) c.in-Select.cols = c.in-Select.is ∙ ap (λ (w : Selection). command.Select w c.in-Select.cols) c.expression_of-expr.ensures in
+    let what : c.in-Select-Chosen-default.what ≡ Chosen c.in-Select-Chosen-default.expr = rw c.in-Select-Chosen-default.is at c.in-Select-Chosen-default.what-is in
+    let is : c.args.command.now ≡ command.Select (Chosen c.in-Select-Chosen-default.expr) c.in-Select-Chosen-default.cols = c.in-Select-Chosen-default.is ∙ ap (λ (w : Selection). command.Select w c.in-Select-Chosen-default.cols) what in
     (subst CountIsInRange is c.requires.command).1
+
+pub index_values-requires-clause-short : goal.index_values-requires-clause-short
+index_values-requires-clause-short g c = subst CountIsInRange c.in-Index.is c.requires.command
 
 pub returns-in-At-clause-carries : goal.returns-in-At-clause-carries
 returns-in-At-clause-carries g c =
@@ -69,12 +74,27 @@ returns-in-Materialise-clause-carries g c =
     reading_carries {d = g.D.Disk} c.materialise.result g.met.D.Disk.only_now c.args.command.now (command.Materialise c.in-Materialise.node c.in-Materialise.cols) c.in-Materialise.is refl tt c.materialise.ensures.comes c.materialise.ensures.no_stop (unverified_all (command.Materialise c.in-Materialise.node c.in-Materialise.cols) c.args.self.now.parts (g.D.Disk.image c.args.disk.now) c.materialise.result refl)
     c.materialise.ensures.store_read c.materialise.ensures.disk c.materialise.ensures.file
 
-pub returns-in-Select-clause-carries : goal.returns-in-Select-clause-carries
-returns-in-Select-clause-carries g c =
-    let done : Command = command.Select (Chosen c.expression_of-expr.result) c.in-Select.cols in
-    let is : c.args.command.now ≡ done = c.in-Select.is ∙ ap (λ (w : Selection). command.Select w c.in-Select.cols) c.expression_of-expr.ensures in
+pub returns-in-Select-Chosen-default-clause-carries : goal.returns-in-Select-Chosen-default-clause-carries
+returns-in-Select-Chosen-default-clause-carries g c =
+    let what : c.in-Select-Chosen-default.what ≡ Chosen c.in-Select-Chosen-default.expr = rw c.in-Select-Chosen-default.is at c.in-Select-Chosen-default.what-is in
+    let is : c.args.command.now ≡ command.Select (Chosen c.in-Select-Chosen-default.expr) c.in-Select-Chosen-default.cols = c.in-Select-Chosen-default.is ∙ ap (λ (w : Selection). command.Select w c.in-Select-Chosen-default.cols) what in
+    let done : Command = command.Select (Chosen c.in-Select-Chosen-default.expr) c.in-Select-Chosen-default.cols in
     reading_carries {d = g.D.Disk} c.choose.result g.met.D.Disk.only_now c.args.command.now done is refl tt c.choose.ensures.comes c.choose.ensures.no_stop (unverified_all done c.args.self.now.parts (g.D.Disk.image c.args.disk.now) c.choose.result refl)
     c.choose.ensures.store_read c.choose.ensures.disk c.choose.ensures.file
+
+pub returns-in-Select-Added-default-clause-carries : goal.returns-in-Select-Added-default-clause-carries
+returns-in-Select-Added-default-clause-carries g c =
+    let what : c.in-Select-Added-default.what ≡ Added c.in-Select-Added-default.from c.in-Select-Added-default.until = rw c.in-Select-Added-default.is at c.in-Select-Added-default.what-is in
+    let done : Command = command.Select (Added c.in-Select-Added-default.from c.in-Select-Added-default.until) c.in-Select-Added-default.cols in
+    let is : c.args.command.now ≡ done = c.in-Select-Added-default.is ∙ ap (λ (w : Selection). command.Select w c.in-Select-Added-default.cols) what in
+    reading_carries {d = g.D.Disk} c.interval.result g.met.D.Disk.only_now c.args.command.now done is refl tt c.interval.ensures.comes c.interval.ensures.no_stop (unverified_all done c.args.self.now.parts (g.D.Disk.image c.args.disk.now) c.interval.result refl)
+    c.interval.ensures.store_read c.interval.ensures.disk c.interval.ensures.file
+
+pub returns-in-Index-clause-carries : goal.returns-in-Index-clause-carries
+returns-in-Index-clause-carries g c =
+    let done : Command = command.Index c.in-Index.key in
+    reading_carries {d = g.D.Disk} c.index_values.result g.met.D.Disk.only_now c.args.command.now done c.in-Index.is refl tt c.index_values.ensures.comes c.index_values.ensures.no_stop (unverified_all done c.args.self.now.parts (g.D.Disk.image c.args.disk.now) c.index_values.result refl)
+    c.index_values.ensures.store_read c.index_values.ensures.disk c.index_values.ensures.file
 
 pub returns-in-Verify-clause-carries : goal.returns-in-Verify-clause-carries
 returns-in-Verify-clause-carries g c =
