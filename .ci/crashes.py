@@ -382,6 +382,9 @@ COMMANDS = [
     ("at 45 sne", 0),
     ("several sne 20 30 45 60", 0),
     ("expression sne and 45 not 20", 0),
+    ("interval 20 80 snet", 0),
+    ("index name", 0),
+    ("find 73 name B", 0),
     ("at 79 st", 0),
     ("several snet 79 45", 0),
     ("materialise inner 1 1 sne", 0),
@@ -463,6 +466,8 @@ def main():
     later = b"append 2\n900 +node 900\n901 nset 900 k v\n"
     loaded = both.run("a load", made, load, batch=later)
     both.run("an append", loaded, append, batch=later)
+    beside = b"index name\nappend 3\n60 nset 1 name B\n61 ndel 1 name\n61 nset 2 name A\nfind 61 name A\n"
+    both.run("an append beside an index", loaded, beside, batch=later)
     both.run("an append over what a crash left", loaded + b"\1" * 300, append, batch=later)
     both.run("a whole run", b"", create + load + append, batch=later)
     commands, their_states = histories(2, [40, 9, 1, 30])

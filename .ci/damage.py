@@ -13,6 +13,8 @@ the file.
 
 Over a file that is not sound, and without `--checked`, a reply may rest on damage. A value may then stand under a name of
 the file that no key may be, since of a delta's column only that is asked that its names are there; such lines are counted.
+An interval, and an index with what it finds, go by the lists and by what is recent alone: what is due of them is judged over
+these files too.
 """
 
 import random
@@ -40,6 +42,9 @@ REPLIES = {
     "at": (r"ok at \d+ \d+", None),
     "several": (r"ok several \d+ \d+", r"handle \d+ \d+ \d+"),
     "expression": (r"ok expression \d+ \d+", None),
+    "interval": (r"ok interval \d+ \d+", None),
+    "index": (r"ok index \d+ \d+", None),
+    "find": (r"ok find (\d+)", r"node \d+"),
     "materialise": (r"ok materialise \d+ \d+", None),
     "list": (r"ok list \d+ (\d+)", ELEMENT),
     "counts": (r"ok counts \d+ \d+ \d+ \d+ \d+(?: \d+)?", None),
@@ -62,6 +67,8 @@ REFUSALS = {
     "unknown-node": r"refused 11 unknown-node",
     "not-an-overlay": r"refused 17 not-an-overlay \d+",
     "damaged": rf"refused 15 damaged {KEY} [snet]",
+    "unknown-key": r"refused 23 unknown-key",
+    "not-indexed": r"refused 24 not-indexed",
 }
 
 
@@ -80,20 +87,23 @@ def reply_fault(command, reply):
     return f"no line of a reply to {word}: {wrong[0]!r}" if wrong else None
 
 
-def questions(times, leaves):
-    """A script over a history that has these instants and so many leaves."""
+def questions(times, leaves, keys=("a", "bb"), values=("x", "zz")):
+    """A script over a history that has these instants and so many leaves, and values of nodes under these two keys."""
     first, last = times[0], times[-1]
     draw = random.Random(len(times))
     asked = [first, last, *(draw.choice(times) for _ in range(3))]
-    script = ["verify", "tree"]
-    for handle, time in enumerate(asked, 1):
+    script = ["verify", "tree", f"interval {asked[2]} {last + 1} snet", "list 1", f"interval {first} {asked[3]} se", "list 2"]
+    script += [f"interval {asked[4]} {min(asked[4] + 3, last + 1)} sn", "list 3"]
+    script += [f"index {keys[0]}", f"find {asked[3]} {keys[0]} {values[0]}", f"find {last} {keys[0]} {values[1]}"]
+    for handle, time in enumerate(asked, 4):
         script += [f"at {time} {draw.choice(['st', 'sn', 'set', 'sne'])}", f"list {handle}"]
-    script += [f"several snet {' '.join(map(str, asked))}", "list 6", "list 8", f"plan {asked[2]} sne", f"plan {first} s"]
-    script += [f"expression sne or and {asked[2]} not {asked[3]} and {asked[4]} not {asked[2]}", "list 11"]
-    script += ["counts 2", "node 2 5", "neighbours 3 5", f"materialise leaf {max(1, leaves // 2)} sne"]
+    script += [f"several snet {' '.join(map(str, asked))}", "list 9", "list 11", f"plan {asked[2]} sne", f"plan {first} s"]
+    script += [f"expression sne or and {asked[2]} not {asked[3]} and {asked[4]} not {asked[2]}", "list 14"]
+    script += ["counts 5", "node 5 5", "neighbours 6 5", f"materialise leaf {max(1, leaves // 2)} sne"]
     script += [f"materialise inner 1 {max(1, leaves // 8)} s", "pool", "clean all"]
     batch = [f"{last + 2 + i} +node {7000 + i}" for i in range(ADDED)]
-    return script + [f"append 1\n{last + 1} +node 777", "\n".join([f"append {ADDED}", *batch]), "verify"]
+    script += [f"index {keys[1]}", f"append 1\n{last + 1} +node 777", f"find {last + 1} {keys[0]} {values[0]}"]
+    return script + ["\n".join([f"append {ADDED}", *batch]), f"find {asked[2]} {keys[1]} {values[1]}", "verify"]
 
 
 class Model:
@@ -102,11 +112,11 @@ class Model:
     def __init__(self, judgement):
         self.history, self.names = judgement.history, judgement.opened.names
         self.handles, self.bases, self.graphs, self.next = {}, {}, {}, 1
-        self.hearing = set()
+        self.hearing, self.chosen, self.keys = set(), set(), []
         self.total = len(self.history.events)
-        self.last = self.history.events[-1][0] if self.history.events else None
+        self.first, self.last = (self.history.events[0][0], self.history.events[-1][0]) if self.history.events else (None, None)
 
-    def index(self, columns):
+    def planned(self, columns):
         """The graph of the index, with the handles that serve for these columns."""
         usable = tuple((handle, node) for handle, (node, held) in sorted(self.bases.items()) if set(columns) - {"t"} <= set(held))
         if (columns, usable) not in self.graphs:
@@ -137,10 +147,11 @@ class Model:
         return self.append(changes) if changes else getattr(self, word)(*words)
 
     def append(self, changes):
-        """Adds nodes that are not there. All replies behind it are told by numbers of events alone."""
+        """Adds nodes that are not there. All replies behind it are told by numbers of events, or of values, alone."""
         first, last = (int(change.split(" ")[0]) for change in (changes[0], changes[-1]))
         if self.last is not None and first <= self.last:
             return ["refused 6 bad-change 1 1"]
+        self.first = first if self.first is None else self.first
         self.last, self.total = last, self.total + len(changes)
         return [f"ok append {len(changes)} {self.total} {last}"]
 
@@ -157,14 +168,14 @@ class Model:
     def at(self, time, columns):
         if not self.is_in_range(int(time)):
             return self.out_of_range()
-        weight = self.index(columns).costs[model.point(self.history, int(time))][0] + self.heard(columns, [int(time)])
+        weight = self.planned(columns).costs[model.point(self.history, int(time))][0] + self.heard(columns, [int(time)])
         return [f"ok at {self.give(self.graph_at(int(time), columns), columns)} {weight}"]
 
     def several(self, columns, *times):
         times = [int(time) for time in times]
         if not all(map(self.is_in_range, times)):
             return self.out_of_range()
-        graph, targets = self.index(columns), [model.point(self.history, time) for time in times]
+        graph, targets = self.planned(columns), [model.point(self.history, time) for time in times]
         singles = [graph.costs[target][0] + self.heard(columns, [time]) for target, time in zip(targets, times)]
         given = [self.give(self.graph_at(time, columns), columns) for time in times]
         rows = [f"handle {handle} {time} {single}" for handle, time, single in zip(given, times, singles)]
@@ -175,9 +186,40 @@ class Model:
         times = list(dict.fromkeys(word for word in words if isinstance(word, int)))
         if not all(map(self.is_in_range, times)):
             return self.out_of_range()
-        weight = self.index(columns).tree_weight([model.point(self.history, time) for time in times])
+        weight = self.planned(columns).tree_weight([model.point(self.history, time) for time in times])
         graphs = {time: self.graph_at(time, columns) for time in times}
-        return [f"ok expression {self.give(model.holding(words, graphs), columns)} {weight}"]
+        handle = self.give(model.holding(words, graphs), columns)
+        self.chosen.add(handle)
+        return [f"ok expression {handle} {weight}"]
+
+    def interval(self, begin, end, columns):
+        begin, end, last = int(begin), int(end), self.history.events[-1][0] if self.history.events else None
+        if not self.is_in_range(begin) or not (self.is_in_range(end) or end == last + 1):
+            return self.out_of_range()
+        handle = self.give(model.added(self.history.events, begin, end, columns), columns)
+        self.chosen.add(handle)
+        return [f"ok interval {handle} {self.history.bytes_of_lists(self.history.lists_between(begin, end), columns)}"]
+
+    def number(self, name):
+        """The number of a name, if it is one."""
+        return self.names.index(name.encode()) if name.encode() in self.names else None
+
+    def index(self, key):
+        number = self.number(key)
+        if number is None:
+            return ["refused 23 unknown-key"]
+        self.keys.append(number)
+        weight = sum(self.history.sizes[name][model.NODES] for name in self.history.all_lists())
+        return [f"ok index {model.additions(self.history.events, number)} {weight}"]
+
+    def find(self, time, key, value):
+        if self.first is None or not self.first <= int(time) <= self.last:
+            return [f"refused 7 out-of-range {'empty' if self.first is None else f'{self.first} {self.last}'}"]
+        if self.number(key) is None or self.number(key) not in self.keys:
+            return ["refused 24 not-indexed"]
+        graph = model.replay(event for event in self.history.events if event[0] <= int(time))
+        found = model.nodes_with(graph, self.number(key), self.number(value))
+        return [f"ok find {len(found)}", *(f"node {node}" for node in found)]
 
     def heard(self, columns, times):
         """The bytes of the messages that are read for these instants."""
@@ -186,7 +228,7 @@ class Model:
     def plan(self, time, columns):
         if not self.is_in_range(int(time)):
             return self.out_of_range()
-        rows, weight, steps = self.index(columns).plan(model.point(self.history, int(time)))
+        rows, weight, steps = self.planned(columns).plan(model.point(self.history, int(time)))
         return [f"ok plan {weight} {steps}", *rows]
 
     def materialise(self, kind, *words):
@@ -216,6 +258,8 @@ class Model:
         graph, number = self.handles.get(int(handle)), int(node)
         if graph is None:
             return [f"refused 8 unknown-handle {handle}"]
+        if int(handle) in self.chosen:
+            return [f"refused 17 not-an-overlay {handle}"]
         if (model.NODE, number) not in graph:
             return [f"ok node {handle} {node} no"]
         found = sorted(x for x in graph if x[:2] == (model.NODE_ATTR, number))
@@ -226,6 +270,8 @@ class Model:
         graph = self.handles.get(int(handle))
         if graph is None:
             return [f"refused 8 unknown-handle {handle}"]
+        if int(handle) in self.chosen:
+            return [f"refused 17 not-an-overlay {handle}"]
         rows = model.neighbours(graph, int(node))
         return [f"ok neighbours {handle} {node} {len(rows)}", *rows]
 
@@ -237,6 +283,88 @@ class Model:
 
     def clean(self, what):
         return [f"ok clean all {self.held()}"]
+
+
+class Lists:
+    """The replies that are due to intervals, and to indexes and what they find, over any file with which a start goes on. They go by
+    the columns of the lists, by the times that a directory gives these, and by the recent events."""
+
+    def __init__(self, opened):
+        self.opened, self.names = opened, opened.names
+        self.lists = range(opened.total // opened.size)
+        self.recent = [event for _, key, _, count in opened.recent_pieces() for event in opened.events_of(key, count)]
+        self.ends = (opened.batches[0].first, opened.batches[-1].last) if opened.batches else None
+        self.handles, self.indexes = {}, {}
+
+    def out_of_range(self):
+        return [f"refused 7 out-of-range {' '.join(map(str, self.ends)) if self.ends else 'empty'}"]
+
+    def events_of(self, number, column):
+        """The events of a column of a list; or nothing where it is in no spelling."""
+        try:
+            return [event for _, event in sorted(self.opened.placed(f"list {number}", column).items())]
+        except judge.Unread:
+            return None
+
+    def due(self, command, reply):
+        """What is due to a command; nothing where that is not judged here."""
+        word, *words = command.split("\n")[0].split(" ")
+        if word == "append" and reply[0].startswith("ok"):
+            first = int(command.split("\n")[1].split(" ")[0])
+            self.ends = self.ends[0] if self.ends else first, int(reply[0].split(" ")[-1])
+        if word == "list":
+            return self.handles.get(words[0])
+        if word in ("interval", "index", "find"):
+            return getattr(self, word)(*words, reply)
+        return None
+
+    def interval(self, begin, end, columns, reply):
+        begin, end, first, last = int(begin), int(end), *(self.ends or (0, -1))
+        if not first <= begin <= last or not first <= end <= last + 1:
+            return self.out_of_range()
+        found, weight = [event for event in self.recent], 0
+        for number in self.lists:
+            row = self.opened.rows[f"list {number}"]
+            if begin < end and row.ends[0] < end and begin <= row.ends[1]:
+                for column in (column for column in model.COLUMNS if judge.LETTERS[column] in columns):
+                    events = self.events_of(number, column)
+                    if events is None:
+                        return [f"refused 15 damaged list {number} {judge.LETTERS[column]}"]
+                    found += events
+                    weight += row.sizes[column]
+        handle = reply[0].split(" ")[2]
+        elements = model.added(found, begin, end, columns)
+        self.handles[handle] = [f"ok list {handle} {len(elements)}", *listing(elements, self.names)]
+        return [f"ok interval {handle} {weight}"]
+
+    def index(self, key, reply):
+        number = self.names.index(key.encode()) if key.encode() in self.names else None
+        if number is None:
+            return ["refused 23 unknown-key"]
+        found = []
+        for at in self.lists:
+            events, (first, last) = self.events_of(at, model.NODES), self.opened.rows[f"list {at}"].ends
+            if events is None or not all(first <= event[0] <= last for event in events):
+                return [f"refused 15 damaged list {at} n"]
+            found += events
+        weight = sum(self.opened.rows[f"list {at}"].sizes[model.NODES] for at in self.lists)
+        self.indexes[key] = found + self.recent
+        return [f"ok index {model.additions(self.indexes[key], number)} {weight}"]
+
+    def find(self, time, key, value, reply):
+        if not self.ends or not self.ends[0] <= int(time) <= self.ends[1]:
+            return self.out_of_range()
+        if key not in self.indexes:
+            return ["refused 24 not-indexed"]
+        graph = set()
+        for event in self.indexes[key]:
+            if event[0] <= int(time):
+                out, into = model.effect(event)
+                graph.discard(out)
+                graph.add(into)
+        number, of = (self.names.index(name.encode()) if name.encode() in self.names else None for name in (key, value))
+        found = model.nodes_with(graph - {None}, number, of)
+        return [f"ok find {len(found)}", *(f"node {node}" for node in found)]
 
 
 def records_of(history, events):
@@ -322,7 +450,7 @@ class Damage:
         return self.fault_of_damaged(due, script, replies)
 
     def fault_of_blank(self, script, replies, image, after):
-        asking = ("verify", "tree", "at", "plan", "append")
+        asking = ("verify", "tree", "at", "plan", "append", "interval", "index", "find")
         answers = [reply for command, reply in zip(script, replies) if command.split()[0] in asking]
         is_none = all(reply == ["refused 2 no-index"] for reply in answers)
         return None if is_none and after == image else "an index in a blank file"
@@ -351,7 +479,14 @@ class Damage:
         names = [text(name) for name in due.opened.names]
         values = {f"{key} {value}" for key in names for value in names}
         keyed = {f"{key} {value}" for key in names for value in names if re.fullmatch(KEY_TEXT, key)}
+        lists = Lists(due.opened)
         for command, reply in zip(script, replies):
+            wanted = lists.due(command, reply)
+            if wanted is not None:
+                if reply != wanted:
+                    return f"{command}: {reply}, and not {wanted}"
+                self.count(f"{command.split()[0]}, {'refused' if reply[0].startswith('refused 15') else 'answered'}")
+                continue
             said = [found.group(1) for found in (re.fullmatch(VALUE, line, re.DOTALL) for line in reply) if found]
             told = [found.group(1) for found in (re.fullmatch(TOLD, line, re.DOTALL) for line in reply) if found]
             if not set(names).issuperset(told):
@@ -484,7 +619,7 @@ def five_changes(tests, damage):
     its segment it is said here what is due; of all else by the judgement."""
     run, image = damage.program.over(None, lines([CREATE, FIVE]))
     tests.same("five changes", (run.status, run.replies, len(image)), (0, b"ok create\nend\nok load 5 5 50\nend\n", 544))
-    script = questions([10, 20, 30, 40, 50], 2)
+    script = questions([10, 20, 30, 40, 50], 2, ("name", "A"), ("A", "name"))
     damaged_at = "damaged at offset 18: the segment there breaks the format"
     foreign = "foreign: it is no index of this program"
 

@@ -38,6 +38,10 @@ MAKE = [CREATE, FIVE]
 SCRIPTS = {
     "several": ["several s 20 30 20", "several s 30 20"],
     "expression": ["expression s and 30 not 20", "list 1", "expression s or 20 30", "list 2", "counts 1", "node 1 1"],
+    "interval": ["interval 20 41 sn", "list 1", "interval 50 51 s", "interval 40 20 s", "append 2\n60 msg 1 2 hi\n60 -node 2"]
+    + ["interval 10 61 snet", "list 4", "list 1", "node 4 1", "release 1", "pool"],
+    "index": ["find 40 name A", "index name", "find 40 name A", "append 2\n60 nset 1 name B\n70 ndel 1 name", "find 60 name B"]
+    + ["index name", "append 1\n70 nset 1 name C", "append 1\n80 nset 2 other A", "index other", "find 80 other A", "find 70 name A"],
     "append": ["at 40 sn", "append 2\n60 -node 2\n70 +node 3", "list 1", "at 70 sn", "list 2", "at 40 s"],
     "bases": ["materialise inner 1 1 s", "at 20 s", "at 20 sn", "release 1", "node 1 1", "release 2", "release 1", "list 1"],
     "sweeps": ["at 20 s", "at 40 s", "pool", "release 2", "clean 1", "at 30 s", "clean all", "pool"]
@@ -54,10 +58,13 @@ LONGER = [
     "at 1011 sne",
     "several sn 1003 1020 1026",
     "materialise inner 2 1 sne",
+    "index kind",
     "append 9\n2000 +node 100\n2001 +node 101\n2002 +edge 100 100 101 dir\n2003 nset 100 kind v9\n2004 eset 100 w 3"
     "\n2005 +node 102\n2006 +node 103\n2007 +node 104\n2008 -node 104",
     "at 1009 se",
     "list 6",
+    "find 2003 kind v9",
+    "interval 1005 1020 sne",
     "verify",
 ]
 # Over a file of the first form.
@@ -254,7 +261,7 @@ def main():
     faults.in_turn("a longer history", LONGER, None)
     _, longer = faults.without(LONGER[:2], None)
     faults.in_turn("a longer history, a checked file", LONGER[2:], longer, CHECKED)
-    faults.cache("a longer history, retrieved", LONGER[2:5] + LONGER[2:4] + LONGER[6:], longer)
+    faults.cache("a longer history, retrieved", LONGER[2:6] + LONGER[2:4] + LONGER[7:], longer)
     for name, script in SCRIPTS.items():
         faults.cuts(name, MAKE + script)
         faults.pieces(name, MAKE + script, None)

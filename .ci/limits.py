@@ -1,5 +1,5 @@
 """A disk that is full, a file that may not grow or be written any more, and memory that lacks: what a run says, and that
-nothing is lost. And what must not cost more: two kinds of batches, and an instant that is named again.
+nothing is lost. And what must not cost more: two kinds of batches, values that are found, and an instant that is named again.
 
   python3 .ci/limits.py PROGRAM FOLDER
 
@@ -276,10 +276,10 @@ class Limits:
 
     # ---- costs
 
-    def cost(self, script):
-        """The processor time, user's and system's, that a run over a new file takes to its end."""
+    def cost(self, script, image=None):
+        """The processor time, user's and system's, that a run over a file of these bytes, or over a new one, takes to its end."""
         index = self.program.place("costly")
-        put(index, None)
+        put(index, image)
         before = resource.getrusage(resource.RUSAGE_CHILDREN)
         ran = self.limited(index, script)
         after = resource.getrusage(resource.RUSAGE_CHILDREN)
@@ -287,10 +287,10 @@ class Limits:
         self.tests.check("a run whose cost is taken", whole, (ran.status, ran.errors, ran.replies[:200]))
         return after.ru_utime + after.ru_stime - before.ru_utime - before.ru_stime
 
-    def times_as_much(self, name, most, script, other, runs=5):
+    def times_as_much(self, name, most, script, other, image=None, runs=5):
         """The first script costs at most so many times what the other one does, by the least of several runs of each, in
         turn: what else a machine does makes a run dearer and never cheaper."""
-        costs = [(self.cost(script), self.cost(other)) for _ in range(runs)]
+        costs = [(self.cost(script, image), self.cost(other, image)) for _ in range(runs)]
         cost, other_cost = (min(taken) for taken in zip(*costs))
         print(f"{name}: {cost:.3f} s, {cost / other_cost:.1f} times {other_cost:.3f} s", flush=True)
         self.tests.check(f"{name}: at most {most} times as much", cost <= most * other_cost, (cost, other_cost))
@@ -302,6 +302,12 @@ class Limits:
         # All of these stand behind the last closed list.
         many, few = (single_appends(65536, count) for count in (20000, 5000))
         self.times_as_much("20,000 appends, beside 5,000", 8, many, few)
+        # What is found costs the value's own comings and goings: there are 62,500 of this key, and one of each value.
+        made, image = self.program.over(None, lines(["create 1024 4 union", "workload 7 1000000"]))
+        self.tests.same("a million changes", made.status, 0)
+        groups = [62500 * number // 20000 * 2 for number in range(20000)]
+        finds = ["index name", *(f"find {1003 + 4 * group} name n{group}" for group in groups)]
+        self.times_as_much("20,000 values found among 1,000,000 changes, beside the index", 5, lines(finds), lines(finds[:1]), image)
 
     def repeated_instant(self):
         """Many messages of one instant, which `several` names 32 times, are in memory once: with so little memory that there
@@ -444,6 +450,12 @@ ASK = [
     "counts 7",
     "expression sne and 20000 not 10000",
     "list 8",
+    "interval 5000 90000 snet",
+    "list 9",
+    "index kind",
+    "find 20000 kind v3",
+    "append 2\n110000 nset 1000001 kind v3\n110000 nset 1000001 name again",
+    "find 110000 kind v3",
 ]
 
 

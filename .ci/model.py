@@ -14,10 +14,12 @@ NODE, EDGE, NODE_ATTR, EDGE_ATTR, MESSAGE = range(5)
 STRUCTURE, NODES, EDGES, MESSAGES = range(4)
 COLUMNS = range(4)
 LETTERS = "snet"
-COLUMN_OF = {NODE: STRUCTURE, EDGE: STRUCTURE, NODE_ATTR: NODES, EDGE_ATTR: EDGES}
+COLUMN_OF = {NODE: STRUCTURE, EDGE: STRUCTURE, NODE_ATTR: NODES, EDGE_ATTR: EDGES, MESSAGE: MESSAGES}
 ASKED = ["s", "sn", "se", "sne"]  # the columns of graphs that a command may ask for
 FUNCTIONS = ["intersection", "union", "balanced"]
 SHARES = [0, 1, 64, 128, 200, 255, 256]  # of 256, of a skewed function
+MOST_INDEXES = 16
+UNKNOWN = b"hello"  # a text that no batch brings, but for batches that are refused
 
 
 def number(n, size):
@@ -87,6 +89,27 @@ def replay(events):
             assert into not in graph
             graph.add(into)
     return graph
+
+
+def put_in(event):
+    """The element that comes in, or the message that is sent."""
+    return (MESSAGE, *event[2:]) if event[1] == "msg" else effect(event)[1]
+
+
+def added(events, begin, end, columns):
+    """What the events from an instant on and before another put in, in these columns."""
+    found = (put_in(event) for event in events if begin <= event[0] < end)
+    return {x for x in found if x is not None and LETTERS[COLUMN_OF[x[0]]] in columns}
+
+
+def nodes_with(graph, key, value):
+    """The nodes of a graph that have this value."""
+    return sorted(x[1] for x in graph if x[0] == NODE_ATTR and x[2:] == (key, value))
+
+
+def additions(events, key):
+    """How many events put in a value of a key at a node."""
+    return sum(x is not None and x[0] == NODE_ATTR and x[2] == key for x in map(put_in, events))
 
 
 def messages_at(events, time):
@@ -162,6 +185,19 @@ class History:
             if any(of_list[0][0] <= time <= of_list[-1][0] for time in times):
                 keys.append(f"list {i}")
         return keys, sum(self.sizes[key][MESSAGES] for key in keys)
+
+    def lists_between(self, begin, end):
+        """The lists that begin before the end and do not end before the beginning, where the end is the later one."""
+        times = [event[0] for event in self.events]
+        ends = [(times[i * self.size], times[(i + 1) * self.size - 1]) for i in range(len(times) // self.size)]
+        return [f"list {i}" for i, (first, last) in enumerate(ends) if begin < end and first < end and begin <= last]
+
+    def bytes_of_lists(self, keys, columns):
+        """The bytes of the asked columns of these lists."""
+        return sum(self.sizes[key][column] for key in keys for column in COLUMNS if LETTERS[column] in columns)
+
+    def all_lists(self):
+        return [f"list {i}" for i in range(len(self.events) // self.size)]
 
     def node(self, height, index, made):
         """The set of a leaf, of height 0, or of an interior node."""
@@ -421,6 +457,14 @@ class Changes:
         self.nodes, self.edges = set(), {}
         self.has_messages = True
         self.values = {NODE_ATTR: {}, EDGE_ATTR: {}}
+        self.ids, self.keys, self.texts = 30, [b"a", b"bb", b"c"], [b"x", b"y y", b"", b"zz"]
+        self.kinds = ["+node"] * 3 + ["-node", "+edge", "+edge", "-edge", "nset", "ndel", "eset", "edel"]
+
+    def are_of_values(self, keys):
+        """From now on values come and go at few nodes, of which some are made again, under so many keys more."""
+        self.ids, self.kinds = 5, ["+node", "-node"] * 3 + ["nset"] * 6 + ["ndel"] * 5 + ["+edge"]
+        self.keys = [b"a", b"k" * 64, *(b"k%d" % number for number in range(keys))]
+        self.texts = [b"x", b"y y", b"", b" z ", b"v" * 1024]
 
     def name(self, text, new):
         if text not in self.names:
@@ -439,10 +483,9 @@ class Changes:
     def attempt(self, new):
         rng = self.rng
         time = self.time + rng.choice([0, 0, 1, 1, 2])
-        kinds = ["+node"] * 3 + ["-node", "+edge", "+edge", "-edge", "nset", "ndel", "eset", "edel"]
-        kind = rng.choice(kinds + ["msg", "msg"] * self.has_messages)
+        kind = rng.choice(self.kinds + ["msg", "msg"] * self.has_messages)
         if kind == "+node":
-            node = rng.randrange(30)
+            node = rng.randrange(self.ids)
             if node in self.nodes:
                 return None
             self.nodes.add(node)
@@ -485,7 +528,7 @@ class Changes:
         owners, values = (self.nodes if word[0] == "n" else self.edges), self.values[kind]
         if word.endswith("set") and owners:
             owner = self.rng.choice(sorted(owners))
-            key_text, text = self.rng.choice([b"a", b"bb", b"c"]), self.rng.choice([b"x", b"y y", b"", b"zz"])
+            key_text, text = self.rng.choice(self.keys), self.rng.choice(self.texts)
             key, value = self.name(key_text, new), self.name(text, new)
             old = values.get((owner, key))
             values[owner, key] = value
@@ -546,7 +589,8 @@ class Case:
         self.handles, self.next = {}, 1  # the graphs of this run's live handles, and the number of the next one
         self.bases, self.rests = {}, {}  # the nodes that handles hold, with their columns; and what each handle rests on
         self.hearing = set()  # the handles whose columns have messages
-        self.formulas = set()  # the handles of expressions
+        self.chosen = set()  # the handles of expressions and of intervals
+        self.indexes = []  # the numbers of the keys that are indexed
 
     def reply(self, *lines):
         self.due += list(lines) + ["end"]
@@ -562,7 +606,7 @@ class Case:
         if ran.returncode != status or ran.stdout.decode() != due or not same:
             sys.exit(f"seed {self.seed}: status {ran.returncode}, replies {ran.stdout.decode() == due}, file {same}")
         self.script, self.due, self.handles, self.next, self.bases, self.rests = [], [], {}, 1, {}, {}
-        self.hearing, self.formulas = set(), set()
+        self.hearing, self.chosen, self.indexes = set(), set(), []
 
     def give(self, graphs, rests, columns="s"):
         """Gives each of these graphs a handle, which rests on what stands beside it."""
@@ -655,8 +699,97 @@ def ask_expressions(rng, history, case):
             weight = case.graph(history, columns).tree_weight([point(history, time) for time in times])
             graphs = {time: cut(replay(e for e in history.events if e[0] <= time), columns) for time in times}
             case.reply(f"ok expression {case.next} {weight}")
-            case.formulas.add(case.next)
+            case.chosen.add(case.next)
             case.give([holding(words, graphs)], [None])
+
+
+def ask_intervals(rng, history, case):
+    """Asks what was added between two instants; some lie outside of the history, and some in the other order."""
+    for _ in range(rng.choice([0, 0, 1, 2])):
+        columns, (first, last) = rng.choice(ASKED) + rng.choice(["", "t"]), (history.events[0][0], history.events[-1][0])
+        begin, end = rng.randrange(max(first - 1, 0), last + 2), rng.randrange(max(first - 1, 0), last + 3)
+        ask_interval(history, case, begin, end, columns)
+
+
+def ask_interval(history, case, begin, end, columns, damaged=None):
+    """Asks it of these instants, and gives the handle, if there is one. `damaged` is a record and a column that is damaged."""
+    first, last = history.events[0][0], history.events[-1][0]
+    case.script.append(f"interval {begin} {end} {columns}")
+    lists = history.lists_between(begin, end)
+    if not first <= begin <= last or not first <= end <= last + 1:
+        case.reply(f"refused 7 out-of-range {first} {last}")
+    elif len(case.handles) == 127:
+        case.reply("refused 9 pool-full 127 1")
+    elif damaged and damaged[0] in lists and LETTERS[damaged[1]] in columns:
+        case.reply(f"refused 15 damaged {damaged[0]} {LETTERS[damaged[1]]}")
+    else:
+        case.reply(f"ok interval {case.next} {history.bytes_of_lists(lists, columns)}")
+        case.chosen.add(case.next)
+        case.give([added(history.events, begin, end, columns)], [None], columns)
+        return case.next - 1
+    return None
+
+
+def ask_values(rng, history, changes, case):
+    """Makes indexes of values, and asks them; some keys and values there are not, and some texts are no keys."""
+    many = len(changes.keys) > MOST_INDEXES
+    for _ in range(rng.choice([0, 1, 2, 4]) + 25 * many):
+        if rng.random() < (0.6 if many else 0.4):
+            key = rng.choice([*changes.keys, *changes.keys, *filter(is_key, changes.names), UNKNOWN])
+            ask_index(history, changes.names, case, key)
+            continue
+        time = rng.randrange(max(history.events[0][0] - 1, 0), history.events[-1][0] + 2)
+        key, value = rng.choice([*changes.keys, UNKNOWN]), rng.choice([*changes.texts, UNKNOWN])
+        if case.indexes and rng.random() < 0.9:
+            key = changes.names[rng.choice(case.indexes)]
+        if rng.random() < 0.8:
+            time, key, value = beside_a_value(rng, history, changes.names, case.indexes) or (time, key, value)
+        ask_nodes(history, changes.names, case, time, key, value)
+
+
+def beside_a_value(rng, history, names, keys):
+    """An instant at which a value of one of these keys comes or goes, or one near it, with the texts of both."""
+    events = [event for event in history.events if event[1] == NODE_ATTR and event[3] in keys]
+    if not events:
+        return None
+    time, _, _, key, *values = rng.choice(events)
+    value = rng.choice([value for value in values if value is not None])
+    return max(time + rng.choice([-1, 0, 0, 0, 1]), 0), names[key], names[value]
+
+
+def is_key(text):
+    return 1 <= len(text) <= 64 and all(byte > 32 for byte in text)
+
+
+def ask_index(history, names, case, key, damaged=None):
+    """Makes an index of a key. `damaged` is a record and a column that is damaged."""
+    case.script.append(f"index {key.decode()}")
+    number = names.index(key) if key in names else None
+    if number is None:
+        case.reply("refused 23 unknown-key")
+    elif number in case.indexes:
+        case.reply("refused 25 already-indexed")
+    elif len(case.indexes) == MOST_INDEXES:
+        case.reply("refused 26 indexes-full")
+    elif damaged and damaged[0].startswith("list") and damaged[1] == NODES:
+        case.reply(f"refused 15 damaged {damaged[0]} n")
+    else:
+        case.indexes.append(number)
+        case.reply(f"ok index {additions(history.events, number)} {history.bytes_of_lists(history.all_lists(), 'n')}")
+
+
+def ask_nodes(history, names, case, time, key, value):
+    """Asks which nodes have a value."""
+    first, last = history.events[0][0], history.events[-1][0]
+    case.script.append(f"find {time} {key.decode()} {value.decode()}")
+    if not first <= time <= last:
+        case.reply(f"refused 7 out-of-range {first} {last}")
+    elif key not in names or names.index(key) not in case.indexes:
+        case.reply("refused 24 not-indexed")
+    else:
+        graph = replay(event for event in history.events if event[0] <= time)
+        found = nodes_with(graph, names.index(key), names.index(value)) if value in names else []
+        case.reply(f"ok find {len(found)}", *(f"node {node}" for node in found))
 
 
 def hold_nodes(rng, history, case):
@@ -698,7 +831,7 @@ def ask_handles(rng, history, changes, case):
             resting = sorted(other for other, on in case.rests.items() if on == handle)
             if graph is None:
                 case.reply(f"refused 8 unknown-handle {handle}")
-            elif (handle in case.bases or handle in case.formulas) and asked in ("node", "neighbours"):
+            elif (handle in case.bases or handle in case.chosen) and asked in ("node", "neighbours"):
                 case.reply(f"refused 17 not-an-overlay {handle}")
             elif asked == "release" and resting:
                 case.reply(f"refused 10 in-use {resting[0]}")
@@ -762,7 +895,7 @@ def ask_old_format(rng, history, changes, case):
         return
     node, time = rng.choice(sorted(changes.nodes)), changes.time + 1
     free = next(n for n in range(31) if n not in changes.nodes)
-    lines = [f"{time} +node {free}", f"{time} msg {node} {free} hello"] if rng.randrange(2) else [f"{time} msg {node} {node} "]
+    lines = [f"{time} +node {free}", f"{time} msg {node} {free} {UNKNOWN.decode()}"] if rng.randrange(2) else [f"{time} msg {node} {node} "]
     case.script += [f"append {len(lines)}", *lines]
     case.reply("refused 22 old-format")
 
@@ -789,6 +922,8 @@ def check(program, index, seed):
     if has_many:
         size, arity = 2, 36
     history, changes, case = any_history(rng, size, arity), Changes(rng), Case(program, index, seed)
+    if rng.randrange(3) == 0:
+        changes.are_of_values(rng.choice([0, 0, 1, 20]))
     if history.is_wide:
         case.script.append(f"create {size} {arity} {history.function}")
         case.reply("ok create")
@@ -819,6 +954,8 @@ def check(program, index, seed):
         ask_plans(rng, history, case)
         ask_graphs(rng, history, changes, case)
         ask_expressions(rng, history, case)
+        ask_intervals(rng, history, case)
+        ask_values(rng, history, changes, case)
         ask_handles(rng, history, changes, case)
         if (seed + batch) % 2:
             case.script.append("verify")
@@ -867,14 +1004,16 @@ def check_damage(program, index, seed):
     entered = records.entered([f"leaf {leaves}"] if leaves else [])
     # No plan enters a column of messages.
     starts = {(key, c) for key in history.recent for c in COLUMNS} | {(key, c) for key in entered for c in COLUMNS if c != MESSAGES}
+    known = list(changes.names)
     names, lines, events = batch(rng.choice([1, 2, 5, 9, rng.randrange(1, 60)]))
     children = older_children(history, len(events))
     met = {key for i in range(0, len(children), 32) for key in records.entered(children[i : i + 32])}
     held = [(key, c) for key, four in history.places.items() for c in COLUMNS if four[c][1] > 0]
     by_batch = [(key, c) for key, c in held if key in met and c != MESSAGES and (key, c) not in starts]
-    told = [(key, c) for key, c in held if key.startswith("list") and c == MESSAGES]
+    told, of_nodes = ([(key, c) for key, c in held if key.startswith("list") and c == column] for column in (MESSAGES, NODES))
     chosen = rng.random()
-    damaged, column = rng.choice(by_batch if by_batch and chosen < 0.5 else told if told and chosen < 0.8 else held)
+    kinds = (by_batch, 0.5), (told, 0.7), (of_nodes, 0.9), (held, 1)
+    damaged, column = rng.choice(next(some for some, below in kinds if some and chosen < below))
     place = history.places[damaged][column][0]
 
     def with_damage():
@@ -893,6 +1032,7 @@ def check_damage(program, index, seed):
         return
     said = f"refused 15 damaged {damaged} {LETTERS[column]}"
     for _ in range(rng.randrange(1, 5)):
+        met_by_lists(rng, history, known, case, (damaged, column))
         columns, leaves = rng.choice(ASKED), len(history.events) // history.size
         if leaves and rng.random() < 0.3:
             node, graph = f"leaf {rng.randrange(1, leaves + 1)}", Graph(history, columns, memory=False)
@@ -932,6 +1072,25 @@ def check_damage(program, index, seed):
     case.run(with_damage())
 
 
+def met_by_lists(rng, history, names, case, damaged):
+    """Asks what was added between two instants, often beside the damaged record, and which nodes have a value."""
+    first, last = history.events[0][0], history.events[-1][0]
+    begin, end = rng.randrange(first, last + 1), rng.randrange(first, last + 2)
+    if damaged[0].startswith("list") and rng.random() < 0.7:
+        of_list = history.events[int(damaged[0].split(" ")[1]) * history.size :][: history.size]
+        low, high = of_list[0][0], of_list[-1][0]
+        begin, end = rng.choice([(first, low), (first, low + 1), (high, last + 1), (min(high + 1, last), last + 1), (low, high + 1)])
+    handle = ask_interval(history, case, begin, end, rng.choice(ASKED) + rng.choice(["", "t"]), damaged)
+    if handle is not None:
+        case.script.append(f"list {handle}")
+        case.reply(f"ok list {handle} {len(case.handles[handle])}", *listing(case.handles[handle], names))
+    keys = sorted({event[3] for event in history.events if event[1] == NODE_ATTR})
+    found = beside_a_value(rng, history, names, keys) or (last, UNKNOWN, UNKNOWN)
+    key = rng.choice([found[1], found[1], *filter(is_key, names)])
+    ask_index(history, names, case, key, damaged)
+    ask_nodes(history, names, case, *found)
+
+
 def damaged_pairs(history, keys):
     """Each two of these records, of which the earlier one is damaged in a later column than the other."""
     held = [[column for column in COLUMNS if column != MESSAGES and history.places[key][column][1] > 0] for key in keys]
@@ -941,8 +1100,9 @@ def damaged_pairs(history, keys):
 
 def check_first_damage(program, index, seed):
     """A file with damage in two of the records of one plan of four or more: the earlier record is named, wherever the work
-    is cut for threads. And one with damage in a record and in messages that are asked for behind it: the record is named. Says
-    of how many plans each was tried: that of an instant, that of a start, and one with messages."""
+    is cut for threads. And one with damage in a record and in messages that are asked for behind it: the record is named. And
+    one with damage in two lists: the earlier one is named by an interval over all, and so is the first column of node
+    attributes by an index. Says which of them were tried: of an instant, of a start, with messages, and of all lists."""
     rng = random.Random(seed)
     history, changes, names, more = any_history(rng, 2, 2), Changes(rng), [], []
     changes.has_messages = history.is_wide
@@ -988,7 +1148,18 @@ def check_first_damage(program, index, seed):
         due = f"deltagraph: the index is refused\ndeltagraph: {index}: damaged in record {key}, column {column}\n"
         if ran.returncode != 7 or ran.stderr.decode() != due:
             sys.exit(f"seed {seed}: status {ran.returncode}, {ran.stderr.decode()}")
-    return bool(found), bool(met), bool(heard)
+    apart = damaged_pairs(history, [key for key in history.all_lists() if key not in start])
+    if apart:
+        pair = rng.choice(apart)
+        text, key, column = with_damage(pair)
+        case = Case(program, index, seed)
+        case.script.append(f"interval {history.events[0][0]} {history.events[-1][0] + 1} snet")
+        case.reply(f"refused 15 damaged {key} {column}")
+        damaged = next((of for of in pair if of[1] == NODES), None)
+        of_nodes = next((name for name in changes.names if is_key(name)), UNKNOWN)
+        ask_index(history, changes.names, case, of_nodes, damaged)
+        case.run(text)
+    return bool(found), bool(met), bool(heard), bool(apart)
 
 
 if __name__ == "__main__":
@@ -998,6 +1169,6 @@ if __name__ == "__main__":
     for seed in [*range(first, last), *MET_BY_A_BATCH]:
         check_damage(program, os.path.join(folder, "damaged"), seed)
     found = [check_first_damage(program, os.path.join(folder, "damaged"), seed) for seed in range(first, last)]
-    for plan, tried in zip(("an instant", "a start", "an instant with messages"), zip(*found)):
+    for what, tried in zip(("plans of an instant", "plans of a start", "plans with messages", "intervals"), zip(*found)):
         if sum(tried) < (last - first) // 4:
-            sys.exit(f"only {sum(tried)} plans of {plan} have two records that can be damaged")
+            sys.exit(f"only {sum(tried)} {what} have two records that can be damaged")
