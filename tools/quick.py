@@ -11,18 +11,34 @@ import gc
 import mmap
 import os
 import re
-from itertools import islice
-from operator import itemgetter
+from itertools import chain, islice
 from typing import Any, Callable, Iterator, NamedTuple, Optional, Sequence
 
 import program
 from clock import Clock
 from deltagraph.changes import LargeInstant
-from deltagraph.tables import BadTable, Known, Names, OutOfOrder, Reading, Ties, batches_of, in_order, value_of
+from deltagraph.tables import (
+    END,
+    START,
+    BadTable,
+    Columns,
+    Known,
+    Names,
+    OutOfOrder,
+    Reading,
+    Ties,
+    all_of,
+    batches_of,
+    in_order,
+    moved,
+    put_in_order,
+    together,
+    value_of,
+)
 
 SEPARATORS = {"comma": ",", "tab": "\t", "semicolon": ";"}
 MOST_IN_MEMORY = 256 << 20  # bytes of a file in no order
-ROWS = 1 << 12  # that are read together
+ROWS = 1 << 9  # that are read together
 
 
 class Plain(NamedTuple):
@@ -78,7 +94,7 @@ def look(file: str, separator: str) -> None:
             raise NotPlain
 
 
-def rows_of(plain: Plain, separator: str, reading: Reading, ends: Known) -> Iterator[Any]:
+def blocks_of(plain: Plain, separator: str, reading: Reading, ends: Known) -> Iterator[Columns]:
     """The rows of a table, as `Ties` wants them."""
     with open(plain.file, encoding="utf-8-sig", newline="") as stream:
         reader = csv.reader(stream, delimiter=separator, skipinitialspace=True, strict=True)
@@ -94,16 +110,11 @@ def rows_of(plain: Plain, separator: str, reading: Reading, ends: Known) -> Iter
             if set(map(len, chunk)) != {len(named)}:
                 raise NotPlain
             columns = list(zip(*chunk))
-            starts = reading.read(columns[at_start])
+            starts = all_of(reading.times, columns[at_start])
             if None in starts:
                 raise NotPlain
-            gone = [None] * len(chunk) if at_end < 0 else list(map(ends.__getitem__, columns[at_end]))
-            yield from reading.rows(columns[at_source], columns[at_target], starts, gone, [columns[at] for at in others])
-
-
-def moved(rows: Iterator[Any], shift: int) -> Iterator[Any]:
-    for source, target, start, end, *values in rows:
-        yield (source, target, start + shift, None if end is None else end + shift, *values)
+            gone = [None] * len(chunk) if at_end < 0 else all_of(ends, columns[at_end])
+            yield reading.columns(columns[at_source], columns[at_target], starts, gone, [columns[at] for at in others])
 
 
 def keys_of(plain: Plain, separator: str) -> list[str]:
@@ -123,40 +134,47 @@ def write(plain: Plain, separator: str, out: str, progress: program.Progress) ->
         if os.path.getsize(plain.file) > MOST_IN_MEMORY:
             raise NotPlain from None
     progress.stage("sorting by time")
-    names, rows = read(plain, separator)
-    return written(plain, keys, names, iter(sorted(rows, key=itemgetter(2))), out)
+    names, blocks = read(plain, separator)
+    return written(plain, keys, names, iter([put_in_order(together(blocks, 4 + len(keys)))]), out)
 
 
-def read(plain: Plain, separator: str) -> tuple[Names, Iterator[Any]]:
+def read(plain: Plain, separator: str) -> tuple[Names, Iterator[Columns]]:
     names = Names()
-    return names, rows_of(plain, separator, Reading(names, Known(plain.start), Known(value_of)), Known(plain.end))
+    return names, blocks_of(plain, separator, Reading(names, Known(plain.start), Known(value_of)), Known(plain.end))
 
 
-def written(plain: Plain, keys: list[str], names: Names, rows: Iterator[Any], out: str) -> Made:
-    empty, first_row = 0, next(rows, None)
-    while first_row is not None and first_row[3] == first_row[2]:  # it is in no graph, and says nothing of the shift
-        empty, first_row = empty + 1, next(rows, None)
-    if first_row is None:
-        raise NotPlain
-    clock = plain.clock(first_row[2])
-    rows = in_order(chained(first_row, rows))
-    rows = moved(rows, int(clock.shift)) if clock.shift else rows
+def from_first(blocks: Iterator[Columns]) -> tuple[int, Columns]:
+    """How many rows end when they begin before the first that does not, and the rest of its block.
+
+    They are in no graph, and say nothing of the shift.
+    """
+    empty = 0
+    for block in blocks:
+        for place, (start, end) in enumerate(zip(block[START], block[END])):
+            if start != end:
+                return empty + place, [column[place:] for column in block]
+        empty += len(block[START])
+    raise NotPlain
+
+
+def written(plain: Plain, keys: list[str], names: Names, blocks: Iterator[Columns], out: str) -> Made:
+    empty, first_block = from_first(blocks)
+    clock = plain.clock(first_block[START][0])
+    blocks = in_order(chain((first_block,), blocks))
+    if clock.shift:
+        blocks = (moved(block, int(clock.shift)) for block in blocks)
     ties = Ties(names, keys, plain.directed, plain.name, clock.note() if plain.noted else None)
     changes = batches = first = last = 0
     with open(out, "wb") as script:
         script.write(plain.head(clock).encode())
-        for count, text, begin, last in batches_of(ties.instants(rows), plain.batch):
+        for count, text, begin, last in batches_of(ties.instants(blocks), plain.batch):
             first = first if batches else begin
-            script.write(f"{'append' if batches else 'load'} {count}\n".encode() + program.bytes_of(text))
+            script.write(f"{'append' if batches else 'load'} {count}\n".encode())
+            script.write(text)
             changes, batches = changes + count, batches + 1
     if not batches:
         raise NotPlain
-    return Made(len(ties.ids), ties.ties, changes, batches, first, last, ties.empty + empty)
-
-
-def chained(first: Any, rows: Iterator[Any]) -> Iterator[Any]:
-    yield first
-    yield from rows
+    return Made(ties.nodes, ties.ties, changes, batches, first, last, ties.empty + empty)
 
 
 def script(plain: Callable[[], Plain], options: argparse.Namespace, out: str, progress: program.Progress) -> Optional[Made]:

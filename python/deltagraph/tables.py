@@ -14,11 +14,12 @@ import heapq
 import os
 import re
 import sys
+from bisect import bisect_left, bisect_right
+from collections import Counter, defaultdict
 from contextlib import contextmanager
 from fractions import Fraction
-from itertools import chain
-from itertools import groupby, islice, repeat
-from operator import itemgetter
+from itertools import chain, compress, groupby, islice, repeat
+from operator import gt, itemgetter, not_
 from typing import Any, Callable, Iterable, Iterator, NamedTuple, Optional, Sequence, Union
 
 from .calendar import DAY, NOTE_KEY, Calendar, NoDate, is_date, seconds_of, seconds_to
@@ -30,8 +31,8 @@ from .snapshot import NAME
 from .store import Store
 from .words import LARGEST_BATCH, LAST_INSTANT, LONGEST_KEY, LONGEST_VALUE, bytes_of
 
-ROWS = 1 << 12  # of a file, that are read together
-CHUNK = 1 << 16  # rows of one instant that are settled together
+ROWS = 1 << 9  # that are read together, and whose changes are made together: as much as stays in a cache
+CHUNK = 1 << 16  # rows of one instant whose changes are made together
 MOST_KNOWN = 1 << 14  # times that are remembered
 WHOLE_NUMBER = re.compile(r"-?[0-9]{1,19}", re.ASCII)
 PER_SECOND = {"s": 1, "ms": 1000, "us": 1_000_000, "ns": 1_000_000_000}  # units of numpy
@@ -39,9 +40,9 @@ SCALES = (1, 1000, 1_000_000, 1_000_000_000)  # instants of a second, of which t
 TIMES = ("dates", "numbers", "seconds")
 
 Path = Union[str, "os.PathLike[str]"]
-Row = Any  # source, target, start, end or None, and the values
-Instant = tuple[int, int, str]  # the instant, how many changes, their lines
-START = itemgetter(2)
+Columns = Sequence[Any]  # of rows: sources, targets, starts, ends or None, and for each key values or None
+Instant = tuple[int, int, bytes]  # the instant, how many changes, their lines
+START, END = 2, 3  # among the columns
 
 
 class BadTable(DeltagraphError, ValueError):
@@ -50,6 +51,11 @@ class BadTable(DeltagraphError, ValueError):
 
 def is_missing(value: Any) -> bool:
     return value is None or value == "" or value != value
+
+
+def all_of(found: Any, keys: Sequence[Any]) -> Sequence[Any]:
+    """What a dict or a list has for each of some keys."""
+    return itemgetter(*keys)(found) if len(keys) > 1 else [found[key] for key in keys]
 
 
 def checked(text: str) -> str:
@@ -114,10 +120,28 @@ class Names(dict[Any, int]):
         return number
 
 
+class Ending(dict[int, list[str]]):
+    """The changes with which ties end, of each instant that is still to come."""
+
+    def __init__(self) -> None:
+        super().__init__()
+        self.due: list[int] = []  # a heap of these instants
+
+    def __missing__(self, end: int) -> list[str]:
+        heapq.heappush(self.due, end)
+        self[end] = lines = []
+        return lines
+
+    def next(self) -> list[str]:
+        """The changes of the first of these instants, which are forgotten."""
+        return self.pop(heapq.heappop(self.due))
+
+
 class Ties:
     """The changes that rows make, in the order of their times; what was made of them is counted.
 
-    At an instant nodes come first, then ties that last, then ties that have an end, and then ties end.
+    At an instant nodes come first, then ties that last, then ties that have an end, and then ties end. An instant of
+    more than `CHUNK` rows has nodes and ties of so many rows, then of the next, before ties end.
     """
 
     def __init__(
@@ -130,119 +154,183 @@ class Ties:
     ) -> None:
         self.texts, self.keys, self.direction, self.name = names.texts, list(keys), "dir" if directed else "undir", name
         self.note = note
-        self.ids: dict[int, int] = {}  # of the numbers of names
-        self.ties = self.empty = 0
-        self.ending: dict[int, list[tuple[int, Any]]] = {}  # of each instant the ties that end, with their values
-        self.due: list[int] = []  # a heap of these instants
+        self.ids: list[str] = []  # of the numbers of names, of which one that is no node yet has none
+        self.nodes = self.ties = self.empty = 0
+        self.ending = Ending()
 
-    def instants(self, rows: Iterable[Row]) -> Iterator[Instant]:
-        """The changes of each instant. Raises `OutOfOrder` where rows do not come in the order of their starts."""
-        for start, of_start in groupby(rows, key=START):
-            if self.due and self.due[0] < start:
-                yield from self._endings_before(start)
-            lines: list[str] = []
-            while chunk := list(islice(of_start, CHUNK)):
-                self._add(start, chunk, lines)
-            if lines:
-                yield self._instant(start, lines)
+    def instants(self, blocks: Iterable[Columns]) -> Iterator[Instant]:
+        """The changes of each instant, of rows in the order of their starts. Raises `BadTable`."""
+        for start, parts in groupby(self._beginnings(blocks), key=itemgetter(0)):
+            yield from self._endings_before(start)
+            yield self._instant(start, [lines for _, part in parts for lines in part])
         yield from self._endings_before(LAST_INSTANT + 1)
 
-    def _add(self, start: int, rows: list[Row], lines: list[str]) -> None:
-        """Adds the changes of some rows of an instant, without those of ties that end."""
-        ids, made, direction, keys = self.ids, self.ties, self.direction, self.keys
-        between = f"\n{start} "
-        one_key = keys[0] if len(keys) == 1 else None
-        lasting, ending = [], []
-        for row in rows:
-            end = row[3]
-            if end is not None and end <= start:
-                self._end_of(row)
-                continue
-            source, target = ids.get(row[0]), ids.get(row[1])
-            if source is None:
-                source = self._node(row[0], lines, between)
-                target = ids.get(row[1])
-            if target is None:
-                target = self._node(row[1], lines, between)
-            if end is not None:
-                ending.append((source, target, row))
-                continue
-            made += 1
-            if one_key is None:
-                lasting.append(f"+edge {made} {source} {target} {direction}{self._values(made, row, between)}")
-            elif value := row[4]:
-                lasting.append(f"+edge {made} {source} {target} {direction}{between}eset {made} {one_key} {value}")
-            else:
-                lasting.append(f"+edge {made} {source} {target} {direction}")
-        lines += lasting
-        for source, target, row in ending:
-            made += 1
-            lines.append(f"+edge {made} {source} {target} {direction}{self._values(made, row, between)}")
-            end = row[3]
-            if end in self.ending:
-                self.ending[end].append((made, row))
-            else:
-                self.ending[end] = [(made, row)]
-                heapq.heappush(self.due, end)
-        self.ties = made
+    # Changes are lines here to which the instant is still to be added.
 
-    def _end_of(self, row: Row) -> None:
-        if row[3] < row[2]:
-            raise BadTable(f"the tie of {self.texts[row[0]]} and {self.texts[row[1]]} ends before it begins")
-        self.empty += 1
+    def _beginnings(self, blocks: Iterable[Columns]) -> Iterator[tuple[int, list[str]]]:
+        """Instants and changes of theirs, without those of ties that end."""
+        for block in by_instants(blocks):
+            columns = self._without_empty(block)
+            nodes, ties = self._nodes(columns), self._ties(lasting_first(columns))
+            begin = 0
+            for start, rows in Counter(columns[START]).items():
+                yield start, [*nodes.get(start, ()), *ties[begin : begin + rows]]
+                begin += rows
 
-    def _values(self, tie: int, row: Row, between: str) -> str:
-        text = ""
-        for key, value in zip(self.keys, row[4:]):
-            if value:
-                text += f"{between}eset {tie} {key} {value}"
-        return text
+    def _without_empty(self, columns: Columns) -> Columns:
+        """The rows that do not end when they begin. Raises `BadTable` for one that ends before."""
+        lasts = [end is None or end > start for start, end in zip(columns[START], columns[END])]
+        if all(lasts):
+            return columns
+        for last, source, target, start, end in zip(lasts, *columns[:4]):
+            if not last and end < start:
+                raise BadTable(f"the tie of {self.texts[source]} and {self.texts[target]} ends before it begins")
+        self.empty += lasts.count(False)
+        return [list(compress(column, lasts)) for column in columns]
 
-    def _node(self, number: int, lines: list[str], between: str) -> int:
-        self.ids[number] = node = len(self.ids) + 1
-        lines.append(f"+node {node}{between}nset {node} {self.name} {self.texts[number]}")
+    def _nodes(self, columns: Columns) -> dict[int, list[str]]:
+        """The nodes that come with some rows, by instants."""
+        ids, nodes = self.ids, defaultdict[int, list[str]](list)
+        ids += [""] * (len(self.texts) - len(ids))
+        for source, target, start in zip(*columns[:3]):
+            if not ids[source]:
+                nodes[start].append(self._node(source))
+            if not ids[target]:
+                nodes[start].append(self._node(target))
+        return nodes
+
+    def _node(self, number: int) -> str:
+        self.nodes += 1
+        self.ids[number] = node = str(self.nodes)
+        lines = f"+node {node}\nnset {node} {self.name} {self.texts[number]}"
         if self.note is not None:
-            lines.append(f"nset {node} {NOTE_KEY} {self.note}")
+            lines += f"\nnset {node} {NOTE_KEY} {self.note}"
             self.note = None
-        return node
+        return lines
 
-    def _instant(self, time: int, lines: list[str]) -> Instant:
+    def _ties(self, columns: Columns) -> list[str]:
+        """How each tie begins; how it ends is kept."""
+        sources, targets, starts, ends, *values = columns
+        first, self.ties = self.ties + 1, self.ties + len(starts)
+        ties = list(map(str, range(first, self.ties + 1)))
+        sources, targets, direction = all_of(self.ids, sources), all_of(self.ids, targets), self.direction
+        key, column = (self.keys[0], values[0]) if values else ("", repeat(None))
+        begun = [
+            f"+edge {tie} {source} {target} {direction}\neset {tie} {key} {value}"
+            if value
+            else f"+edge {tie} {source} {target} {direction}"
+            for tie, source, target, value in zip(ties, sources, targets, column)
+        ]
+        for key, column in zip(self.keys[1:], values[1:]):
+            begun = [
+                f"{lines}\neset {tie} {key} {value}" if value else lines
+                for lines, tie, value in zip(begun, ties, column)
+            ]
+        has_end = [end is not None for end in ends]
+        self._end(*(list(compress(column, has_end)) for column in (ends, ties, *values)))
+        return begun
+
+    def _end(self, ends: Sequence[int], ties: Sequence[str], *values: Sequence[Optional[str]]) -> None:
+        """Keeps how some ties end."""
+        ended = [f"-edge {tie}" for tie in ties]
+        for key, column in zip(reversed(self.keys), reversed(values)):
+            ended = [
+                f"edel {tie} {key}\n{lines}" if value else lines for lines, tie, value in zip(ended, ties, column)
+            ]
+        ending = self.ending
+        for end, lines in zip(ends, ended):
+            ending[end].append(lines)
+
+    def _instant(self, time: int, changes: list[str]) -> Instant:
         """The changes of an instant, behind which ties end."""
-        between = f"\n{time} "
-        if self.due and self.due[0] == time:
-            heapq.heappop(self.due)
-            keys = self.keys
-            for tie, row in self.ending.pop(time):
-                lines += [f"edel {tie} {key}" for key, value in zip(keys, row[4:]) if value]
-                lines.append(f"-edge {tie}")
-        text = f"{time} {between.join(lines)}\n"
-        return time, text.count("\n"), text
+        if self.ending.due and self.ending.due[0] == time:
+            changes += self.ending.next()
+        lines = "\n".join(changes)
+        spelled = lines.replace("\n", f"\n{time} ")
+        return time, lines.count("\n") + 1, bytes_of(f"{time} {spelled}\n")
 
     def _endings_before(self, time: int) -> Iterator[Instant]:
-        while self.due and self.due[0] < time:
-            yield self._instant(self.due[0], [])
+        due = self.ending.due
+        while due and due[0] < time:
+            yield self._instant(due[0], [])
 
 
-def in_order(rows: Iterable[Row]) -> Iterator[Row]:
+def by_instants(blocks: Iterable[Columns]) -> Iterator[Columns]:
+    """Rows in the order of their starts, in blocks of whole instants, or of `CHUNK` rows of an instant that has more."""
+    held: list[list[Any]] = []
+    for block in chain(blocks, ((),)):  # an empty one behind the last
+        held = held or [[] for _ in block]
+        for column, more in zip(held, block):
+            column.extend(more)
+        starts = held[START] if held else []
+        begin, rows = 0, len(starts)
+        while begin < rows - (CHUNK if block else 0):
+            end = bisect_left(starts, starts[begin + ROWS], begin) if begin + ROWS < rows else rows
+            if end == begin:  # an instant of more than `ROWS`
+                end = bisect_right(starts, starts[begin], begin, min(begin + CHUNK, rows))
+            yield [column[begin:end] for column in held]
+            begin = end
+        held = [column[begin:] for column in held]
+
+
+def put_in_order(columns: Columns, order: Optional[list[int]] = None) -> Columns:
+    """Rows in the order of their starts, and those of one start in the order of these places, else as they are."""
+    order = list(range(len(columns[START]))) if order is None else order
+    order.sort(key=columns[START].__getitem__)
+    return [all_of(column, order) for column in columns]
+
+
+def lasting_first(columns: Columns) -> Columns:
+    """Rows in the order of their starts, of each instant first those without an end."""
+    has_end = [end is not None for end in columns[END]]
+    if not any(has_end):
+        return columns
+    places = range(len(has_end))
+    return put_in_order(columns, [*compress(places, map(not_, has_end)), *compress(places, has_end)])
+
+
+def disorders(starts: Sequence[int]) -> int:
+    """How many rows begin before the row before them."""
+    return sum(map(gt, starts, islice(starts, 1, None)))
+
+
+def in_order(blocks: Iterable[Columns]) -> Iterator[Columns]:
     """Rows as they come. Raises `OutOfOrder` where one is earlier than the one before it."""
-    before: Optional[int] = None
-    for row in rows:
-        if before is not None and row[2] < before:
+    last: Optional[int] = None
+    for block in blocks:
+        starts = block[START]
+        if disorders(starts) or (last is not None and starts and starts[0] < last):
             raise OutOfOrder
-        before = row[2]
-        yield row
+        last = starts[-1] if starts else last
+        yield block
 
 
-def batches_of(instants: Iterable[Instant], most: int = LARGEST_BATCH) -> Iterator[tuple[int, str, int, int]]:
+def together(blocks: Iterable[Columns], width: int) -> Columns:
+    """The rows of all blocks, each of so many columns."""
+    columns: list[list[Any]] = [[] for _ in range(width)]
+    for block in blocks:
+        for column, more in zip(columns, block):
+            column.extend(more)
+    return columns
+
+
+def moved(columns: Columns, shift: int) -> Columns:
+    """Rows that begin and end so much later."""
+    sources, targets, starts, ends, *values = columns
+    starts = [start + shift for start in starts]
+    return [sources, targets, starts, [None if end is None else end + shift for end in ends], *values]
+
+
+def batches_of(instants: Iterable[Instant], most: int = LARGEST_BATCH) -> Iterator[tuple[int, bytes, int, int]]:
     """Instants together as batches: how many changes, their lines, the first and the last instant.
 
     Raises `LargeInstant` for an instant with more changes than a batch holds.
     """
-    texts: list[str] = []
+    texts: list[bytes] = []
     held = first = last = 0
     for time, count, text in instants:
         if held and held + count > most:
-            yield held, "".join(texts), first, last
+            yield held, b"".join(texts), first, last
             texts, held = [], 0
         if count > LARGEST_BATCH:
             raise LargeInstant(str(time))
@@ -250,7 +338,7 @@ def batches_of(instants: Iterable[Instant], most: int = LARGEST_BATCH) -> Iterat
         texts.append(text)
         held, last = held + count, time
     if held:
-        yield held, "".join(texts), first, last
+        yield held, b"".join(texts), first, last
 
 
 # Times.
@@ -314,22 +402,17 @@ class Reading(NamedTuple):
     times: Known
     values: Known
 
-    def rows(self, sources: Any, targets: Any, starts: Any, ends: Any, values: Iterable[Any]) -> Iterator[Row]:
-        """Rows of columns, of which starts and ends are made already."""
-        names = self.names.__getitem__
-        texts = [list(map(self.values.__getitem__, column)) for column in values]
-        return zip(list(map(names, sources)), list(map(names, targets)), starts, ends, *texts)
-
-    def read(self, column: Iterable[Any]) -> list[Optional[int]]:
-        """A column of times as numbers, of which None is missing."""
-        return list(map(self.times.__getitem__, column))
+    def columns(self, sources: Any, targets: Any, starts: Any, ends: Any, values: Iterable[Any]) -> Columns:
+        """The columns of rows, of which starts and ends are made already."""
+        texts = [all_of(self.values, column) for column in values]
+        return [all_of(self.names, sources), all_of(self.names, targets), starts, ends, *texts]
 
 
 class Table(NamedTuple):
     """Rows of which starts and ends are not yet instants, and the keys of their values."""
 
     keys: list[str]
-    rows: Callable[[Reading], Iterator[Row]]
+    blocks: Callable[[Reading], Iterator[Columns]]
     sample: Any  # the first start
 
 
@@ -352,44 +435,46 @@ def plan_of(names: Sequence[str], source: str, target: str, start: str, end: Opt
 
 def csv_table(file: Path, separator: str, encoding: str, wanted: Callable[[Sequence[str]], list[str]]) -> Table:
     """The table of a file. Raises `BadTable` where its first line does not name its columns."""
-    with open(file, encoding=encoding, newline="") as stream:
-        reader = csv.reader(stream, delimiter=separator, skipinitialspace=True)
-        names = [name.strip() for name in next(reader, [])]
-        first = next((row for row in reader if row), None)
+    try:
+        with open(file, encoding=encoding, newline="") as stream:
+            reader = csv.reader(stream, delimiter=separator, skipinitialspace=True)
+            names = [name.strip() for name in next(reader, [])]
+            first = next((row for row in reader if row), None)
+    except (csv.Error, UnicodeDecodeError) as error:
+        raise BadTable(f"{os.fspath(file)}: {error}") from error
     taken = wanted(names)
     places = [names.index(name) if name else -1 for name in taken]
     width = len(names)
 
-    def rows(reading: Reading) -> Iterator[Row]:
+    def blocks(reading: Reading) -> Iterator[Columns]:
         with open(file, encoding=encoding, newline="") as stream:
             reader = csv.reader(stream, delimiter=separator, skipinitialspace=True)
             next(reader)
+            chunk: list[list[str]] = []
             done = 0
             try:
                 while chunk := list(islice(reader, ROWS)):
                     if set(map(len, chunk)) != {width}:
                         chunk = [row for row in chunk if row and (len(row) > 1 or row[0].strip())]
-                    yield from fields(chunk, reading)
+                    yield fields(chunk, reading)
                     done += len(chunk)
             except (BadTable, csv.Error, UnicodeDecodeError) as error:
                 raise BadTable(f"{os.fspath(file)}, {place_of(chunk, done, fields, reading, error)}") from error
 
-    def fields(chunk: list[list[str]], reading: Reading) -> Iterator[Row]:
-        columns = list(zip(*chunk))
-        if columns and set(map(len, chunk)) != {width}:
+    def fields(chunk: list[list[str]], reading: Reading) -> Columns:
+        if set(map(len, chunk)) - {width}:
             found = next(len(row) for row in chunk if len(row) != width)
             raise BadTable(f"{found} fields, and {width} columns ({', '.join(names)})")
-        if not columns:
-            return iter(())
+        columns = list(zip(*chunk)) or [()] * width
         at_source, at_target, at_start, at_end, *others = places
-        ends: Iterable[Optional[int]] = repeat(None) if at_end < 0 else reading.read(columns[at_end])
-        starts = reading.read(columns[at_start])
+        ends = [None] * len(chunk) if at_end < 0 else all_of(reading.times, columns[at_end])
+        starts = all_of(reading.times, columns[at_start])
         if None in starts:
             raise BadTable("it has no start")
-        return reading.rows(columns[at_source], columns[at_target], starts, ends, [columns[at] for at in others])
+        return reading.columns(columns[at_source], columns[at_target], starts, ends, [columns[at] for at in others])
 
     sample = None if first is None or len(first) <= places[2] else first[places[2]]
-    return Table(taken[4:], rows, sample)
+    return Table(taken[4:], blocks, sample)
 
 
 def place_of(chunk: Any, done: int, fields: Any, reading: Reading, error: Exception) -> str:
@@ -407,23 +492,23 @@ def frame_table(frame: Any, wanted: Callable[[Sequence[str]], list[str]]) -> Tab
     taken = wanted(list(frame.columns))
     columns = [frame[name] if name else None for name in taken]
 
-    def rows(reading: Reading) -> Iterator[Row]:
+    def blocks(reading: Reading) -> Iterator[Columns]:
         sources, targets, starts, ends, *values = columns
         begins = times_of(starts, reading)
         if None in begins:
             raise BadTable(f"row {begins.index(None)} (from 0) has no {starts.name}")
-        gone: Iterable[Optional[int]] = repeat(None) if ends is None else times_of(ends, reading)
-        return reading.rows(sources.tolist(), targets.tolist(), begins, gone, map(texts_of, values))
+        gone = [None] * len(begins) if ends is None else times_of(ends, reading)
+        yield reading.columns(sources.tolist(), targets.tolist(), begins, gone, map(texts_of, values))
 
     missing = columns[2].isna().to_numpy()
     sample = columns[2].iloc[int((~missing).argmax())] if len(frame) else None
-    return Table([str(name) for name in taken[4:]], rows, sample)
+    return Table([str(name) for name in taken[4:]], blocks, sample)
 
 
-def times_of(column: Any, reading: Reading) -> list[Optional[int]]:
+def times_of(column: Any, reading: Reading) -> Sequence[Optional[int]]:
     """A column of times as numbers, and None where one is missing."""
     if getattr(column.dtype, "kind", "O") != "M":
-        return reading.read(column.astype(object).where(column.notna(), None).tolist())
+        return all_of(reading.times, column.astype(object).where(column.notna(), None).tolist())
     import numpy
 
     if getattr(column.dtype, "tz", None) is not None:
@@ -464,19 +549,16 @@ def kind_of_times(times: Optional[str], sample: Any) -> str:
     return "numbers" if number else "dates"
 
 
-def settled_rows(table: Table, times: str) -> tuple[list[Row], Names, int]:
+def settled_rows(table: Table, times: str) -> tuple[Columns, Names, int]:
     """All rows, and how many instants a second has: as few as their times need."""
     for scale in SCALES if times == "dates" else (1,):
         names = Names()
+        reading = Reading(names, Known(reader_of(times, scale), scale), Known(value_of))
         try:
-            return list(table.rows(Reading(names, Known(reader_of(times, scale), scale), Known(value_of)))), names, scale
+            return together(table.blocks(reading), 4 + len(table.keys)), names, scale
         except Finer:
             continue
     raise BadTable("a time is finer than a nanosecond")
-
-
-def moved(row: Row, shift: int) -> Row:
-    return (row[0], row[1], row[2] + shift, None if row[3] is None else row[3] + shift, *row[4:])
 
 
 def make(path: Path, table: Table, times: Optional[str], options: dict[str, Any]) -> Store:
@@ -503,18 +585,19 @@ def uncollected() -> Iterator[None]:
 
 
 def _made(index: str, table: Table, kind: str, options: dict[str, Any]) -> Store:
-    rows, names, scale = settled_rows(table, kind)
-    starts = [row[2] for row in rows]
-    disordered = sum(map(int.__gt__, starts, starts[1:]))
-    duplicates = len(rows) - len(set(rows))
+    columns, names, scale = settled_rows(table, kind)
+    rows = len(columns[START])
+    disordered = disorders(columns[START])
     if disordered:
-        rows.sort(key=itemgetter(2))
-    earliest = rows[0][2] if rows else 0
+        columns = put_in_order(columns)
+    of_instants = zip(*columns)
+    duplicates = sum(count - len(set(islice(of_instants, count))) for count in Counter(columns[START]).values())
+    earliest = columns[START][0] if rows else 0
     shift = -(earliest // (DAY * scale)) * DAY * scale if earliest < 0 and kind != "numbers" else 0
     if earliest + shift < 0:
         raise BadTable(f"the time {earliest} is below 0, where instants begin")
     if shift:
-        rows = [moved(row, shift) for row in rows]
+        columns = moved(columns, shift)
     calendar = None if kind == "numbers" else Calendar(Fraction(scale), shift)
     ties = Ties(names, table.keys, options["directed"], note=calendar.note() if calendar else None)
     new = index + ".new"
@@ -525,17 +608,15 @@ def _made(index: str, table: Table, kind: str, options: dict[str, Any]) -> Store
         with Store(new, options["program"]) as store:
             store.create(*options["create"])
             changes, last = 0, None
-            for count, text, start, end in batches_of(ties.instants(rows)):
+            for count, text, start, end in batches_of(ties.instants([columns])):
                 begin = begin if changes else start
-                store.ask(f"{'append' if changes else 'load'} {count}", bytes_of(text))
+                store.ask(f"{'append' if changes else 'load'} {count}", text)
                 changes, last = changes + count, end
         os.replace(new, index)
     finally:
         if os.path.exists(new):
             os.remove(new)
-    made = Report(
-        len(rows), len(ties.ids), ties.ties, changes, begin, last, calendar, duplicates, disordered, ties.empty
-    )
+    made = Report(rows, ties.nodes, ties.ties, changes, begin, last, calendar, duplicates, disordered, ties.empty)
     store = Store(index, options["program"])
     store.report = made
     if not options["quiet"] and sys.stderr is not None:

@@ -9,9 +9,10 @@ import random
 import unittest
 from datetime import date, datetime, timedelta
 from typing import Any, Optional
+from unittest import mock
 
 import deltagraph
-from deltagraph import BadTable, IndexExists
+from deltagraph import BadTable, IndexExists, tables
 from deltagraph.calendar import Calendar
 
 from .support import Case, program
@@ -125,6 +126,16 @@ class Tables(Case):
         with self.assertRaises(ValueError):
             self.made(HEAD, times="years")
 
+    def test_bytes_that_are_no_text(self) -> None:
+        file = self.folder / "ties.csv"
+        for rows in (1, 5000):
+            file.write_bytes(b"source,target,start\n" + b"a,b,5\n" * rows + b"\xff,b,5\n")
+            with self.subTest(rows), self.assertRaises(BadTable) as raised:
+                deltagraph.from_csv(self.index, file, program=program(), quiet=True)
+            self.assertIn("ties.csv", str(raised.exception))
+            self.assertIn("can't decode byte 0xff", str(raised.exception))
+            self.assertFalse(self.index.exists())
+
     def test_an_index_that_is_there_stays(self) -> None:
         self.made("source,target,start", "a,b,5").close()
         with self.assertRaises(IndexExists):
@@ -187,6 +198,10 @@ class Tables(Case):
                 with deltagraph.from_csv(self.index, file, program=program(), quiet=True) as store:
                     self.same(store, rows)
 
+    def test_random_tables_of_many_blocks(self) -> None:
+        with mock.patch.multiple(tables, ROWS=3, CHUNK=5):
+            self.test_random_tables()
+
     @unittest.skipUnless(there("pandas"), "pandas is not installed")
     def test_random_frames(self) -> None:
         import pandas
@@ -220,6 +235,62 @@ class Tables(Case):
         with self.assertRaises(BadTable) as raised:
             deltagraph.from_pandas(self.folder / "none", frame.assign(start=[10, None]), program=program(), quiet=True)
         self.assertIn("row 1 (from 0) has no start", str(raised.exception))
+
+
+class Changes(unittest.TestCase):
+    """The changes that rows make, line by line."""
+
+    def lines(self, keys: list[str], *rows: tuple[Any, ...]) -> list[str]:
+        names = tables.Names()
+        columns = list(map(list, zip(*((names[row[0]], names[row[1]], *row[2:]) for row in rows))))
+        instants = list(tables.Ties(names, keys, note="noted").instants([columns]))
+        for time, count, text in instants:
+            self.assertEqual({line.split(b" ")[0] for line in text.splitlines()}, {b"%d" % time})
+            self.assertEqual((text.count(b"\n"), text[-1:]), (count, b"\n"))
+        self.assertEqual([time for time, _, _ in instants], sorted({time for time, _, _ in instants}))
+        return b"".join(text for _, _, text in instants).decode().splitlines()
+
+    ROWS = [("a", "b", 5, 7), ("b", "c", 5, None), ("d", "d", 5, 5), ("a", "c", 5, 8), ("c", "a", 5, None), ("c", "e", 7, 8)]
+    AT_FIRST = ["5 +node 1", "5 nset 1 name a", "5 nset 1 clock noted", "5 +node 2", "5 nset 2 name b"]
+
+    def test_nodes_then_ties_that_last_then_others_then_ends(self) -> None:
+        due = [*self.AT_FIRST, "5 +node 3", "5 nset 3 name c"]
+        due += ["5 +edge 1 2 3 dir", "5 +edge 2 3 1 dir", "5 +edge 3 1 2 dir", "5 +edge 4 1 3 dir"]
+        due += ["7 +node 4", "7 nset 4 name e", "7 +edge 5 3 4 dir", "7 -edge 3", "8 -edge 4", "8 -edge 5"]
+        self.assertEqual(self.lines([], *self.ROWS), due)
+
+    def test_an_instant_of_many_rows_comes_part_by_part(self) -> None:
+        due = [*self.AT_FIRST, "5 +node 3", "5 nset 3 name c"]
+        due += ["5 +edge 1 2 3 dir", "5 +edge 2 1 2 dir", "5 +edge 3 1 3 dir", "5 +edge 4 3 1 dir"]
+        due += ["7 +node 4", "7 nset 4 name e", "7 +edge 5 3 4 dir", "7 -edge 2", "8 -edge 3", "8 -edge 5"]
+        with mock.patch.multiple(tables, ROWS=1, CHUNK=2):
+            self.assertEqual(self.lines([], *self.ROWS), due)
+
+    def test_values_go_before_their_tie(self) -> None:
+        rows = [("a", "b", 5, 7, "1", None, "x"), ("a", "b", 5, 7, "", "2 3", None), ("b", "a", 5, None, None, None, "y")]
+        due = [*self.AT_FIRST, "5 +edge 1 2 1 dir", "5 eset 1 w y"]
+        due += ["5 +edge 2 1 2 dir", "5 eset 2 u 1", "5 eset 2 w x", "5 +edge 3 1 2 dir", "5 eset 3 v 2 3"]
+        due += ["7 edel 2 u", "7 edel 2 w", "7 -edge 2", "7 edel 3 v", "7 -edge 3"]
+        self.assertEqual(self.lines(["u", "v", "w"], *rows), due)
+
+    def test_blocks_of_whole_instants(self) -> None:
+        for seed in range(200):
+            pick = random.Random(seed)
+            starts = sorted(pick.choices(range(pick.choice([1, 3, 30])), k=pick.randrange(40)))
+            columns = [list(range(len(starts))), [], starts]
+            cuts = sorted({0, len(starts), *pick.choices(range(len(starts) + 1), k=3)})
+            blocks = [[column[begin:end] for column in columns] for begin, end in zip(cuts, cuts[1:])]
+            with self.subTest(seed), mock.patch.multiple(tables, ROWS=pick.randrange(1, 6), CHUNK=7):
+                found = list(tables.by_instants(blocks))
+                self.assertEqual([row for block in found for row in block[0]], columns[0])
+                begin = 0
+                for block in found:
+                    end = begin + len(block[0])
+                    self.assertTrue(begin < end <= begin + 7)
+                    if end < len(starts) and starts[end - 1] == starts[end]:
+                        same = [place for place, start in enumerate(starts) if start == starts[end]]
+                        self.assertEqual(((end - same[0]) % 7, len(same) > 7), (0, True))
+                    begin = end
 
 
 class Out(Case):
