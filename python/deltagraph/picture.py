@@ -21,9 +21,12 @@ def shown(snapshot: "Snapshot") -> str:
         return f"<p>{escape(repr(snapshot))}, released</p>"
     counts = snapshot.counts()
     of = snapshot.held or "the elements of " + " ".join(snapshot.words)
+    told = snapshot.store.told_calendar()
     if snapshot.time is not None:
-        told = snapshot.store.told_calendar()
         of = f"the graph as of {told.text(snapshot.time) if told else f'instant {snapshot.time}'}"
+    elif snapshot.between is not None:
+        first, last = (told.text(instant) if told else f"instant {instant}" for instant in snapshot.between)
+        of = f"what was added from {first} on and before {last}"
     rows = [(name.replace("_", " "), value) for name, value in zip(counts._fields, counts) if value is not None]
     cells = "".join(f"<tr><th>{name}</th><td>{value:,}</td></tr>" for name, value in rows)
     picture = ""

@@ -14,7 +14,7 @@ from typing import Callable, Iterator, Optional, Protocol
 
 from .failures import DeltagraphError, ProgramEnded
 from .process import Reply
-from .refusals import BadChange, OutOfRange, Refused, refusal
+from .refusals import BadChange, NotIndexed, OutOfRange, Refused, refusal
 from .store import Store
 from .words import COLUMNS, NUMBER, OPERATORS, bytes_of, lines_after, text_of
 
@@ -24,10 +24,12 @@ The commands are those of the script language (docs/SCRIPT.md), as
                   the messages of the instant are there too; at a prompt it is sne where it is left out
   several COLS TIMES    list HANDLE    counts HANDLE    node HANDLE ID    neighbours HANDLE ID    release HANDLE
   expression COLS EXPR    what holds over several instants: EXPR is a TIME, `not EXPR`, `and EXPR EXPR` or `or EXPR EXPR`
+  interval TIME TIME COLS    what was added from the first instant on and before the second, which may be `end`
+  find TIME KEY VALUE    the nodes that have this value; `index KEY` comes before it, which at a prompt is done for you
   load COUNT, append COUNT    with the changes in the COUNT lines that follow
 TIME is an instant, first or last of the history, or a date as 2015-03 or 2015-03-01. HANDLE may be last, which is the
 last one that was given. And there are
-  find NAME [@TIME]        the nodes with this value, and its keys, as of the last instant or of TIME
+  search NAME [@TIME]      the nodes with this value under any key, as of the last instant or of TIME
   diff TIME TIME [COLS]    what the second graph has not (-) and has (+) beside the first
   top COUNT degree TIME    the nodes of the highest degrees, with their names
   :dates ZERO UNIT         says which date instant 0 is, and the unit: seconds, days, ...; :dates alone tells it
@@ -35,6 +37,7 @@ last one that was given. And there are
 
 # What may stand at each place of a command; what stands last may stand again.
 HANDLES, TIMES, NOTHING = ("last",), ("first", "last"), ()
+ENDS = (*TIMES, "end")  # of an interval
 WITH_MESSAGES = (*COLUMNS, *(columns + "t" for columns in COLUMNS))
 PLACES: dict[str, tuple[tuple[str, ...], ...]] = {
     "append": (NOTHING,),
@@ -45,7 +48,9 @@ PLACES: dict[str, tuple[tuple[str, ...], ...]] = {
     "create": (NOTHING, NOTHING, ("balanced", "intersection", "skewed", "union"), NOTHING),
     "diff": (TIMES, TIMES, WITH_MESSAGES, NOTHING),
     "expression": (COLUMNS, (*OPERATORS, *TIMES)),
-    "find": (NOTHING,),
+    "find": (TIMES, NOTHING),
+    "index": (NOTHING,),
+    "interval": (TIMES, ENDS, WITH_MESSAGES, NOTHING),
     "list": (HANDLES, NOTHING),
     "load": (NOTHING,),
     "materialise": (("inner", "leaf"), NOTHING, COLUMNS),
@@ -54,6 +59,7 @@ PLACES: dict[str, tuple[tuple[str, ...], ...]] = {
     "plan": (TIMES, COLUMNS, NOTHING),
     "pool": (NOTHING,),
     "release": (HANDLES, NOTHING),
+    "search": (NOTHING,),
     "several": (WITH_MESSAGES, TIMES),
     "top": (NOTHING, ("degree",), TIMES, NOTHING),
     "tree": (NOTHING,),
@@ -66,7 +72,7 @@ PLACES: dict[str, tuple[tuple[str, ...], ...]] = {
 }
 
 OF_HANDLES = ("list", "counts", "node", "neighbours", "release")
-OF_TIMES = ("at", "plan", "certify")
+OF_TIMES = ("at", "plan", "certify", "find")
 WITH_LAST = {"load": 4, "append": 4, "workload": 3}  # the word of a head line that is an instant
 
 ALL_COLUMNS = "sne"
@@ -137,7 +143,7 @@ class FrontEnd:
         self._last: Optional[str] = None  # the last handle that was given
         self._dated = typed  # whether instants are told as dates where the index tells its calendar
         self._own: dict[str, Callable[[str], None]] = {
-            "find": self.find,
+            "search": self.search,
             "diff": self.diff,
             "top": self.top,
             ":dates": self.dates,
@@ -208,6 +214,8 @@ class FrontEnd:
 
     def _command(self, text: str) -> None:
         command = self._translated(text)
+        if self.typed and command.startswith("find "):
+            self._index_for(command)
         count = lines_after(command)
         following: list[bytes] = []
         while len(following) < count:
@@ -223,6 +231,15 @@ class FrontEnd:
             reply.drop()
             raise
 
+    def _index_for(self, command: str) -> None:
+        """Makes the index that a `find` needs, where there is none."""
+        try:
+            self.store.ask(command).drop()
+        except NotIndexed:
+            self.store.ask(f"index {command.split(' ')[2]}")
+        except Refused:
+            pass  # which is told when it is asked
+
     def _translated(self, text: str) -> str:
         """The command with numbers in place of dates, `first` and `last`."""
         words = text.split(" ")
@@ -233,6 +250,11 @@ class FrontEnd:
         elif words[0] in OF_TIMES:
             words[1:2] = map(self._instant, words[1:2])
             if self.typed and len(words) == 2 and words[0] == "at":
+                words.append(ALL_COLUMNS)
+        elif words[0] == "interval":
+            words[1:2] = map(self._instant, words[1:2])
+            words[2:3] = map(self._behind, words[2:3])
+            if self.typed and len(words) == 3:
                 words.append(ALL_COLUMNS)
         elif words[0] in ("several", "expression"):
             words[2:] = map(self._instant, words[2:])
@@ -250,6 +272,10 @@ class FrontEnd:
             return str(self.store.instant(word))
         return word
 
+    def _behind(self, word: str) -> str:
+        """The instant before which an interval ends; `end` is the one behind the last."""
+        return str(int(self._instant("last")) + 1) if word == "end" else self._instant(word)
+
     def _show(self, reply: Reply, following: list[bytes]) -> None:
         head = reply.head()
         if head[0] == "refused":
@@ -257,7 +283,7 @@ class FrontEnd:
             if isinstance(refused, BadChange):
                 refused.text = text_of(following[refused.line - 1])
             raise refused
-        if head[1] in ("at", "materialise", "expression"):
+        if head[1] in ("at", "materialise", "expression", "interval"):
             self._last = head[2]
         told = self.typed and (head[1] in WITH_LAST or head[1] == "several")
         calendar = self.store.told_calendar() if told else None
@@ -277,13 +303,13 @@ class FrontEnd:
 
     # Commands of the front end.
 
-    def find(self, rest: str) -> None:
-        """`find NAME [@TIME]`: a line for each node and key with this value."""
+    def search(self, rest: str) -> None:
+        """`search NAME [@TIME]`: a line for each node and key with this value."""
         name, mark, time = rest.rpartition(" @")
         if not mark or not (time in ("first", "last") or AN_INSTANT.fullmatch(time) or re.match(r"[0-9]{4}-", time)):
             name, time = rest, "last"
         if not name:
-            raise Wrong("it is `find NAME` or `find NAME @TIME`")
+            raise Wrong("it is `search NAME` or `search NAME @TIME`")
         begin = []
         with self.store.at(int(self._whole(time)), "sn") as graph:
             found = []
@@ -292,7 +318,7 @@ class FrontEnd:
                     found.append(f"{node} {key} {value}")
                 elif value.startswith(name):
                     begin.append(value)
-        self._answer(f"ok find {len(found)}", found)
+        self._answer(f"ok search {len(found)}", found)
         if self.typed and not found:
             more = f", and {len(begin) - MOST_SHOWN} more" if len(begin) > MOST_SHOWN else ""
             near = f"; so begin {', '.join(begin[:MOST_SHOWN])}{more}" if begin else ""

@@ -60,8 +60,9 @@ class Syntax(Refused):
 
     def words(self) -> str:
         given = self.command.split(" ")
-        if len(given) == 2 and given[0] in ("at", "plan") and self.column == len(bytes_of(self.command)) + 1:
-            return f"columns are missing: it is `{given[0]} TIME COLS`, with s, sn, se or sne for COLS"
+        times = {"at": "TIME", "plan": "TIME", "interval": "TIME TIME"}.get(given[0], "")
+        if times and len(given) == 1 + len(times.split(" ")) and self.column == len(bytes_of(self.command)) + 1:
+            return f"columns are missing: it is `{given[0]} {times} COLS`, with s, sn, se or sne for COLS"
         return f"this is no command from column {self.column} on"
 
 
@@ -166,6 +167,8 @@ class OutOfRange(Refused):
         if calendar is not None:
             words = f"the history goes from {calendar.text(first)} to {calendar.text(last)}, the instants {first} to {last}"
             words += "" if self.told else ", taken as seconds since 1970; a number is taken as an instant"
+        if self.command.startswith("interval "):
+            words += f"; an interval ends at {last + 1} at the latest, and so does one without an end"
         # Who writes 2015 may have meant the year, but not where instants are years.
         year = next((word for word in self.command.split(" ")[1:] if YEAR.fullmatch(word) and int(word) < first), None)
         return f"{words}; for the year write {year}-01-01" if year and first > LAST_YEAR else words
@@ -275,14 +278,14 @@ class OutOfMemory(Refused):
 
 
 class NotAnOverlay(Refused):
-    """17: `node` or `neighbours` of a handle of a node of the index, or of an expression, which may be no graph."""
+    """17: `node` or `neighbours` of a handle of a node of the index, of an expression or of an interval, which may be no graph."""
 
     @property
     def handle(self) -> int:
         return int(self.rest[0])
 
     def words(self) -> str:
-        return f"handle {self.handle} holds a node of the index or an expression, and not a graph as of an instant"
+        return f"handle {self.handle} holds a node of the index, an expression or an interval, and not a graph as of an instant"
 
 
 class LineLong(Refused):
@@ -320,6 +323,34 @@ class OldFormat(Refused):
         return "the file has the first form, which has no messages; `upgrade` lets it go on in the second"
 
 
+class UnknownKey(Refused):
+    """23: `index` of a key that nothing in the history is called."""
+
+    def words(self) -> str:
+        return "nothing in the history has this key"
+
+
+class NotIndexed(Refused):
+    """24: `find` by a key of which this session has no index."""
+
+    def words(self) -> str:
+        return "this session has no index of the key; `index KEY` makes one"
+
+
+class AlreadyIndexed(Refused):
+    """25: `index` of a key of which this session has an index."""
+
+    def words(self) -> str:
+        return "this session has an index of the key already"
+
+
+class IndexesFull(Refused):
+    """26: `index`, and this session has 16 indexes."""
+
+    def words(self) -> str:
+        return "this session has 16 indexes, and no more may be; a new session begins with none"
+
+
 OF_NUMBER: dict[int, type[Refused]] = {
     1: Syntax,
     2: NoIndex,
@@ -343,6 +374,10 @@ OF_NUMBER: dict[int, type[Refused]] = {
     20: AlreadyLoaded,
     21: NewFormat,
     22: OldFormat,
+    23: UnknownKey,
+    24: NotIndexed,
+    25: AlreadyIndexed,
+    26: IndexesFull,
 }
 
 

@@ -101,6 +101,13 @@ class Pool(NamedTuple):
     elements: int
 
 
+class Indexed(NamedTuple):
+    """Of an index of a key: how many changes gave a node a value of it, and how many bytes of the file were read."""
+
+    values: int
+    bytes_read: int
+
+
 class Step(NamedTuple):
     """A step of a plan: the number of its edge of the index, the node that it enters, and its weight in bytes."""
 

@@ -31,9 +31,10 @@ class Snapshot:
     """A graph that the program holds by a handle until it is released or forgotten, or the store is closed.
 
     `handle` is its number, `columns` what it has (`s`, with `n` or `e` the attributes of nodes or edges, and with `t` the
-    messages of exactly its instant), `bytes_read` how much of the file led to it. `time` is its instant; of a node of the
+    messages of exactly its instant, or of all that time), `bytes_read` how much of the file led to it. `time` is its instant; of a node of the
     index, which `Store.materialise` holds, it is None, and `held` is that node. Of an expression, by `Store.expression`, it
-    is None too, and `words` are those of the expression. Both may be no graphs, so `node` and `neighbours` are refused.
+    is None too, and `words` are those of the expression; and of what was added between two instants, by `Store.interval`,
+    which are `between`. These may be no graphs, so `node` and `neighbours` are refused.
 
     Two snapshots with the same columns make an expression over their instants: `a & b` has what is in both, `a | b` what
     is in any, `a - b` what is in the first alone, and `a ^ b` what is in just one.
@@ -54,17 +55,18 @@ class Snapshot:
         time: Optional[int],
         held: Optional[str] = None,
         words: Sequence[str] = (),
+        between: Optional[tuple[int, int]] = None,
     ) -> None:
         self.store, self.handle, self.columns, self.bytes_read = store, handle, columns, bytes_read
-        self.time, self.held = time, held
+        self.time, self.held, self.between = time, held, between
         self.words = list(words) if time is None else [str(time)]
         self.released = False
         self._ids: Optional[dict[str, list[int]]] = None  # of each name
 
     def __repr__(self) -> str:
-        of = f"time={self.time}" if self.time is not None else f"held={self.held!r}"
-        if self.time is None and self.held is None:
-            of = f"of={' '.join(self.words)!r}"
+        of = f"of={' '.join(self.words)!r}"
+        for name, known in (("between", self.between), ("held", self.held), ("time", self.time)):
+            of = of if known is None else f"{name}={known!r}"
         return f"<Snapshot handle={self.handle} {of} columns={self.columns!r}>"
 
     def _repr_html_(self) -> str:
@@ -165,29 +167,24 @@ class Snapshot:
             raise KeyError(node)
         return degrees[number]
 
-    def find(self, name: str, key: str = "name") -> list[int]:
-        """The ids of the nodes with this value for a key, in order."""
+    def find(self, key: str, value: str) -> list[int]:
+        """The ids of the nodes with this value for a key, in order. Of a graph as of an instant it is `Store.find`."""
+        if self.time is not None:
+            return self.store.find(key, value, self.time)
         if key != NAME:
-            return [value.node for value in self._with_values() if value.key == key and value.value == name]
+            return [of.node for of in self.node_attributes() if (of.key, of.value) == (key, value)]
         if self._ids is None:
             self._ids = {}
-            for value in self._with_values():
-                if value.key == NAME:
-                    self._ids.setdefault(value.value, []).append(value.node)
-        return self._ids.get(name, [])
-
-    def _with_values(self) -> Iterator[NodeAttribute]:
-        if "n" in self.columns or self.time is None:
-            yield from self.node_attributes()
-        else:
-            with self.store.at(self.time, "sn") as same:
-                yield from same.node_attributes()
+            for of in self.node_attributes():
+                if of.key == NAME:
+                    self._ids.setdefault(of.value, []).append(of.node)
+        return self._ids.get(value, [])
 
     def _id_of(self, node: Union[int, str]) -> Optional[int]:
         """The id of a node, or None where no node has the name. A name of several nodes is a LookupError."""
         if not isinstance(node, str):
             return operator.index(node)
-        found = self.find(node)
+        found = self.find(NAME, node)
         if len(found) > 1:
             raise LookupError(f"{len(found)} nodes are named {node!r}: {', '.join(map(str, found[:5]))}")
         return found[0] if found else None
@@ -217,7 +214,8 @@ class Snapshot:
         return chain.from_iterable(self._of_kind(b"eattr", replies.edge_attributes_in))
 
     def messages(self) -> Iterator[Message]:
-        """The messages of exactly its instant, by source, target and value; none where the columns have no `t`."""
+        """The messages of exactly its instant, or of all instants of an interval, by source, target and value; none where
+        the columns have no `t`."""
         return chain.from_iterable(self._of_kind(b"msg", replies.messages_in))
 
     def elements(self) -> Iterator[Union[int, Edge, NodeAttribute, EdgeAttribute, Message]]:
@@ -261,7 +259,7 @@ class Snapshot:
 
         It is a MultiGraph where no edge has a direction, else a MultiDiGraph; the key of an edge is its id. In a
         MultiDiGraph an edge without a direction is two arcs of this key, both of them with its attributes. What an
-        expression has may be no graph: an end that is not among its nodes is a node without attributes, and the values of
+        expression or an interval has may be no graph: an end that is not among its nodes is a node without attributes, and the values of
         an edge that is not there are left out. Messages are
         arcs of a MultiDiGraph too, with the keys `msg 0`, `msg 1` and so on, and the value as their attribute `message`;
         an end that was removed at that very instant, behind the message, is then a node without attributes.

@@ -24,9 +24,10 @@ from .calendar import (
 from .changes import AnyChange, batches, change_of, check_instants
 from .failures import Closed, ProgramEnded, WrongProgram
 from .process import Process, Program, Reply, find_program
-from .refusals import BadChange, NoIndex, OutOfRange, Refused, refusal
+from .refusals import BadChange, IndexesFull, NoIndex, NotIndexed, OutOfRange, Refused, UnknownKey, refusal
 from .replies import (
     Generated,
+    Indexed,
     Loaded,
     Plan,
     Pool,
@@ -45,11 +46,14 @@ from .words import (
     IS_NUMBER,
     LARGEST_BATCH,
     LAST_INSTANT,
+    LONGEST_KEY,
     MOST_INSTANTS,
     MOST_TIMES,
     MOST_WORDS,
     OPERATORS,
     bytes_of,
+    is_key,
+    is_value,
     lines_after,
 )
 
@@ -67,12 +71,12 @@ class Store:
     """A run of the program over one index file, by `deltagraph.open`.
 
     A refusal of the program is an exception (`refusals`), and so is its end (`failures`); after a refusal the store
-    goes on. `index` is the path, and `calendar` tells which dates the instants are.
+    goes on. `path` is the index file's, and `calendar` tells which dates the instants are.
 
     A time is an instant, as a number, or a date: a text as "2023", "2023-06", "2023-06-10" or "2023-06-10T12:30", a date
     or datetime of Python, a Timestamp of pandas or a datetime64 of numpy. `columns` is what is retrieved: `s`, the nodes
-    and edges, with `n` the attributes of nodes and with `e` those of edges (`s`, `sn`, `se`, `sne`); `at` and `several`
-    take a `t` behind them for the messages of the instant.
+    and edges, with `n` the attributes of nodes and with `e` those of edges (`s`, `sn`, `se`, `sne`); `at`, `several` and
+    `interval` take a `t` behind them for the messages of the instant, or of all that time.
 
     One thread at a time may use it.
     """
@@ -80,9 +84,9 @@ class Store:
     def __init__(
         self, index: Union[str, "os.PathLike[str]"], program: Program = None, checked: bool = False, cache: int = 0
     ) -> None:
-        self.index = os.fspath(index)
+        self.path = os.fspath(index)
         self.report: Any = None  # of the table that the index was made of, by `from_pandas` or `from_csv`
-        self._beside = read_calendar(self.index)
+        self._beside = read_calendar(self.path)
         self._note: Optional[Calendar] = None  # what the index itself tells
         self._note_read = False  # whether it was asked
         self._forgotten: deque[tuple[int, bool]] = deque()  # handles of snapshots that nobody has any more
@@ -90,12 +94,12 @@ class Store:
         self._process: Optional[Process] = None
         self._closed = False
         # The program makes a file that is not there, and a question should make none.
-        if os.path.exists(self.index):
+        if os.path.exists(self.path):
             self._start()
 
     def _start(self) -> Process:
         # An absolute name does not begin with `-`, which would be taken for an option.
-        self._process = Process(self._program, os.path.abspath(self.index), self._checked, self._cache)
+        self._process = Process(self._program, os.path.abspath(self.path), self._checked, self._cache)
         try:
             self._told(self._process.send("pool"))
         except ProgramEnded as ended:
@@ -106,7 +110,7 @@ class Store:
     # The session.
 
     def __repr__(self) -> str:
-        return f"<Store {self.index!r}{', ended' if self.ended else ''}>"
+        return f"<Store {self.path!r}{', ended' if self.ended else ''}>"
 
     @property
     def ended(self) -> bool:
@@ -134,7 +138,7 @@ class Store:
         if process is None:
             if self._closed:
                 raise Closed("the store is closed")
-            if not command.startswith("create ") and not os.path.exists(self.index):
+            if not command.startswith("create ") and not os.path.exists(self.path):
                 raise NoIndex(["refused", "2", "no-index"], command)
             process = self._start()
         if self._forgotten:
@@ -156,7 +160,7 @@ class Store:
         if head[1] != reply.command.split(" ", 1)[0]:
             reply.kill()
             raise WrongProgram(f"`{reply.command}` was answered by `{' '.join(head)}`")
-        if head[1] not in ("list", "several", "node", "neighbours", "plan", "tree"):
+        if head[1] not in ("list", "several", "node", "neighbours", "find", "plan", "tree"):
             reply.finish()
         return reply
 
@@ -202,11 +206,11 @@ class Store:
         The first call reads the first graph, so that the next handle has a higher number.
         """
         note = self._noted()
-        return settled(self.index, note, self._beside)
+        return settled(self.path, note, self._beside)
 
     def _noted(self) -> Optional[Calendar]:
         """What the index itself tells."""
-        if self._note_read or not os.path.exists(self.index):
+        if self._note_read or not os.path.exists(self.path):
             return self._note
         span = self.span()
         if span is not None:
@@ -240,7 +244,7 @@ class Store:
         calendar, note = calendar_of(zero, unit), self._noted()
         if note is not None and not note.same(calendar):
             raise NoDate(f"the index itself tells that instant 0 is {note.text(0)} and that instants are {note.unit}")
-        write_calendar(self.index, zero, unit)
+        write_calendar(self.path, zero, unit)
         self._beside = calendar
         return calendar
 
@@ -352,16 +356,6 @@ class Store:
         _, _, handle, read = self._ask_of(f"at {instant} {_known(columns)}", time).head()
         return Snapshot(self, int(handle), columns, int(read), instant)
 
-    def find(self, name: str, key: str = "name", time: Optional[Time] = None) -> list[int]:
-        """The ids of the nodes with this value for a key, as of a time, or of the last instant without one."""
-        if time is None:
-            span = self.span()
-            if span is None:
-                return []
-            time = span.last
-        with self.at(time, "sn") as graph:
-            return graph.find(name, key)
-
     def several(self, times: Iterable[Time], columns: str = "s") -> Snapshots:
         """The graphs as of some times, in their order, 32 together by a tree that reads each record once.
 
@@ -408,6 +402,64 @@ class Store:
         if isinstance(word, str) and (word in OPERATORS or (as_typed and IS_NUMBER.fullmatch(word))):
             return word
         return str(self.instant(word))
+
+    def interval(self, begin: Time, end: Optional[Time] = None, columns: str = "s") -> Snapshot:
+        """What was added from a time on and before another, whether or not it is there later: "2020-03" and "2020-04" are
+        all of March. Without an end it is all from the beginning on.
+
+        These are the nodes and edges that came, with `n` and `e` each value that was set, and with `t` all messages of that
+        time. It may be no graph: an edge may be there without its ends, and a value without its node. What was there before
+        and stayed is not among it.
+        """
+        first = self.instant(begin)
+        if end is None:
+            span = self.span()
+            last = span.last + 1 if span is not None else first
+        else:
+            last = self.instant(end)
+        times = [begin] if end is None else [begin, end]
+        _, _, handle, read = self._ask_of(f"interval {first} {last} {_known(columns)}", *times).head()
+        return Snapshot(self, int(handle), columns, int(read), None, between=(first, last))
+
+    # Values.
+
+    def index(self, key: str) -> Indexed:
+        """Makes an index of a key, for this session: by it `find` knows the nodes of each value at each time.
+
+        It reads one column of the whole history, once. Changes that are added later are in it too. There may be 16, and
+        none is given up before the session ends. Raises `UnknownKey` where the history has no such text, and `AlreadyIndexed`
+        where there is one, as of a `find` before.
+        """
+        _check_key(key)
+        return Indexed(*map(int, self.ask(f"index {key}").head()[2:]))
+
+    def find(self, key: str, value: str, time: Optional[Time] = None) -> list[int]:
+        """The ids of the nodes that have this value for a key, in order, as of a time, or of the last instant without one.
+
+        The first question by a key makes an index of it (`index`), and others by the same key read nothing. Behind 16 keys
+        a further one is looked for among all values of that time.
+        """
+        _check_key(key)
+        if not is_value(value):
+            return []
+        if time is None:
+            span = self.span()
+            if span is None:
+                return []
+            time = span.last
+        command = f"find {self.instant(time)} {key} {value}"
+        try:
+            reply = self._ask_of(command, time)
+        except NotIndexed:
+            try:
+                self.index(key)
+            except UnknownKey:
+                return []
+            except IndexesFull:
+                with self.at(time, "sn") as graph:
+                    return [of.node for of in graph.node_attributes() if (of.key, of.value) == (key, value)]
+            reply = self.ask(command)
+        return [int(line[len("node ") :]) for line in reply.lines()]
 
     def _run(self, times: Sequence[Time], columns: str) -> Snapshots:
         instants = [self.instant(time) for time in times]
@@ -464,9 +516,9 @@ class Store:
         """
         from .history import History
 
-        if not os.path.exists(self.index):
+        if not os.path.exists(self.path):
             raise NoIndex(["refused", "2", "no-index"], "history")
-        return History(self.index, self.told_calendar())
+        return History(self.path, self.told_calendar())
 
     def changes(self) -> Any:
         """All changes of the history in their order, as a frame of pandas (`History.changes`)."""
@@ -528,6 +580,12 @@ class Store:
         if told == "sound":
             return Verification(True, int(rest[0]), None, None)
         return Verification(False, None, " ".join(rest[:-1]), rest[-1])
+
+
+def _check_key(key: str) -> None:
+    """Raises ValueError for a text that no key may be."""
+    if not is_key(key):
+        raise ValueError(f"{key!r} is no key: keys have 1 to {LONGEST_KEY} bytes, all of them above that of a space")
 
 
 def _known(columns: str) -> str:

@@ -33,6 +33,17 @@ def bytes_of(text: str) -> bytes:
     return text.encode("utf-8", "surrogateescape")
 
 
+def is_key(text: str) -> bool:
+    """Whether a key may be called so."""
+    spelled = bytes_of(text)
+    return 1 <= len(spelled) <= LONGEST_KEY and min(spelled) > ord(" ")
+
+
+def is_value(text: str) -> bool:
+    """Whether a value may be this text, which is the rest of a line."""
+    return len(bytes_of(text)) <= LONGEST_VALUE and "\n" not in text and "\r" not in text
+
+
 def lines_after(command: str) -> int:
     """How many lines follow a command: a batch of changes or a certificate, else none."""
     found = WITH_LINES.fullmatch(command) if len(command) <= LONGEST_LINE else None

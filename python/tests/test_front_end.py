@@ -55,7 +55,7 @@ class Scripts(FrontEnd):
         due = subprocess.run([*program(), str(other)], input=CHANGES + asked, capture_output=True)
         self.assertEqual((status, replies), (0, due.stdout))
         self.assertEqual(other.read_bytes(), self.index.read_bytes())
-        self.assertIn("line 17, `foo`: this is no command from column 1 on (refused 1 syntax 1)", told)
+        self.assertIn("line 17, `foo`: this is no command from column 2 on (refused 1 syntax 2)", told)
         self.assertIn("line 18, `at 99 s`: the history goes from 10 to 40 (refused 7 out-of-range 10 40)", told)
         self.assertIn("line 24, `50 +node 9`: the node is in the graph already (refused 6 bad-change 2 2)", told)
         self.assertEqual(len(told.splitlines()), 7)
@@ -86,16 +86,37 @@ class Scripts(FrontEnd):
             b"ok counts 4 0 1 0 0\nend\nrefused 1 syntax 19\n",
         ):
             self.assertIn(due, replies)
-        self.assertIn("handle 2 holds a node of the index or an expression", told)
+        self.assertIn("handle 2 holds a node of the index, an expression or an interval", told)
 
-    def test_find_diff_and_top(self) -> None:
-        script = b"find Ada L\nfind Ada L @20\nfind \xff @40\nfind no one\ndiff 10 30\ndiff 30 10 s\ntop 2 degree 40\ntop 9 degree 10\n"
+    def test_intervals_and_values(self) -> None:
+        script = b"interval 20 40 s\nlist last\ninterval first last sn\ncounts last\ninterval 30 end sn\ncounts last\n"
+        script += b"node last 1\ninterval 20\ninterval 20 42 s\nfind 40 name Ada L\nindex name\nindex nothing\n"
+        script += b"find last name Ada L\nfind first name Ada L\n:dates 2020-01-01 days\ninterval 2020-01-21 2020-01-31 s\nlist last\n"
+        script += b"find 2020-02-10 name \xff\nfind end name x\n"
         status, replies, told = self.run_script(CHANGES + script)
         due = [
-            b"ok find 1\n1 name Ada L\nend\n",
-            b"ok find 0\nend\n",
-            b"ok find 1\n2 name \xff\nend\n",
-            b"ok find 0\nend\n",
+            b"ok list 1 3\nnode 3\nedge 5 1 2 dir\nedge 6 2 3 undir\nend\n",
+            b"ok counts 2 3 2 0 0\nend\n",
+            b"ok counts 3 0 1 2 0\nend\n",
+            b"refused 17 not-an-overlay 3\nend\nrefused 1 syntax 12\nend\nrefused 7 out-of-range 10 40\nend\n",
+            b"refused 24 not-indexed\nend\nok index 2 ",
+            b"refused 23 unknown-key\nend\nok find 1\nnode 1\nend\nok find 0\nend\n",
+            b"node 3\nedge 5 1 2 dir\nend\nok find 1\nnode 2\nend\nrefused 1 syntax 6\nend\n",
+        ]
+        for part in due:
+            self.assertIn(part, replies)
+        self.assertEqual((status, len(told.splitlines())), (0, 6))
+        self.assertIn("the history goes from 10 to 40; an interval ends at 41 at the latest", told)
+        self.assertIn("this session has no index of the key; `index KEY` makes one (refused 24 not-indexed)", told)
+
+    def test_search_diff_and_top(self) -> None:
+        script = b"search Ada L\nsearch Ada L @20\nsearch \xff @40\nsearch no one\ndiff 10 30\ndiff 30 10 s\ntop 2 degree 40\ntop 9 degree 10\n"
+        status, replies, told = self.run_script(CHANGES + script)
+        due = [
+            b"ok search 1\n1 name Ada L\nend\n",
+            b"ok search 0\nend\n",
+            b"ok search 1\n2 name \xff\nend\n",
+            b"ok search 0\nend\n",
             b"ok diff 0 3\n+ node 3\n+ edge 5 1 2 dir\n+ edge 6 2 3 undir\nend\n",
             b"ok diff 3 0\n- node 3\n- edge 5 1 2 dir\n- edge 6 2 3 undir\nend\n",
             b"ok top 2\n2 2 \xff\n1 1 Ada L\nend\n",
@@ -113,7 +134,7 @@ class Scripts(FrontEnd):
 
     def test_own_commands_in_other_forms(self) -> None:
         script = (
-            b"find\ndiff 10\ndiff 10 x\ndiff 10 20 z\ntop 5\ntop x degree 10\ntop 5 degree y\ndiff 1 99\n:dates x\n"
+            b"search\ndiff 10\ndiff 10 x\ndiff 10 20 z\ntop 5\ntop x degree 10\ntop 5 degree y\ndiff 1 99\n:dates x\n"
         )
         status, replies, told = self.run_script(CHANGES + script, "--program", program()[0])
         self.assertEqual((status, len(told.splitlines()), replies.count(b"refused ")), (0, 9, 9))
@@ -130,7 +151,7 @@ class Scripts(FrontEnd):
         self.assertIn("`at 2021-01-01 s`: the history goes from 2020-01-11 to 2020-02-10", told)
 
     def test_strict_ends_at_the_first_refusal(self) -> None:
-        for wrong in (b"foo", b"at 99 s", b"list last", b"find", b"append 1\n40 +node 9"):
+        for wrong in (b"foo", b"at 99 s", b"list last", b"search", b"append 1\n40 +node 9"):
             self.index.unlink(missing_ok=True)
             status, replies, told = self.run_script(CHANGES + wrong + b"\nat 40 s\n", "--strict")
             self.assertEqual((status, replies.count(b"end\n")), (1, 3), wrong)
@@ -143,7 +164,7 @@ class Scripts(FrontEnd):
         self.assertTrue(status == 0 and replies.startswith(b"ok :help\n") and replies.endswith(b":quit\nend\n"))
 
     def test_a_question_makes_no_file(self) -> None:
-        status, replies, told = self.run_script(b"at 5 s\nat last s\nfind x\n")
+        status, replies, told = self.run_script(b"at 5 s\nat last s\nsearch x\n")
         self.assertEqual((status, replies), (0, b"refused 2 no-index\nend\n" * 3))
         self.assertFalse(self.index.exists())
 
@@ -191,6 +212,10 @@ class Completions(unittest.TestCase):
             ("several se 5 6 7 ", "l", ["last"]),
             ("list ", "", ["last"]),
             ("expression s and 5 ", "", ["and", "or", "not", "first", "last"]),
+            ("", "in", ["index", "interval"]),
+            ("interval 5 ", "e", ["end"]),
+            ("interval 5 6 sn ", "", []),
+            ("find ", "", ["first", "last"]),
             ("top 5 ", "", ["degree"]),
             ("what ", "", []),
         ):
@@ -254,16 +279,21 @@ class Terminals(FrontEnd):
         self.until(b"deltagraph> ")
         self.assertTrue(self.say(b"at 40 sn").startswith(b"ok at 1 "))
         self.assertEqual(self.say(b"node last 1 "), b"ok node 1 1 yes 1\nattr name Ada L")
-        self.assertEqual(self.say(b"foo"), b"`foo`: this is no command from column 1 on (refused 1 syntax 1)")
+        self.assertEqual(self.say(b"foo"), b"`foo`: this is no command from column 2 on (refused 1 syntax 2)")
         self.assertEqual(self.say(b":dates 2020-01-01 days"), b"ok :dates 2020-01-01 days")
         self.assertIn(b"from 2020-01-11 to 2020-02-10", self.say(b"at 2019-12-31 s") + self.say(b"at 2021-01-01 s"))
         self.assertIn(b"handle 4 2020-02-10 0", self.say(b"several s 2020-01-11 last"))
         self.say(b"append 2", b"... ")
         self.say(b"50 +node 8", b"... ")
         self.assertEqual(self.say(b"50 +node 9"), b"ok append 2 9 2020-02-20")
-        self.assertIn(b"find NAME", self.say(b":help"))
-        self.assertEqual(self.say(b"find Ada"), b"ok find 0\nno value is exactly `Ada`; so begin Ada L")
-        self.assertEqual(self.say(b"find Eve"), b"ok find 0\nno value is exactly `Eve`")
+        self.assertIn(b"search NAME", self.say(b":help"))
+        self.assertEqual(self.say(b"search Ada"), b"ok search 0\nno value is exactly `Ada`; so begin Ada L")
+        self.assertEqual(self.say(b"search Eve"), b"ok search 0\nno value is exactly `Eve`")
+        self.assertEqual(self.say(b"find 2020-02-20 name Ada L"), b"ok find 1\nnode 1")
+        self.assertEqual(self.say(b"find first name Ada L"), b"ok find 0")
+        self.assertIn(b"nothing in the history has this key (refused 23 unknown-key)", self.say(b"find last nothing x"))
+        self.assertTrue(self.say(b"interval 2020-02-10 end").startswith(b"ok interval "))
+        self.assertTrue(self.say(b"counts last").endswith(b" 2 0 2 0"))
         self.assertTrue(self.say(b"at 2020-02-20").startswith(b"ok at "))
         self.assertTrue(self.say(b"counts last").endswith(b" 5 2 2 0"))
         os.write(self.terminal, b"\x04")

@@ -41,6 +41,10 @@ BY_ROTE = [
     (20, "already-loaded", "", deltagraph.AlreadyLoaded, {}),
     (21, "new-format", "", deltagraph.NewFormat, {}),
     (22, "old-format", "", deltagraph.OldFormat, {}),
+    (23, "unknown-key", "", deltagraph.UnknownKey, {}),
+    (24, "not-indexed", "", deltagraph.NotIndexed, {}),
+    (25, "already-indexed", "", deltagraph.AlreadyIndexed, {}),
+    (26, "indexes-full", "", deltagraph.IndexesFull, {}),
     (99, "of-tomorrow", "5 x", deltagraph.Refused, {"rest": ["5", "x"]}),
 ]
 
@@ -63,6 +67,9 @@ class Refusals(Case):
         with self.open() as store:
             self.refused(deltagraph.NoIndex, store.at, 10)
             self.refused(deltagraph.NoIndex, store.append, FIVE)
+            self.refused(deltagraph.NoIndex, store.interval, 10, 20)
+            self.refused(deltagraph.NoIndex, store.index, "name")
+            self.refused(deltagraph.NoIndex, store.find, "name", "A", 10)
             self.assertFalse(self.index.exists())
             self.refused(deltagraph.Parameters, store.create, 1, 2)
             self.refused(deltagraph.Parameters, store.create, 2, 2, "skewed 257")
@@ -80,6 +87,8 @@ class Refusals(Case):
             self.assertEqual(self.refused(deltagraph.Syntax, store.ask, "lists 1").column, 5)
             self.assertIn("columns are missing", str(self.refused(deltagraph.Syntax, store.ask, "at 20")))
             self.assertNotIn("columns are missing", str(self.refused(deltagraph.Syntax, store.ask, "at 2x")))
+            self.assertIn("`interval TIME TIME COLS`", str(self.refused(deltagraph.Syntax, store.ask, "interval 20 30")))
+            self.assertNotIn("columns are missing", str(self.refused(deltagraph.Syntax, store.ask, "interval 20")))
             self.refused(deltagraph.LineLong, store.ask, "at " + "1" * 4096)
             self.refused(deltagraph.UnknownNode, store.materialise, "leaf 3")
             self.assertEqual(self.refused(deltagraph.UnknownHandle, store.ask, "list 9").handle, 9)

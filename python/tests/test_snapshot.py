@@ -63,10 +63,10 @@ class Snapshots(Case):
         changes = ["10 +node 1", "10 nset 1 name Ada", "20 +node 2", "20 nset 2 name Ada", "30 nset 1 name Bob", "30 nset 1 age 7"]
         with self.open(self.folder / "named.dg") as store:
             store.create()
-            self.assertEqual(store.find("Ada"), [])
+            self.assertEqual(store.find("name", "Ada"), [])
             store.load(changes)
-            self.assertEqual((store.find("Ada"), store.find("Bob"), store.find("7", "age")), ([2], [1], [1]))
-            self.assertEqual((store.find("Ada", time=20), store.find("Eve"), store.find("Ada", "age")), ([1, 2], [], []))
+            self.assertEqual((store.find("name", "Ada"), store.find("name", "Bob"), store.find("age", "7")), ([2], [1], [1]))
+            self.assertEqual((store.find("name", "Ada", 20), store.find("name", "Eve"), store.find("age", "Ada")), ([1, 2], [], []))
             with store.at(20) as graph, self.assertRaisesRegex(LookupError, "2 nodes are named"):
                 graph.node("Ada")
 
