@@ -863,6 +863,11 @@ def growth(tests: Tests) -> None:
     tests.same("equal series are one", chart.split("\n")[1], "n nodes = node values  e edges  * both")
     letters = Counter(letter for line in chart.split("\n")[3:21] for letter in line.split("+")[-1].split("|")[-1])
     tests.check("a chart has its letters", letters["e"] >= 5 and letters["n"] >= 5, chart)
+    dated = tests.file("dated", "a,b,1999-05-01\nb,c,2001-02-03\nc,d,2003-04-05\n")
+    tests.load("dated.dg", tests.run("tools/edges2script", "--times", "iso", "--columns", "source,target,time", dated).stdout)
+    told = [tests.run("tools/growth", "dated.dg", *words).stdout.decode() for words in ([], ["--text"])]
+    tests.same("a table counts the note of dates", told[0].split("\n")[1].split(",")[1:], ["2", "1", "3", "0"])
+    tests.same("a chart does not", told[1].split("\n")[1], "n nodes = node values  e edges  * both")
     with tests.reader("index") as reader:
         handles = [reader.at(100, "s") for _ in range(130)]
         tests.same("handles are given up", (handles[-1], reader.session.ask("pool").head[2]), (130, "1"))
@@ -1656,6 +1661,9 @@ IN_PAGE = """<script>(function look() {
   find(nodes[edges.find((edge) => there(edge[3], now))[0]][0]);
   const told = { plain, found: svgOf(), ties: byId("found").textContent, ticks: byId("ticks").textContent };
   told.png = pngOf().toDataURL("image/png").slice(0, 22);
+  told.ends = [...document.querySelectorAll(".ends")].map((part) => [...part.children].map((label) => label.textContent));
+  told.saves = [...document.querySelectorAll("button")].map((button) => button.textContent);
+  told.over = document.documentElement.scrollWidth - innerWidth;
   document.body.textContent = "told:" + encodeURIComponent(JSON.stringify(told)) + ":told";
 })();</script></body>"""
 
@@ -1684,9 +1692,24 @@ def page_in_browser(tests: Tests) -> None:
     tests.same("lines of a saved picture", len(paths) - len(filled), drawn[0] + drawn[1])
     pale = sum(path.get("opacity") == "0.2" for path in focus.iter(f"{SVG}path"))
     tests.check("all but a node and its neighbours step back", 0 < pale < 2 * drawn[1], pale)
-    tests.check("a found node tells its edges", told["ties"].endswith(" edges drawn"), told["ties"])
+    tests.same("a found node tells its edges, and with whom", told["ties"], ties_told(data, 20))
     tests.check("labels stand under the slider", told["ticks"].startswith(data["labels"][0]), told["ticks"])
+    labels = data["labels"]
+    tests.same("labels stand under both charts", told["ends"], 2 * [[labels[0], labels[len(labels) // 2], labels[-1]]])
+    tests.same("buttons", told["saves"], ["PNG", "SVG", "Play"])
     tests.same("a saved picture", told["png"], "data:image/png;base64,")
+    tests.check("nothing stands over the side of the window", told["over"] <= 0, told["over"])
+
+
+def ties_told(data: dict[str, Any], place: int) -> str:
+    """What the page says of the node that the first edge at an instant comes from."""
+    edges = [(source, target) for source, target, _, runs in data["edges"] if in_runs(runs, place)]
+    node = edges[0][0]
+    own = [ends for ends in edges if node in ends]
+    others = sorted({data["nodes"][target if source == node else source][0] for source, target in own})
+    more = f" and {len(others) - 12} more" if len(others) > 12 else ""
+    many = "edge" if len(own) == 1 else "edges"
+    return f"{data['nodes'][node][0]}: {len(own)} {many} drawn, with {', '.join(others[:12])}{more}"
 
 
 def in_runs(runs: Sequence[int], place: int) -> bool:

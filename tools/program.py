@@ -233,6 +233,7 @@ class Reader:
         self.program, self.index = program, index
         self.live: list[int] = []
         self.known_clock: Optional[Clock] = None
+        self.has_note = False  # whether the history itself tells its clock, once that is known
         self.texts: dict[int, str] = {}  # of instants, as they were written
         self.session = self.start()
 
@@ -296,6 +297,7 @@ class Reader:
             notes = [noted(values[CLOCK_KEY]) for values in self.graph(handle).nodes.values() if CLOCK_KEY in values]
             self.session.ask(f"release {handle}")
             note = next((clock for clock in notes if clock is not None), None)
+            self.has_note = note is not None
             try:
                 self.known_clock = settled(self.index, note, read_calendar(self.index)) or Clock()
             except NoDate as error:

@@ -63,6 +63,8 @@ class Syntax(Refused):
         times = {"at": "TIME", "plan": "TIME", "interval": "TIME TIME"}.get(given[0], "")
         if times and len(given) == 1 + len(times.split(" ")) and self.column == len(bytes_of(self.command)) + 1:
             return f"columns are missing: it is `{given[0]} {times} COLS`, with s, sn, se or sne for COLS"
+        if given[0] == "find" and (self.column == len("find ") + 1 or len(given) < 4):
+            return "it is `find TIME KEY VALUE`, with a whole value; a prompt has `search VALUE`, for all keys"
         return f"this is no command from column {self.column} on"
 
 

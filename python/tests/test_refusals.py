@@ -89,6 +89,9 @@ class Refusals(Case):
             self.assertNotIn("columns are missing", str(self.refused(deltagraph.Syntax, store.ask, "at 2x")))
             self.assertIn("`interval TIME TIME COLS`", str(self.refused(deltagraph.Syntax, store.ask, "interval 20 30")))
             self.assertNotIn("columns are missing", str(self.refused(deltagraph.Syntax, store.ask, "interval 20")))
+            for wrong in ("find Rosa", "find Rosa Bauer", "find 20 name"):
+                self.assertIn("`find TIME KEY VALUE`", str(self.refused(deltagraph.Syntax, store.ask, wrong)))
+            self.assertNotIn("TIME", str(self.refused(deltagraph.Syntax, store.ask, "finds 20 name Rosa")))
             self.refused(deltagraph.LineLong, store.ask, "at " + "1" * 4096)
             self.refused(deltagraph.UnknownNode, store.materialise, "leaf 3")
             self.assertEqual(self.refused(deltagraph.UnknownHandle, store.ask, "list 9").handle, 9)
