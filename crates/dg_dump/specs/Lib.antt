@@ -1,0 +1,3 @@
+pub mod ScriptOfHistory
+pub mod NamesOfLines
+pub mod DumpLaws

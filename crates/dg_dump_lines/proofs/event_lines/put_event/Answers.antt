@@ -1,0 +1,6 @@
+use Rattle.std.proofs.lemmas.Result.{on_ok_weaker}
+use Rattle.dg_dump_lines.proofs.ReadBack.{event_back}
+use Rattle.dg_dump_lines.proofs.event_lines.put_event.Goals as goal
+
+pub returns-clause-read_back : goal.returns-clause-read_back
+returns-clause-read_back c = on_ok_weaker c.put_change.result (λ put. event_back c.law_texts_read_back.ensures c.args.names.now c.args.event.now _ _ put) c.put_change.ensures.put
