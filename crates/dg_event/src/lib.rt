@@ -13,6 +13,8 @@ use std::cmp::Ordering;
 
 /// The element that the event removes, and the element that it adds. An attribute whose value goes
 /// to itself removes and adds nothing, and neither does a message.
+// It is laid into the loops over events, where the kind of an event tells which of the two there is.
+#[inline(always)]
 pub fn effect(event: &Event) -> (Option<Element>, Option<Element>)
     ensures removed { result.0 ≡ removed_by event.now.body }
     ensures added { result.1 ≡ added_by event.now.body }
@@ -141,6 +143,7 @@ pub fn asks(cols: Columns, column: Column) -> bool
 }
 
 /// The order of elements: by kind, and then by their fields in the order written.
+#[inline(always)]
 pub fn compare(x: &Element, y: &Element) -> Ordering
     ensures { result ≡ element_cmp x.now y.now }
 {

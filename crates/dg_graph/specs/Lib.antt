@@ -1,4 +1,5 @@
 pub mod Elements
+pub mod Ranks
 pub mod Sets
 pub mod Composition
 pub mod Effect

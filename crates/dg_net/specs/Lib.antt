@@ -2,4 +2,3 @@ pub mod Lists
 pub mod EventMarks
 pub mod NetLaws
 pub mod Surplus
-pub mod Ranks

@@ -14,9 +14,8 @@ ghost use Rattle.dg_graph.specs.Replay.{replay_from};
 ghost use Rattle.dg_graph.specs.ExactEvents.{AreChangesOf};
 ghost use Rattle.dg_net.specs.Surplus.{stands_first, last_of, each_once, surplus};
 
-use crate::marks::compare;
 use dg_delta::{Delta, Element, Set};
-use dg_event::{Event, effect};
+use dg_event::{Event, compare, effect};
 use std::alloc::{AllocError, Global};
 use std::cmp::Ordering;
 

@@ -4,74 +4,19 @@ ghost use Rattle.std.specs.Prelude.{◌≡◌, ◌++◌, ◌∷◌, ◌<◌, fal
 ghost use Rattle.std.specs.List.{flat_map};
 ghost use Rattle.std.specs.List.Sorted.{IsSortedBy, IsStableBy};
 ghost use Rattle.dg_graph.specs.Composition.{Composes};
-ghost use Rattle.dg_graph.specs.Elements.{element_cmp};
 ghost use Rattle.dg_graph.specs.Effect.{removed_by, added_by};
 ghost use Rattle.dg_net.specs.Lists.{counts};
-ghost use Rattle.dg_net.specs.Ranks.{kind_of, first_of};
 ghost use Rattle.dg_net.specs.EventMarks.{word_of, marks_of, earlier, names_first, lasts};
 
 use dg_delta::{Delta, Element, Set};
-use dg_event::{Body, Event};
+use dg_event::{Event, compare, effect};
 use std::alloc::{AllocError, Global};
-use std::cmp::Ordering;
 
 /// One element that goes out or comes in.
 #[derive(Clone, Copy)]
 pub(crate) struct Mark {
     element: Element,
     puts_in: bool,
-}
-
-// The place of the element's kind in the order of kinds.
-#[inline(always)]
-fn kind_of(element: &Element) -> u8
-    ensures { result ≡ kind_of element.now }
-{
-    match *element {
-        Element::Node { .. } => 0,
-        Element::Edge { .. } => 1,
-        Element::NodeAttr { .. } => 2,
-        Element::EdgeAttr { .. } => 3,
-        Element::Message { .. } => 4,
-    }
-}
-
-// The first of the element's numbers.
-#[inline(always)]
-fn first_of(element: &Element) -> u64
-    ensures { result ≡ first_of element.now }
-{
-    match *element {
-        Element::Node { id }
-        | Element::Edge { id, .. }
-        | Element::NodeAttr { id, .. }
-        | Element::EdgeAttr { id, .. } => id,
-        Element::Message { src, .. } => src,
-    }
-}
-
-// Compares all that the elements are. Few need that.
-#[inline(never)]
-fn compare_whole(left: &Element, right: &Element) -> Ordering
-    ensures { result ≡ element_cmp left.now right.now }
-{
-    left.cmp(right)
-}
-
-/// The order of the elements: their kinds and first numbers tell most of them apart.
-#[inline(always)]
-pub(crate) fn compare(left: &Element, right: &Element) -> Ordering
-    ensures { result ≡ element_cmp left.now right.now }
-{
-    let kinds = kind_of(left).cmp(&kind_of(right));
-    if kinds.is_ne() {
-        return kinds;
-    }
-    let firsts = first_of(left).cmp(&first_of(right));
-    if firsts.is_ne() {
-        return firsts;
-    }
-    compare_whole(left, right)
 }
 
 /// Whether the event is up to the instant. Where there is none, each event is.
@@ -81,48 +26,6 @@ fn counts(event: &Event, until: Option<u64>) -> bool
     match until {
         Some(t) => event.time <= t,
         None => true,
-    }
-}
-
-// What the event removes and what it adds, as `dg_event::effect` says it. It is laid into the loops, where the kind of an
-// event of structure tells which of the two there is.
-#[inline(always)]
-fn effect(event: &Event) -> (Option<Element>, Option<Element>)
-    ensures removed { result.0 ≡ removed_by event.now.body }
-    ensures added { result.1 ≡ added_by event.now.body }
-{
-    match event.body {
-        Body::NodeAdded { id } => (None, Some(Element::Node { id })),
-        Body::NodeRemoved { id } => (Some(Element::Node { id }), None),
-        Body::EdgeAdded {
-            id,
-            src,
-            dst,
-            directed,
-        } => (
-            None,
-            Some(Element::Edge {
-                id,
-                src,
-                dst,
-                directed,
-            }),
-        ),
-        Body::EdgeRemoved {
-            id,
-            src,
-            dst,
-            directed,
-        } => (
-            Some(Element::Edge {
-                id,
-                src,
-                dst,
-                directed,
-            }),
-            None,
-        ),
-        _ => dg_event::effect(event),
     }
 }
 

@@ -1,4 +1,4 @@
--- The first two numbers of an element, which tell most elements apart.
+-- The first two numbers by which elements are ordered. They tell most elements apart.
 use Rattle.std.specs.Prelude.{ℕ}
 use Rattle.dg_graph.specs.declared.element.Element.{Element}
 use Rattle.dg_graph.specs.declared.element.Element.TheVariants.{Node, Edge, NodeAttr, EdgeAttr, Message}
