@@ -1,3 +1,4 @@
 pub mod ChangeGrammar
 pub mod Batch
 pub mod GeneratedChanges
+pub mod EventChanges

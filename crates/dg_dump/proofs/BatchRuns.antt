@@ -52,7 +52,7 @@ goes_nowhere m = record { answers = []; run = tt; ok = All-nil (λ (a : Answered
 entry_here : (line : ScriptLine) (c : Command) (got rest : List ScriptLine) → meaning line ≡ Command_is c → following c ≡ length got
     → entries_of (line ∷ got ++ rest) ≡ Asked c got ∷ entries_of rest
 entry_here line c got rest is count =
-    entries_step line (got ++ rest)
+    entries_step command_of line (got ++ rest)
     ∙ ap (λ x. (first_entry x (got ++ rest)).0 ++ entries_of (first_entry x (got ++ rest)).1) is
     ∙ ap (λ n. Asked c (take n (got ++ rest)) ∷ entries_of (drop n (got ++ rest))) count
     ∙ (λ i. Asked c (take-append_seam got rest i) ∷ entries_of (drop-append_seam got rest i))

@@ -22,9 +22,10 @@ use Rattle.dg_changes.specs.ChangeGrammar.{ChangeByText, WhatByText, Plain, Sets
 use Rattle.dg_history.specs.History.{Batch, History, earliest_next, events_of, names_of, span_of}
 use Rattle.dg_history.specs.LegalHistory.{FitsBody, FitsEvent, IsLegalBatch}
 use Rattle.dg_history.proofs.LegalHistories.{batch_rises}
-use Rattle.dg_dump.specs.NamesOfLines.{asked_by, change_of, said_in, what_of}
+use Rattle.dg_changes.specs.EventChanges.{change_of, what_of}
+use Rattle.dg_dump.specs.NamesOfLines.{asked_by, said_in}
 use Rattle.dg_dump.specs.ScriptOfHistory.{event_line}
-use Rattle.dg_dump.proofs.ChangeEvents.{changes_come}
+use Rattle.dg_changes.proofs.ChangeEvents.{changes_come}
 use Rattle.dg_dump.proofs.LinesBack.{lines_read_back}
 use Rattle.dg_dump.proofs.NameNumbers.{Has, IsFront, added_front, added_has, front_both, front_itself, has_more, number_in_front}
 

@@ -1,4 +1,3 @@
-pub mod ChangeEvents
 pub mod NameNumbers
 pub mod LinesBack
 pub mod BatchesBack

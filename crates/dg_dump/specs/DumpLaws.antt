@@ -33,14 +33,8 @@ use Rattle.dg_machine.specs.MachineLaws.{IsFree}
 use Rattle.dg_machine.specs.MachineState.{MachineState, machine_at}
 use Rattle.dg_machine.specs.Run.{Run, last_state}
 use Rattle.dg_machine.specs.Script.{Command_is, meaning, script}
-use Rattle.dg_dump.specs.NamesOfLines.{AreByText, NamesAreOfLines, change_of, said_by, said_in}
+use Rattle.dg_dump.specs.NamesOfLines.{AreByText, NamesAreOfLines, said_by, said_in}
 use Rattle.dg_dump.specs.ScriptOfHistory.{batch_command, create_line, event_line, script_of, text_of_lines}
-
--- events that are changes of a set, one after another, and do not fall in time, are what these changes come to
-abbrev pub ChangesCome : Type 0
-ChangesCome =
-    (set : List Element) (earliest : ℕ) (events : List Event) → AreMadeByChanges set events → RisesFrom earliest events
-    → completed 1 earliest set (map (λ (c : Change). Some c) (map change_of events)) ≡ Ok events
 
 -- the line of an event reads back as what the event's change says
 abbrev pub LinesReadBack : Type 0

@@ -11,23 +11,7 @@ use Rattle.dg_changes.specs.Batch.{names_after}
 use Rattle.dg_changes.specs.ChangeGrammar.{ChangeByText, WhatByText, Plain, Sets_node, Unsets_node, Sets_edge, Unsets_edge, Sends}
 use Rattle.dg_history.specs.History.{Batch, History, names_of}
 
--- what is asked for by the change that comes to this
-abbrev pub what_of : Body → What
-what_of (body.NodeAdded id) = what.AddNode id
-what_of (body.NodeRemoved id) = what.RemoveNode id
-what_of (body.EdgeAdded directed id src dst) = what.AddEdge directed id src dst
-what_of (body.EdgeRemoved directed id src dst) = what.RemoveEdge id
-what_of (body.NodeAttr key id old (Some value)) = what.SetNode id key value
-what_of (body.NodeAttr key id old None) = what.UnsetNode id key
-what_of (body.EdgeAttr key id old (Some value)) = what.SetEdge id key value
-what_of (body.EdgeAttr key id old None) = what.UnsetEdge id key
-what_of (body.Message src dst value) = what.Message src dst value
-
--- the change that comes to the event, at its instant
-abbrev pub change_of : Event → Change
-change_of e = record { time = e.time; what = what_of e.body }
-
--- the same with the texts of its key and value
+-- what is asked for by the change that comes to this, with the texts of its key and value
 abbrev pub asked_by : List (List ℕ) → Body → WhatByText
 asked_by names (body.NodeAdded id) = Plain (what.AddNode id)
 asked_by names (body.NodeRemoved id) = Plain (what.RemoveNode id)

@@ -1,12 +1,7 @@
 //! The laws of scripts that make a history, each the clause of a function that does nothing.
-ghost use Rattle.dg_dump.specs.DumpLaws.{AnswersKeepRemade, BatchesBringTheirNames, BatchesLeaveRoom, ChangesAreByText, ChangesCome, CommandsReadBack, LinesReadBack, ScriptsAreShort, ScriptsMakeHistories, ScriptsMakeNothingElse, TextsReadBack};
+ghost use Rattle.dg_dump.specs.DumpLaws.{AnswersKeepRemade, BatchesBringTheirNames, BatchesLeaveRoom, ChangesAreByText, CommandsReadBack, LinesReadBack, ScriptsAreShort, ScriptsMakeHistories, ScriptsMakeNothingElse, TextsReadBack};
 
 use dg_machine::law_machine_is_determined;
-
-/// Events that are changes one after another, in the order of time, are what these changes come to. Does nothing.
-pub fn law_changes_come_to_the_events()
-    ensures { ChangesCome }
-{}
 
 /// The line of an event reads back as what the event's change says. Does nothing.
 pub fn law_lines_read_back()

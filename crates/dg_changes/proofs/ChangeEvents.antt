@@ -18,8 +18,7 @@ use Rattle.dg_graph.specs.MadeByChanges.{AreMadeByChanges}
 use Rattle.dg_history.specs.EventTimes.{RisesFrom}
 use Rattle.dg_graph.proofs.Completions.{old_is}
 use Rattle.dg_graph.proofs.Sets.{element_exact}
-use Rattle.dg_dump.specs.DumpLaws.{ChangesCome}
-use Rattle.dg_dump.specs.NamesOfLines.{change_of, what_of}
+use Rattle.dg_changes.specs.EventChanges.{ChangesCome, change_of, what_of}
 
 edge_comes : (id src dst : ℕ) (directed : Bool) (found : Option Element) → is_found found (element.Edge directed id src dst) ≡ true → edge_removal false found ≡ Ok (body.EdgeRemoved directed id src dst)
 edge_comes id src dst directed None e = absurd cc
