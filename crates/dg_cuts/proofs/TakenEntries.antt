@@ -3,8 +3,8 @@ use Rattle.std.proofs.Common.{◌≡◌, ℕ, Bool, true, false, ◌||◌, inl, 
 use Rattle.std.specs.Prelude.{IsTrue}
 use Rattle.std.specs.Str.Lines.{strip_carriage_return}
 use Rattle.std.proofs.lemmas.Bool.{cases_Bool, cond-true, cond-false}
-use Rattle.dg_cuts.specs.TakenLines.{AreLinesOf, CutsEntries, CutsWithin, GaveEntries, TakesBehind}
-use Rattle.dg_cuts.specs.WholeEntries.{up_to_feed, whole_entries, whole_in}
+use Rattle.dg_cuts.specs.TakenLines.{AreLinesBy, CutsBy, CutsWithin, GaveBy, TakesBehind}
+use Rattle.dg_cuts.specs.WholeEntries.{up_to_feed, whole_by, whole_entries_by}
 use Rattle.dg_cuts.proofs.TakenLines.{command_lines, more_lines, no_lines, part_of_command}
 use Rattle.dg_cuts.proofs.WholeLines.{whole_lines}
 use Rattle.dg_text.specs.Lines.{ScriptLine, Long, lines_of, script_line}
@@ -14,8 +14,9 @@ use Rattle.dg_io.specs.Told.{Gives}
 use Rattle.dg_io.proofs.FeedLemmas.{feed_cases, lines_of-feed, past_feed_at}
 use Rattle.dg_io.proofs.GivenLines.{gave_both, gave_kept, gave_none}
 use Rattle.dg_machine.specs.declared.command.Command.{Command}
+use Rattle.dg_machine.specs.CommandGrammar.{Grammar}
 use Rattle.dg_machine.specs.Needs.{following}
-use Rattle.dg_machine.specs.Script.{Asked, Command_is, Entry, meaning}
+use Rattle.dg_machine.specs.Script.{Asked, Command_is, Entry, meaning_by}
 
 -- ---- the bytes behind the last line feed
 
@@ -101,65 +102,65 @@ unended_before false next stays yet = refl
 unended_before true next stays yet = absurd (let ended = stays refl in cc)
 
 -- none so far
-pub took_none : (lines : LinesState) (left : Option (List ℕ)) → GaveEntries [] [] lines left lines left
-took_none lines left = ([], gave_none lines left, λ yet. no_lines)
+pub took_none : (read : Grammar) (lines : LinesState) (left : Option (List ℕ)) → GaveBy read [] [] lines left lines left
+took_none read lines left = ([], gave_none lines left, λ yet. no_lines read)
 
 -- some, and then some more
-pub took_both : (es fs : List Entry) (first now next : LinesState) (had mid has : Option (List ℕ)) → (IsTrue now.ended → IsTrue next.ended) → GaveEntries [] es first had now mid → GaveEntries [] fs now mid next has
-    → GaveEntries [] (es ++ fs) first had next has
-took_both es fs first now next had mid has stays p q = (
+pub took_both : (read : Grammar) (es fs : List Entry) (first now next : LinesState) (had mid has : Option (List ℕ)) → (IsTrue now.ended → IsTrue next.ended) → GaveBy read [] es first had now mid → GaveBy read [] fs now mid next has
+    → GaveBy read [] (es ++ fs) first had next has
+took_both read es fs first now next had mid has stays p q = (
   p.0 ++ q.0,
   gave_both p.0 q.0 first now next had mid has stays p.1 q.1,
-  λ yet. more_lines p.0 q.0 es fs (p.2 (unended_before now.ended next.ended stays yet)) (q.2 yet),
+  λ yet. more_lines read p.0 q.0 es fs (p.2 (unended_before now.ended next.ended stays yet)) (q.2 yet),
 )
 
 -- behind a line that was taken before
-pub took_behind : (line : ScriptLine) (es : List Entry) (first now next : LinesState) (had mid has : Option (List ℕ)) → (IsTrue now.ended → IsTrue next.ended) → GaveLines (line ∷ []) first had now mid
-    → GaveEntries (line ∷ []) es now mid next has → GaveEntries [] es first had next has
-took_behind line es first now next had mid has stays p q = (line ∷ q.0, gave_both (line ∷ []) q.0 first now next had mid has stays p q.1, q.2)
+pub took_behind : (read : Grammar) (line : ScriptLine) (es : List Entry) (first now next : LinesState) (had mid has : Option (List ℕ)) → (IsTrue now.ended → IsTrue next.ended) → GaveLines (line ∷ []) first had now mid
+    → GaveBy read (line ∷ []) es now mid next has → GaveBy read [] es first had next has
+took_behind read line es first now next had mid has stays p q = (line ∷ q.0, gave_both (line ∷ []) q.0 first now next had mid has stays p q.1, q.2)
 
-pub cut_behind : (line : ScriptLine) (first now next : LinesState) (had mid has : Option (List ℕ)) → (IsTrue now.ended → IsTrue next.ended) → GaveLines (line ∷ []) first had now mid
-    → CutsEntries (line ∷ []) now mid next has → CutsEntries [] first had next has
-cut_behind line first now next had mid has stays p q = (line ∷ q.0, gave_both (line ∷ []) q.0 first now next had mid has stays p q.1, q.2, q.3)
+pub cut_behind : (read : Grammar) (line : ScriptLine) (first now next : LinesState) (had mid has : Option (List ℕ)) → (IsTrue now.ended → IsTrue next.ended) → GaveLines (line ∷ []) first had now mid
+    → CutsBy read (line ∷ []) now mid next has → CutsBy read [] first had next has
+cut_behind read line first now next had mid has stays p q = (line ∷ q.0, gave_both (line ∷ []) q.0 first now next had mid has stays p q.1, q.2, q.3)
 
 -- before the first byte of a line
-pub cut_between : (first next : LinesState) (had has : Option (List ℕ)) → TookNone first had next has → NeedsByte next → CutsEntries [] first had next has
-cut_between first next had has took needs = ([], gave_kept first next had has took, needs, refl)
+pub cut_between : (read : Grammar) (first next : LinesState) (had has : Option (List ℕ)) → TookNone first had next has → NeedsByte next → CutsBy read [] first had next has
+cut_between read first next had has took needs = ([], gave_kept first next had has took, needs, refl)
 
 -- a command with the lines that follow it
-pub took_command : (line : ScriptLine) (c : Command) (got : List ScriptLine) (old new : LinesState) (left has : Option (List ℕ)) → meaning line ≡ Command_is c → TakesBehind (following c) old left new has got
-    → GaveEntries (line ∷ []) (Asked c got ∷ []) old left new has
-took_command line c got old new left has is taken = (got, taken.gave, λ yet. command_lines line c got is (taken.all yet))
+pub took_command : (read : Grammar) (line : ScriptLine) (c : Command) (got : List ScriptLine) (old new : LinesState) (left has : Option (List ℕ)) → meaning_by read line ≡ Command_is c → TakesBehind (following c) old left new has got
+    → GaveBy read (line ∷ []) (Asked c got ∷ []) old left new has
+took_command read line c got old new left has is taken = (got, taken.gave, λ yet. command_lines read line c got is (taken.all yet))
 
 -- a command within whose lines the script was cut
-pub cut_command : (line : ScriptLine) (c : Command) (old new : LinesState) (left has : Option (List ℕ)) → meaning line ≡ Command_is c → CutsWithin (following c) old left new has → CutsEntries (line ∷ []) old left new has
-cut_command line c old new left has is cut = (cut.0, cut.2, cut.3, part_of_command line c cut.0 is cut.1)
+pub cut_command : (read : Grammar) (line : ScriptLine) (c : Command) (old new : LinesState) (left has : Option (List ℕ)) → meaning_by read line ≡ Command_is c → CutsWithin (following c) old left new has → CutsBy read (line ∷ []) old left new has
+cut_command read line c old new left has is cut = (cut.0, cut.2, cut.3, part_of_command read line c cut.0 is cut.1)
 
 -- a line that no line follows
-pub took_line : (line : ScriptLine) (es : List Entry) (lines : LinesState) (left : Option (List ℕ)) → AreLinesOf (line ∷ []) es → GaveEntries (line ∷ []) es lines left lines left
-took_line line es lines left are = ([], gave_none lines left, λ yet. are)
+pub took_line : (read : Grammar) (line : ScriptLine) (es : List Entry) (lines : LinesState) (left : Option (List ℕ)) → AreLinesBy read (line ∷ []) es → GaveBy read (line ∷ []) es lines left lines left
+took_line read line es lines left are = ([], gave_none lines left, λ yet. are)
 
 -- from the first byte of a script on
 abbrev pub AtStart : LinesState → Type 0
 AtStart first = (more : List ℕ) → ahead first more ≡ lines_of more
 
 -- the entries stand whole in the bytes that were taken, in front of others
-pub taken_front : (es : List Entry) (first now : LinesState) (had has : Option (List ℕ)) → AtStart first → now.ended ≡ false → GaveEntries [] es first had now has
-    → (taken : List ℕ) × Gives had taken has × (rest : List Entry) × (whole_entries taken ≡ es ++ rest)
-taken_front es first now had has starts yet gave =
+pub taken_front : (read : Grammar) (es : List Entry) (first now : LinesState) (had has : Option (List ℕ)) → AtStart first → now.ended ≡ false → GaveBy read [] es first had now has
+    → (taken : List ℕ) × Gives had taken has × (rest : List Entry) × (whole_entries_by read taken ≡ es ++ rest)
+taken_front read es first now had has starts yet gave =
     let took = gave.1 yet in
     let whole = given_whole took.0 gave.0 now yet (λ more. sym (starts (took.0 ++ more)) ∙ took.3 more) in
-    (took.0, took.1, whole_in whole.0, ap whole_in whole.1 ∙ gave.2 yet whole.0)
+    (took.0, took.1, whole_by read whole.0, ap (whole_by read) whole.1 ∙ gave.2 yet whole.0)
 
 -- where the script was cut they are all that stand whole there
-pub taken_whole : (es : List Entry) (first now next : LinesState) (had mid has : Option (List ℕ)) → AtStart first → (IsTrue now.ended → IsTrue next.ended) → GaveEntries [] es first had now mid → CutsEntries [] now mid next has
-    → (taken : List ℕ) × Gives had taken has × (es ≡ whole_entries taken)
-taken_whole es first now next had mid has starts stays gave cuts =
+pub taken_whole : (read : Grammar) (es : List Entry) (first now next : LinesState) (had mid has : Option (List ℕ)) → AtStart first → (IsTrue now.ended → IsTrue next.ended) → GaveBy read [] es first had now mid → CutsBy read [] now mid next has
+    → (taken : List ℕ) × Gives had taken has × (es ≡ whole_entries_by read taken)
+taken_whole read es first now next had mid has starts stays gave cuts =
     let needs = cuts.2 in
     let all = gave_both gave.0 cuts.0 first now next had mid has stays gave.1 cuts.1 needs.0 in
     let whole = given_whole all.0 (gave.0 ++ cuts.0) next needs.0 (λ more. sym (starts (all.0 ++ more)) ∙ all.3 more) in
     let lines : lines_of (up_to_feed all.0) ≡ gave.0 ++ cuts.0 = whole.1 ∙ ap (λ ls. (gave.0 ++ cuts.0) ++ ls) (whole.2 needs.1) ∙ append-nil (gave.0 ++ cuts.0) in (
       all.0,
       all.1,
-      sym (ap whole_in lines ∙ gave.2 (unended_before now.ended next.ended stays needs.0) cuts.0 ∙ ap (λ fs. es ++ fs) cuts.3 ∙ append-nil es),
+      sym (ap (whole_by read) lines ∙ gave.2 (unended_before now.ended next.ended stays needs.0) cuts.0 ∙ ap (λ fs. es ++ fs) cuts.3 ∙ append-nil es),
     )

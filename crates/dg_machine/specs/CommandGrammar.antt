@@ -146,17 +146,31 @@ command_verbs =
 abbrev pub command_of : List ℕ → Option Command
 command_of line = read_by command_verbs (words line)
 
--- the bytes begin some command
-abbrev pub BeginsCommand : List ℕ → Type 0
-BeginsCommand bytes = (rest : List ℕ) × IsTrue (is_some (command_of (bytes ++ rest)))
+-- ---- where a line leaves a grammar
 
--- The column, from 1, at which a line leaves the grammar of commands: one more than the length of the
--- longest front of the line that begins some command.
-pub record IsColumn (line : List ℕ) (column : ℕ) : Type 0 where
+-- A grammar of commands: which line is which command.
+abbrev pub Grammar : Type 0
+Grammar = List ℕ → Option Command
+
+-- the bytes begin some command of the grammar
+abbrev pub BeginsBy : Grammar → List ℕ → Type 0
+BeginsBy read bytes = (rest : List ℕ) × IsTrue (is_some (read (bytes ++ rest)))
+
+-- The column, from 1, at which a line leaves a grammar: one more than the length of the longest front of
+-- the line that begins some command of it.
+pub record IsColumnBy (read : Grammar) (line : List ℕ) (column : ℕ) : Type 0 where
   pub from_one : 1 ≤ column
   pub within : column ≤ length line + 1
-  pub begins : BeginsCommand (take (column - 1) line)
-  pub longest : (n : ℕ) → column ≤ n → n ≤ length line → BeginsCommand (take n line) → ⊥
+  pub begins : BeginsBy read (take (column - 1) line)
+  pub longest : (n : ℕ) → column ≤ n → n ≤ length line → BeginsBy read (take n line) → ⊥
+
+-- the bytes begin some command
+abbrev pub BeginsCommand : List ℕ → Type 0
+BeginsCommand = BeginsBy command_of
+
+-- the column at which a line leaves the grammar of commands
+abbrev pub IsColumn : List ℕ → ℕ → Type 0
+IsColumn = IsColumnBy command_of
 
 -- ---- plan lines
 
