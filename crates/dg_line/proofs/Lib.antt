@@ -6,3 +6,4 @@ pub mod CommandTails
 pub mod CommandGrammarInstants
 pub mod CommandGrammar
 pub mod CommandGrammarSteps
+pub mod PartGrammar

@@ -1,2 +1,3 @@
 pub mod TextChange
 pub mod Tails
+pub mod PartGrammar
