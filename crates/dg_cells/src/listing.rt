@@ -41,8 +41,28 @@ pub(crate) fn number_at(
     }
 }
 
+// The number of the element's cell, which does not stand at `near`, and where to look for a later element.
+#[inline(never)]
+fn search(
+    rows: &Rows<Element>,
+    order: &Pieces,
+    near: Position,
+    x: &Element,
+) -> (Option<u32>, Position)
+    requires { IsListed rows.now.items (strung order.now) }
+    ensures found { IfSome result.0 (Holds rows.now.items x.now) }
+    ensures lacks { IfNone result.0 (Lacks rows.now.items x.now) }
+{
+    let position = seek(rows, order, near, x);
+    match number_at(rows, order, position, x) {
+        Some(n) => (Some(n), behind(position)),
+        None => (None, position),
+    }
+}
+
 /// The number of the element's cell, and where to look for a later element. It takes the fewer steps the less the cell is
-/// behind `near`, and the fewest where it stands there.
+/// behind `near`, and the fewest where it stands there: then the loop that asks has it without a call.
+#[inline(always)]
 pub(crate) fn find(
     rows: &Rows<Element>,
     order: &Pieces,
@@ -56,11 +76,7 @@ pub(crate) fn find(
     if let Some(n) = stands_at(rows, order, near, x) {
         return (Some(n), behind(near));
     }
-    let position = seek(rows, order, near, x);
-    match number_at(rows, order, position, x) {
-        Some(n) => (Some(n), behind(position)),
-        None => (None, position),
-    }
+    search(rows, order, near, x)
 }
 
 /// The numbers of the elements' cells, but for those that have none, and how many these are; quickest where the elements

@@ -40,18 +40,73 @@ pub(crate) fn element(rows: &Rows<Element>, n: usize) -> Element
     }
 }
 
+// Whether the two are one element. Where a walk comes by the elements that it looks for they mostly are, and no order of their
+// numbers is asked for.
+#[inline(always)]
+fn is_same(left: &Element, right: &Element) -> bool
+    ensures same { result ≡ true → left.now ≡ right.now }
+    ensures differs { result ≡ false → left.now ≡ right.now → ⊥ }
+{
+    match *left {
+        Element::Node { id } => match *right {
+            Element::Node { id: other } => id == other,
+            _ => false,
+        },
+        Element::Edge {
+            directed,
+            id,
+            src,
+            dst,
+        } => match *right {
+            Element::Edge {
+                directed: is_other,
+                id: other,
+                src: other_src,
+                dst: other_dst,
+            } => id == other && src == other_src && dst == other_dst && directed == is_other,
+            _ => false,
+        },
+        Element::NodeAttr { id, key, value } => match *right {
+            Element::NodeAttr {
+                id: other,
+                key: other_key,
+                value: other_value,
+            } => id == other && key == other_key && value == other_value,
+            _ => false,
+        },
+        Element::EdgeAttr { id, key, value } => match *right {
+            Element::EdgeAttr {
+                id: other,
+                key: other_key,
+                value: other_value,
+            } => id == other && key == other_key && value == other_value,
+            _ => false,
+        },
+        Element::Message { src, dst, value } => match *right {
+            Element::Message {
+                src: other_src,
+                dst: other_dst,
+                value: other_value,
+            } => src == other_src && dst == other_dst && value == other_value,
+            _ => false,
+        },
+    }
+}
+
 // Whether the cell has the element.
+#[inline(always)]
 fn has_element(rows: &Rows<Element>, n: usize, x: &Element) -> bool
     ensures has { result ≡ true → Holds rows.now.items x.now n }
     ensures has_not { result ≡ false → cell_element (cell_at rows.now.items n) ≡ Some x.now → ⊥ }
 {
     match rows.get(n) {
-        Some(element) => compare(x, element).is_eq(),
+        Some(element) => is_same(x, element),
         None => false,
     }
 }
 
 /// The number at this position, if its cell has the element.
+#[inline(always)]
 pub(crate) fn stands_at(
     rows: &Rows<Element>,
     pieces: &Pieces,
