@@ -20,3 +20,4 @@ pub mod ChangeCounts
 pub mod ChangeGraphs
 pub mod ChangeCells
 pub mod MovedSlots
+pub mod OneSlot

@@ -180,7 +180,7 @@ module _ (own : Bool) (bits base asking : List ℕ) (w0 w1 w2 w3 : ℕ) where
 
 -- ---- what moves is what the counts go by
 
-state_moves : (own : Bool) (s : ℕ) (r : Row) (slot : SlotState) → moves own (pair s r).0 (pair s r).1 (base_has r slot) (is_asking (column_of r.element) slot) ≡ not (beq (in_state s slot r) (will_have own slot r))
+pub state_moves : (own : Bool) (s : ℕ) (r : Row) (slot : SlotState) → moves own (pair s r).0 (pair s r).1 (base_has r slot) (is_asking (column_of r.element) slot) ≡ not (beq (in_state s slot r) (will_have own slot r))
 state_moves true s r state.Free = refl
 state_moves false s r state.Free = refl
 state_moves true s r (state.Released swept) = refl

@@ -16,7 +16,7 @@ use dg_event::{asks, column_of, compare};
 use dg_graph::Element;
 
 /// Whether the base has the element of an occupied cell, by the bits alone.
-fn in_base(cells: &Cells, n: usize, base: Base) -> bool
+pub(crate) fn in_base(cells: &Cells, n: usize, base: Base) -> bool
     requires there { IsSome (cell_at cells.now n) }
     requires slot { (b : Slot) → base ≡ bases.Slot b → b.0 ≤ 127 }
     ensures { IfSome (cell_at cells.now n) (λ r. result ≡ in_base base r) }

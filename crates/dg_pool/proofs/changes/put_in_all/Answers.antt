@@ -1,4 +1,4 @@
-use Rattle.std.proofs.Common.{◌+◌, is_some, List, [], ◌∷◌, take, get_or, true, ap, subst}
+use Rattle.std.proofs.Common.{◌+◌, List, [], ◌∷◌, take, get_or, true, subst}
 use Rattle.std.proofs.lemmas.List.{take_more, take_all}
 use Rattle.dg_graph.specs.declared.element.Element.{Element}
 use Rattle.dg_graph.specs.declared.element.Element.TheVariants as kind
@@ -21,8 +21,8 @@ loop-index-init c = record {
   counted = c.requires.counted;
 }
 
-pub write_cell-requires-clause-there : goal.write_cell-requires-clause-there
-write_cell-requires-clause-there c = ap is_some (holds (goal.at.write_cell-requires-clause-there c).In-loop-index).there
+pub write_cell-requires-clause-holds : goal.write_cell-requires-clause-holds
+write_cell-requires-clause-holds c = holds (goal.at.write_cell-requires-clause-holds c).In-loop-index
 
 pub loop-index-preserved : goal.loop-index-preserved
 loop-index-preserved c =
@@ -32,7 +32,7 @@ loop-index-preserved c =
     record {
       writes = writes_then c.args.targets.now.states.now (numbers_of c.args.targets.now.slots.now) (one_sided true (take i items)) (one_sided true (x ∷ [])) (one_sided true (take (i + 1) items))
           (more_sided true (take i items) (take (i + 1) items) x (take_more items i (kind.Node 0) c.loop-index-test.true))
-          c.args.cells.now c.loop-index.cells c.write_cell.new.cells c.loop-index.invariant.writes (c.write_cell.ensures.writes x (holds (goal.at.loop-index-preserved c).In-loop-index));
+          c.args.cells.now c.loop-index.cells c.write_cell.new.cells c.loop-index.invariant.writes c.write_cell.ensures.writes;
       counted = c.write_cell.ensures.counted;
     }
 
