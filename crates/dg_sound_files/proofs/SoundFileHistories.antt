@@ -37,4 +37,5 @@ standing_files_are_sound kept back merge z image h =
       ap (judged_events image (opened_of z)) read
           ∙ (λ i. sound_unless (record_total (params_are z i) (count_is z i)) (first_wrong image (opened_of z) (events_of z) (delta_keys (params_are z i) (count_is z i))))
           ∙ ap (sound_unless (record_total z.params (length (events_of z)))) (deltas_right kept z image h),
+      read,
     )

@@ -8,7 +8,7 @@ use dg_columns::{
 };
 use dg_index::law_columns_are_kept;
 
-/// An image of a history is sound, and its own history is that one. Does nothing.
+/// An image of a history is sound, its own events are those of the history, and their history is that one. Does nothing.
 pub fn law_standing_files_are_sound()
     ensures { StandingFilesAreSound }
 {

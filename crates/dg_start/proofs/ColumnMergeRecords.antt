@@ -11,6 +11,7 @@ use Rattle.dg_columns.specs.Ranges.{BodyFits, EventsFit}
 use Rattle.dg_graph.specs.declared.event.Body.{Body}
 use Rattle.dg_graph.specs.declared.event.Body.TheVariants as body
 use Rattle.dg_graph.specs.declared.event.Event.{Event}
+use Rattle.dg_graph.specs.declared.limits.TheConstants.{TIME_MAX}
 use Rattle.dg_graph.specs.declared.placed.Placed.{Placed}
 use Rattle.dg_history.specs.EventTimes.{RisesFrom}
 use Rattle.dg_graph.specs.ColumnMerge.{at_positions, if_never_fall, merged, never_fall}
@@ -22,17 +23,15 @@ use Rattle.dg_records.specs.EventNames.{BodyHasNamesThere, EventNamesAreThere}
 use Rattle.dg_records.specs.declared.fault.RecordFault.{RecordFault}
 use Rattle.dg_records.specs.declared.fault.RecordFault.TheVariants as fault
 use Rattle.dg_start.specs.declared.fault.StartFault.TheVariants as start_fault
+use Rattle.dg_start.specs.Calls.{EventIsInRange}
 use Rattle.dg_start.specs.EventSources.{WhereTold}
 use Rattle.dg_start.specs.Faults.{start_fault_of}
 use Rattle.dg_start.specs.RecentEvents.{placed_in_record, spelled_or_fault}
 use Rattle.dg_start.specs.Refusals.{IsReason}
 
--- what an event of a column changes can be spelled with so many names
+-- an event of a column is in range
 abbrev pub PlacedFits : ℕ → Placed → Type 0
-PlacedFits names p = BodyFits names p.event.body
-
-abbrev pub EventBodyFits : ℕ → Event → Type 0
-EventBodyFits names e = BodyFits names e.body
+PlacedFits names p = EventIsInRange names p.event
 
 value_fits : (names : ℕ) (o : Option ℕ) → names ≤ 2 ^ 30 → IfSome o (λ n. n < names) → IfSome o (λ n. n < 2 ^ 30)
 value_fits names None few h = tt
@@ -47,10 +46,10 @@ body_fits names (body.NodeAttr key id old new) few h = (omega (arith, h.key_fits
 body_fits names (body.EdgeAttr key id old new) few h = (omega (arith, h.key_fits, few), value_fits names old few h.old_fits, value_fits names new few h.new_fits)
 body_fits names (body.Message src dst value) few h = tt
 
-pub spelled : (names : ℕ) (events : List Event) → names ≤ 2 ^ 30 → All (EventBodyFits names) events → All (λ (e : Event). NamesFit e.body) events
+pub spelled : (names : ℕ) (events : List Event) → names ≤ 2 ^ 30 → All (EventIsInRange names) events → All (λ (e : Event). NamesFit e.body) events
 spelled names [] few f = All-nil (λ (e : Event). NamesFit e.body)
 spelled names (e ∷ events) few f =
-    All-cons (λ (e : Event). NamesFit e.body) e events (body_fits names e.body few (All-head (EventBodyFits names) e events f)) (spelled names events few (All-tail (EventBodyFits names) e events f))
+    All-cons (λ (e : Event). NamesFit e.body) e events (body_fits names e.body few (All-head (EventIsInRange names) e events f).0) (spelled names events few (All-tail (EventIsInRange names) e events f))
 
 body_there : (names : ℕ) (b : Body) → BodyFits names b → BodyHasNamesThere names b
 body_there names (body.NodeAdded id) h = tt
@@ -61,15 +60,20 @@ body_there names (body.NodeAttr key id old new) h = (h.key_fits, h.old_fits, h.n
 body_there names (body.EdgeAttr key id old new) h = (h.key_fits, h.old_fits, h.new_fits)
 body_there names (body.Message src dst value) h = h.2
 
-pub names_there : (names : ℕ) (events : List Event) → All (EventBodyFits names) events → EventNamesAreThere names events
+pub names_there : (names : ℕ) (events : List Event) → All (EventIsInRange names) events → EventNamesAreThere names events
 names_there names [] f = All-nil (λ (e : Event). BodyHasNamesThere names e.body)
 names_there names (e ∷ events) f =
-    All-cons (λ (e : Event). BodyHasNamesThere names e.body) e events (body_there names e.body (All-head (EventBodyFits names) e events f)) (names_there names events (All-tail (EventBodyFits names) e events f))
+    All-cons (λ (e : Event). BodyHasNamesThere names e.body) e events (body_there names e.body (All-head (EventIsInRange names) e events f).0) (names_there names events (All-tail (EventIsInRange names) e events f))
+
+pub in_time : (names : ℕ) (events : List Event) → All (EventIsInRange names) events → All (λ (e : Event). e.time ≤ TIME_MAX) events
+in_time names [] f = All-nil (λ (e : Event). e.time ≤ TIME_MAX)
+in_time names (e ∷ events) f =
+    All-cons (λ (e : Event). e.time ≤ TIME_MAX) e events (All-head (EventIsInRange names) e events f).1 (in_time names events (All-tail (EventIsInRange names) e events f))
 
 -- events that are read of a column, in a history with so many names
 pub read_fits : (names earliest : ℕ) (placed : List Placed) → EventsFit names earliest (map (λ (p : Placed). p.event) placed) → All (PlacedFits names) placed
 read_fits names earliest [] h = All-nil (PlacedFits names)
-read_fits names earliest (p ∷ placed) h = All-cons (PlacedFits names) p placed h.0.fits (read_fits names p.event.time placed h.1)
+read_fits names earliest (p ∷ placed) h = All-cons (PlacedFits names) p placed (h.0.fits, h.0.not_after) (read_fits names p.event.time placed h.1)
 
 -- ---- the columns together
 
@@ -97,11 +101,11 @@ never_falls earliest (e ∷ events) h =
 module _ (names : ℕ) where
   -- so many events, all of which fit
   abbrev pub AreSoMany : ℕ → List Event → Type 0
-  AreSoMany n events = (length events ≡ n) × All (EventBodyFits names) events
+  AreSoMany n events = (length events ≡ n) × All (EventIsInRange names) events
 
   positions_fit : (k n : ℕ) (placed : List Placed) (events : List Event) → All (PlacedFits names) placed → at_positions k n placed ≡ Some events → AreSoMany k events
   positions_fit zero n placed events f h =
-      let is : [] ≡ events = cc in subst (λ (es : List Event). AreSoMany 0 es) is (refl, All-nil (EventBodyFits names))
+      let is : [] ≡ events = cc in subst (λ (es : List Event). AreSoMany 0 es) is (refl, All-nil (EventIsInRange names))
   positions_fit (suc k) n placed events f h =
       by_found (find (λ (p : Placed). p.at == n) placed) refl h (λ more e. positions_fit k (n + 1) placed more f e)
     where
@@ -112,7 +116,7 @@ module _ (names : ℕ) where
           let is : p.event ∷ more ≡ events = cc in
           let rest : AreSoMany k more = next more refl in
           subst (λ (es : List Event). AreSoMany (suc k) es) is
-          (ap (λ m. suc m) rest.0, All-cons (EventBodyFits names) p.event more fits rest.1)
+          (ap (λ m. suc m) rest.0, All-cons (EventIsInRange names) p.event more fits rest.1)
 
       by_found : (o : Option Placed) → find (λ (p : Placed). p.at == n) placed ≡ o
           → option_and_then (λ (p : Placed). option_map (λ (es : List Event). p.event ∷ es) (at_positions k (n + 1) placed)) o ≡ Some events
@@ -124,7 +128,7 @@ module _ (names : ℕ) where
   -- so many events, all of which fit, and whose times do not fall
   pub record IsMerged (n : ℕ) (events : List Event) : Type 0 where
     pub many : length events ≡ n
-    pub fit : All (EventBodyFits names) events
+    pub fit : All (EventIsInRange names) events
     pub rises : RisesFrom 0 events
 
   pub merged_fit : (a b c d : List Placed) (len : ℕ) (events : List Event) → All (PlacedFits names) a → All (PlacedFits names) b → All (PlacedFits names) c → All (PlacedFits names) d

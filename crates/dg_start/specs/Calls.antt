@@ -1,10 +1,12 @@
 -- What the calls of a start answer, and how many bytes each reads.
-use Rattle.std.specs.Prelude.{◌≡◌, ℕ, ◌+◌, true, List, [], Option, Some, Result, Ok, IfSome, length}
+use Rattle.std.specs.Prelude.{◌≡◌, ℕ, ◌+◌, ◌≤◌, true, List, [], Option, Some, Result, Ok, IfSome, length}
 use Rattle.std.specs.List.{All}
 use Rattle.dg_columns.specs.NamesInRange.{NamesFit}
+use Rattle.dg_columns.specs.Ranges.{BodyFits}
 use Rattle.dg_file.specs.OpeningBytes.{blank_bytes}
 use Rattle.dg_graph.specs.declared.element.Element.{Element}
 use Rattle.dg_graph.specs.declared.event.Event.{Event}
+use Rattle.dg_graph.specs.declared.limits.TheConstants.{TIME_MAX}
 use Rattle.dg_history.specs.EventTimes.{RisesFrom}
 use Rattle.dg_history.specs.History.{History}
 use Rattle.dg_index.specs.ImageOfHistory.{IsImageOf, StandsAs, is_blank}
@@ -46,12 +48,18 @@ pub record TakesStart {A E : Type 0} (result : Result A E) (image : List ℕ) (b
 
 -- ---- the events
 
--- These are the events of a record with so many, which rise in time, can be spelled and name what is there.
+-- what the event changes can be spelled with so many names, and its time is at most the last instant
+abbrev pub EventIsInRange : ℕ → Event → Type 0
+EventIsInRange name_count e = BodyFits name_count e.body × (e.time ≤ TIME_MAX)
+
+-- These are the events of a record with so many, which rise in time, up to the last instant at most, can be spelled and
+-- name what is there.
 pub record IsReadRecord (image : Option (List ℕ)) (name_count : ℕ) (o : Opening) (s : Source) (events : List Event) : Type 0 where
   pub read : WhereTold image (λ image. events_in_source image name_count o s ≡ Ok events)
   pub fit : All (λ (e : Event). NamesFit e.body) events
   pub named : EventNamesAreThere name_count events
   pub many : length events ≡ s.count
+  pub timed : All (λ (e : Event). e.time ≤ TIME_MAX) events
   pub rises : RisesFrom 0 events
 
 -- These are the events of records, one record after another, which can be spelled and name what is there.

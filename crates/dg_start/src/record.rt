@@ -3,7 +3,6 @@
 ghost use Rattle.std.specs.Prelude.{◌≡◌, ◌≤◌, Ok, IfOk, IfErr, IfSome, IsErrOf, length, is_some, true};
 ghost use Rattle.std.specs.List.{All};
 ghost use Rattle.std.specs.Map.{lookup};
-ghost use Rattle.dg_columns.specs.Ranges.{BodyFits};
 ghost use Rattle.dg_disk.specs.Calls.{Fails, ReadsDisk};
 ghost use Rattle.dg_file.specs.Images.{IsOpenedAs};
 ghost use Rattle.dg_records.specs.ColumnReads.{asked_length, kept_in, TakesOrFails};
@@ -11,7 +10,7 @@ ghost use Rattle.dg_text.specs.declared.limits.TheConstants.{NAMES_MAX};
 ghost use Rattle.dg_graph.specs.declared.placed.Placed.{Placed};
 ghost use Rattle.dg_history.specs.Keys.{same_key};
 ghost use Rattle.dg_plan.specs.HistoryGraph.{all_columns};
-ghost use Rattle.dg_start.specs.Calls.{IsReadRecord};
+ghost use Rattle.dg_start.specs.Calls.{EventIsInRange, IsReadRecord};
 ghost use Rattle.dg_start.specs.Faults.{start_fault_of};
 ghost use Rattle.dg_start.specs.RecentEvents.{events_in_source, placed_in_record};
 ghost use Rattle.dg_start.specs.EventSources.{CanBeRead, WhereTold, source_of};
@@ -40,7 +39,7 @@ fn read_column<D: Disk>(
     requires image { IfSome (D.image disk.old) (λ image. IsOpenedAs image index.now.opening) }
     ensures read { IfOk result (λ placed. WhereTold (D.image disk.old)
         (λ image. placed_in_record image names index.now.opening key col ≡ Ok placed.items)) }
-    ensures fit { IfOk result (λ placed. All (λ (p : Placed). BodyFits names p.event.body) placed.items) }
+    ensures fit { IfOk result (λ placed. All (λ (p : Placed). EventIsInRange names p.event) placed.items) }
     ensures refused { IfErr result (λ fault. WhereTold (D.image disk.old)
         (λ image. IsReason (start_fault_of fault) (placed_in_record image names index.now.opening key col))) }
     ensures takes { WhereTold (D.image disk.old)

@@ -1,5 +1,5 @@
 -- How the lists of an index are read, one after another.
-use Rattle.std.proofs.Common.{◌≡◌, ℕ, suc, ◌+◌, ◌-◌, ◌*◌, ◌<◌, ◌≤◌, true, List, [], ◌∷◌, Option, Some, Ok, is_some, sym, ◌∙◌, ap, arith, add-mul}
+use Rattle.std.proofs.Common.{◌≡◌, ℕ, suc, ◌+◌, ◌-◌, ◌*◌, ◌<◌, ◌≤◌, true, List, [], ◌∷◌, Option, Some, Ok, is_some, length, sym, ◌∙◌, ap, arith, add-mul}
 use Rattle.std.specs.Map.{lookup}
 use Rattle.std.proofs.lemmas.Bool.{lt-ltb}
 use Rattle.dg_history.specs.declared.node.Key.TheVariants as key
@@ -31,7 +31,7 @@ abbrev pub ListsGoOn : Option (List ℕ) → Opened → ℕ → ℕ → OwnEvent
 ListsGoOn told x total i own = WhereTold told (λ image. listed_events image x ≡ tested x.names own (with_lists image x own.events.items (numbers i (total - i))))
 
 -- before the first list nothing was read
-pub lists_begin : (told : Option (List ℕ)) (x : Opened) (total : ℕ) (own : OwnEvents) → total ≡ list_total x.index → IsRead own → own.events.items ≡ [] → ListsGoOn told x total 0 own
+pub lists_begin : (told : Option (List ℕ)) (x : Opened) (total : ℕ) (own : OwnEvents) → total ≡ list_total x.index → IsRead (length x.names) own → own.events.items ≡ [] → ListsGoOn told x total 0 own
 lists_begin told x total own is read none image h =
     let all : list_total x.index ≡ total - 0 = omega (arith, is) in
     (λ j. with_lists image x (sym none j) (numbers 0 (all j)))

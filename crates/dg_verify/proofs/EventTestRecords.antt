@@ -8,16 +8,18 @@ use Rattle.dg_columns.specs.NamesInRange.{NamesFit}
 use Rattle.dg_graph.specs.declared.element.Column.{Column}
 use Rattle.dg_graph.specs.declared.element.Column.TheVariants as column
 use Rattle.dg_graph.specs.declared.event.Event.{Event}
+use Rattle.dg_graph.specs.declared.limits.TheConstants.{TIME_MAX}
 use Rattle.dg_graph.specs.Replay.{replay}
 use Rattle.dg_graph.specs.MadeByChanges.{AreMadeByChanges}
 use Rattle.dg_history.specs.declared.node.Key.{Key}
 use Rattle.dg_history.specs.History.{last_time_from}
-use Rattle.dg_sound.specs.OwnEvents.{and_own, if_right, events_may_follow, with_record}
+use Rattle.dg_records.specs.EventNames.{BodyHasNamesThere, EventNamesAreThere}
+use Rattle.dg_sound.specs.OwnEvents.{and_own, are_completions, events_may_follow, if_right, with_record}
 use Rattle.dg_verify.specs.declared.own_events.OwnEvents.{OwnEvents}
 use Rattle.dg_verify.specs.declared.own_events.ReadRecord.{ReadRecord}
 use Rattle.dg_verify.specs.declared.stop.Stop.{Stop}
 use Rattle.dg_verify.specs.declared.stop.Stop.TheVariants as stop
-use Rattle.dg_verify.specs.EventTests.{IsRead, IsStopBehind, IsUnfit, first_unfit, followed, key_at, tested, unless}
+use Rattle.dg_verify.specs.EventTests.{AreRecorded, IsRead, IsStopBehind, IsUnfit, first_unfit, followed, key_at, tested, unless}
 use Rattle.dg_verify.specs.Verification.{IsStop}
 use Rattle.dg_verify.proofs.EventTestCompletions.{all_right, at_most, made_so, more_followed, same_followed, some_wrong}
 
@@ -82,28 +84,31 @@ at_last (x ∷ records) r i h = by (nat_lt i x.end) (at_last records r i) h
     by false later h = later h
 
 -- no event was read
-pub none_unfit : (names : List (List ℕ)) (own : OwnEvents) → IsRead own → own.events.items ≡ [] → first_unfit names own ≡ None
+pub none_unfit : (names : List (List ℕ)) (own : OwnEvents) → IsRead (length names) own → own.events.items ≡ [] → first_unfit names own ≡ None
 none_unfit names own read none =
     ap (λ (es : List Event). key_at own.records.items (followed names [] 0 es)) none
-    ∙ read.none_behind 0 (omega (arith, ap length none))
+    ∙ read.stand.none_behind 0 (omega (arith, ap length none))
 
 no_key : (o : Option Key) (a b : ℕ) → o ≡ None → is_some o ≡ true → a ≡ b
 no_key None a b none some = cc
 no_key (Some k) a b none some = cc
 
 -- all may follow one another
-module _ (names : List (List ℕ)) (own : OwnEvents) (read : IsRead own) (fit : first_unfit names own ≡ None) where
+module _ (names : List (List ℕ)) (own : OwnEvents) (read : IsRead (length names) own) (fit : first_unfit names own ≡ None) where
   all_followed : followed names [] 0 own.events.items ≡ length own.events.items
   all_followed = by (nat_lt (followed names [] 0 own.events.items) (length own.events.items)) refl
     where
       by : (t : Bool) → nat_lt (followed names [] 0 own.events.items) (length own.events.items) ≡ t → followed names [] 0 own.events.items ≡ length own.events.items
       by true e =
           no_key (first_unfit names own) (followed names [] 0 own.events.items) (length own.events.items) fit
-          (read.recorded (followed names [] 0 own.events.items) (ltb-true (followed names [] 0 own.events.items) (length own.events.items) e))
+          (read.stand.recorded (followed names [] 0 own.events.items) (ltb-true (followed names [] 0 own.events.items) (length own.events.items) e))
       by false e = omega (arith, at_most names [] 0 own.events.items, ltb-false (followed names [] 0 own.events.items) (length own.events.items) e)
 
+  pub all_complete : are_completions names [] 0 own.events.items ≡ true
+  all_complete = all_right names [] 0 own.events.items all_followed
+
   pub are_made : AreMadeByChanges [] own.events.items
-  are_made = made_so names [] 0 own.events.items (all_right names [] 0 own.events.items all_followed)
+  are_made = made_so names [] 0 own.events.items all_complete
 
   pub all_tested : {A : Type 0} (r : Result A (Key × Column)) → tested names own r ≡ r
   all_tested r = ap (λ u. unless u r) fit
@@ -113,7 +118,7 @@ module _ (names : List (List ℕ)) (own : OwnEvents) (read : IsRead own) (fit : 
 abbrev pub record_of : Key → ℕ → ReadRecord
 record_of k end = record { key = k; end = end }
 
-module _ (own after : OwnEvents) (k : Key) (events : List Event) (read : IsRead own) (are : All (λ (e : Event). NamesFit e.body) events)
+module _ (own after : OwnEvents) (k : Key) (events : List Event) (stand : AreRecorded own)
     (added : after.events.items ≡ own.events.items ++ events)
     (recorded : after.records.items ≡ own.records.items ++ record_of k (length after.events.items) ∷ []) where
   longer : length after.events.items ≡ length own.events.items + length events
@@ -122,12 +127,12 @@ module _ (own after : OwnEvents) (k : Key) (events : List Event) (read : IsRead 
   here_more : (i : ℕ) → i < length own.events.items → key_at after.records.items i ≡ key_at own.records.items i
   here_more i lt =
       ap (λ (rs : List ReadRecord). key_at rs i) recorded
-      ∙ at_more own.records.items (record_of k (length after.events.items)) i (read.recorded i lt)
+      ∙ at_more own.records.items (record_of k (length after.events.items)) i (stand.recorded i lt)
 
   here_last : (i : ℕ) → length own.events.items ≤ i → key_at after.records.items i ≡ cond (nat_lt i (length after.events.items)) (Some k) None
   here_last i le =
       ap (λ (rs : List ReadRecord). key_at rs i) recorded
-      ∙ at_last own.records.items (record_of k (length after.events.items)) i (read.none_behind i le)
+      ∙ at_last own.records.items (record_of k (length after.events.items)) i (stand.none_behind i le)
 
   last_key : (i : ℕ) → length own.events.items ≤ i → i < length after.events.items → key_at after.records.items i ≡ Some k
   last_key i le lt = here_last i le ∙ ap (λ b. cond b (Some k) None) (lt-ltb i (length after.events.items) lt)
@@ -142,14 +147,19 @@ module _ (own after : OwnEvents) (k : Key) (events : List Event) (read : IsRead 
       by : (t : Bool) → nat_lt i (length own.events.items) ≡ t → is_some (key_at after.records.items i) ≡ true
       by true e =
           let within = ltb-true i (length own.events.items) e in
-          ap is_some (here_more i within) ∙ read.recorded i within
+          ap is_some (here_more i within) ∙ stand.recorded i within
       by false e = ap is_some (last_key i (ltb-false i (length own.events.items) e) lt)
 
-  pub read_more : IsRead after
-  read_more = record {
-    recorded = some_after;
-    none_behind = none_after;
-    fit = subst (λ (es : List Event). All (λ (e : Event). NamesFit e.body) es) (sym added) (All-append (λ (e : Event). NamesFit e.body) own.events.items events read.fit are);
+  all_more : (P : Event → Type 0) → All P own.events.items → All P events → All P after.events.items
+  all_more P old more = subst (All P) (sym added) (All-append P own.events.items events old more)
+
+  pub read_more : (name_count : ℕ) → IsRead name_count own → All (λ (e : Event). NamesFit e.body) events → EventNamesAreThere name_count events → All (λ (e : Event). e.time ≤ TIME_MAX) events
+      → IsRead name_count after
+  read_more name_count read are named timed = record {
+    stand = record { recorded = some_after; none_behind = none_after };
+    fit = all_more (λ (e : Event). NamesFit e.body) read.fit are;
+    named = all_more (λ (e : Event). BodyHasNamesThere name_count e.body) read.named named;
+    timed = all_more (λ (e : Event). e.time ≤ TIME_MAX) read.timed timed;
   }
 
   module _ (names : List (List ℕ)) (right : List Event → Bool) where
@@ -171,7 +181,7 @@ module _ (own after : OwnEvents) (k : Key) (events : List Event) (read : IsRead 
         ∙ ap (key_at after.records.items) (more_followed names [] 0 own.events.items events all)
 
     front_fits : front ≡ length own.events.items → first_unfit names own ≡ None
-    front_fits all = read.none_behind front (omega (arith, all))
+    front_fits all = stand.none_behind front (omega (arith, all))
 
     if_all : (a b : Bool) → b ≡ true → if_right (a && b) k (own.events.items ++ events) ≡ if_right a k after.events.items
     if_all true b h = (λ i. if_right (h i) k (sym added i))
@@ -207,7 +217,7 @@ module _ (own after : OwnEvents) (k : Key) (events : List Event) (read : IsRead 
             → tested names own (with_record names k right own.events.items (Ok events)) ≡ tested names after (if_right (right events) k after.events.items)
         by true e =
             let lt = ltb-true front (length own.events.items) e in
-            of_some (first_unfit names own) (with_record names k right own.events.items (Ok events)) (if_right (right events) k after.events.items) (read.recorded front lt)
+            of_some (first_unfit names own) (with_record names k right own.events.items (Ok events)) (if_right (right events) k after.events.items) (stand.recorded front lt)
             ∙ ap (λ u. unless u (if_right (right events) k after.events.items)) (sym (before_it lt))
         by false e =
             let all : front ≡ length own.events.items = omega (arith, at_most names [] 0 own.events.items, ltb-false front (length own.events.items) e) in

@@ -6,9 +6,11 @@ use Rattle.dg_graph.specs.declared.element.Column.{Column}
 use Rattle.dg_graph.specs.declared.element.Column.TheVariants as column
 use Rattle.dg_graph.specs.declared.element.Element.{Element}
 use Rattle.dg_graph.specs.declared.event.Event.{Event}
+use Rattle.dg_graph.specs.declared.limits.TheConstants.{TIME_MAX}
 use Rattle.dg_graph.specs.Completion.{completes}
 use Rattle.dg_graph.specs.Effect.{forwards}
 use Rattle.dg_history.specs.declared.node.Key.{Key}
+use Rattle.dg_records.specs.EventNames.{EventNamesAreThere}
 use Rattle.dg_verify.specs.declared.own_events.OwnEvents.{OwnEvents}
 use Rattle.dg_verify.specs.declared.own_events.ReadRecord.{ReadRecord}
 use Rattle.dg_verify.specs.declared.stop.Stop.{Stop}
@@ -26,11 +28,17 @@ abbrev pub key_at : List ReadRecord → ℕ → Option Key
 key_at [] i = None
 key_at (r ∷ records) i = if nat_lt i r.end then Some r.key else key_at records i
 
--- Each event that was read stands in a record, and can be spelled. No record has more.
-pub record IsRead (own : OwnEvents) : Type 0 where
+-- Each event that was read stands in a record. No record has more.
+pub record AreRecorded (own : OwnEvents) : Type 0 where
   pub recorded : (i : ℕ) → i < length own.events.items → is_some (key_at own.records.items i) ≡ true
   pub none_behind : (i : ℕ) → length own.events.items ≤ i → key_at own.records.items i ≡ None
+
+-- and each can be spelled, names what is there, where there are so many names, and is not later than the last instant
+pub record IsRead (name_count : ℕ) (own : OwnEvents) : Type 0 where
+  pub stand : AreRecorded own
   pub fit : All (λ (e : Event). NamesFit e.body) own.events.items
+  pub named : EventNamesAreThere name_count own.events.items
+  pub timed : All (λ (e : Event). e.time ≤ TIME_MAX) own.events.items
 
 -- the record of the first event that may not stand behind those before it
 abbrev pub first_unfit : List (List ℕ) → OwnEvents → Option Key

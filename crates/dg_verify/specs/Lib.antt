@@ -1,4 +1,5 @@
 pub mod Stops
+pub mod Faults
 pub mod EventTests
 pub mod Verification
 pub mod Deltas

@@ -14,4 +14,4 @@ mod times;
 mod verification;
 
 pub use fault::VerifyFault;
-pub use verification::verify;
+pub use verification::{read_own_events, verify};

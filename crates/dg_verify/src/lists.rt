@@ -48,12 +48,12 @@ fn add_list<D: Disk>(
 ) -> Result<(), Stop>
     requires closed { number < list_total index.now.opening }
     requires image { IfSome (D.image disk.old) (λ image. opening image ≡ Ok (opened_with index.now.opening names.now)) }
-    requires read { IsRead own.old }
+    requires read { IsRead (length names.now) own.old }
 
     // the events
     ensures listed { OnOk result (WhereTold (D.image disk.old)
         (λ image. tested names.now own.old (with_list image (opened_with index.now.opening names.now) own.old.events.items number) ≡ tested names.now own.new (Ok own.new.events.items))) }
-    ensures read { OnOk result (IsRead own.new) }
+    ensures read { OnOk result (IsRead (length names.now) own.new) }
     ensures many { OnOk result (length own.new.events.items ≡ length own.old.events.items + index.now.opening.params.l) }
 
     // why there are none
@@ -91,12 +91,12 @@ pub fn add_lists<D: Disk>(
 ) -> Result<(), Stop>
     requires none { own.old.events.items ≡ [] }
     requires image { IfSome (D.image disk.old) (λ image. opening image ≡ Ok (opened_with index.now.opening names.now)) }
-    requires read { IsRead own.old }
+    requires read { IsRead (length names.now) own.old }
 
     // the events
     ensures listed { OnOk result (WhereTold (D.image disk.old)
         (λ image. listed_events image (opened_with index.now.opening names.now) ≡ tested names.now own.new (Ok own.new.events.items))) }
-    ensures read { OnOk result (IsRead own.new) }
+    ensures read { OnOk result (IsRead (length names.now) own.new) }
     ensures many { OnOk result (length own.new.events.items ≡ list_total index.now.opening * index.now.opening.params.l) }
 
     // why there are none

@@ -1,13 +1,15 @@
 //! The events that an index file holds of its own, as far as they were read, and the test of them.
 
-ghost use Rattle.std.specs.Prelude.{◌≡◌, ◌++◌, ◌&&◌, [], Bool, List, Ok, OnOk, true, IfOk, nat_le, ℕ};
+ghost use Rattle.std.specs.Prelude.{◌≡◌, ◌≤◌, ◌++◌, ◌&&◌, [], Bool, List, Ok, OnOk, true, IfOk, nat_le, ℕ};
 ghost use Rattle.std.specs.List.{All};
 ghost use Rattle.dg_columns.specs.NamesInRange.{NamesFit};
 ghost use Rattle.dg_graph.specs.declared.event.Event.{Event};
+ghost use Rattle.dg_graph.specs.declared.limits.TheConstants.{TIME_MAX};
 ghost use Rattle.dg_graph.specs.Completion.{completes};
 ghost use Rattle.dg_graph.specs.Effect.{forwards};
+ghost use Rattle.dg_records.specs.EventNames.{EventNamesAreThere};
 ghost use Rattle.dg_sound.specs.OwnEvents.{if_right, with_record};
-ghost use Rattle.dg_verify.specs.EventTests.{IsRead, first_unfit, followed, key_at, tested};
+ghost use Rattle.dg_verify.specs.EventTests.{AreRecorded, IsRead, first_unfit, followed, key_at, tested};
 
 use dg_current::Now;
 use dg_graph::Event;
@@ -82,7 +84,7 @@ impl OwnEvents {
     /// No events. Takes no memory yet.
     pub fn new(alloc: Global) -> OwnEvents
         ensures none { result.events.items ≡ [] }
-        ensures read { IsRead result }
+        ensures read { (name_count : ℕ) → IsRead name_count result }
     {
         OwnEvents {
             events: Vec::new(alloc),
@@ -92,10 +94,11 @@ impl OwnEvents {
 
     /// Puts the events of this record behind those that were read.
     pub fn add(&mut self, key: Key, events: &[Event]) -> Result<(), AllocError>
-        requires read { IsRead self.old }
+        requires stand { AreRecorded self.old }
         requires fit { All (λ (e : Event). NamesFit e.body) events.now }
+        requires timed { All (λ (e : Event). e.time ≤ TIME_MAX) events.now }
         ensures added { OnOk result (self.new.events.items ≡ self.old.events.items ++ events.now) }
-        ensures read { OnOk result (IsRead self.new) }
+        ensures read { OnOk result ((name_count : ℕ) → IsRead name_count self.old → EventNamesAreThere name_count events.now → IsRead name_count self.new) }
         ensures behind { OnOk result ((names : List (List ℕ)) → (right : List Event → Bool) → tested names self.old (with_record names key right self.old.events.items (Ok events.now)) ≡ tested names self.new (if_right (right events.now) key self.new.events.items)) }
     {
         self.events.extend_from_slice(events)?;

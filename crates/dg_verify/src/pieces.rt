@@ -133,10 +133,10 @@ fn add_recent<D: Disk>(
     requires there { slice_get index.now.opening.batches number ≡ Some batch }
     requires few { before + batch.events ≤ event_total index.now.opening.batches }
     requires image { IfSome (D.image disk.old) (λ image. opening image ≡ Ok (opened_with index.now.opening names.now)) }
-    requires read { IsRead own.old }
+    requires read { IsRead (length names.now) own.old }
     ensures pieced { OnOk result (WhereTold (D.image disk.old)
         (λ image. tested names.now own.old (with_recent image (opened_with index.now.opening names.now) own.old.events.items number before batch) ≡ tested names.now own.new (Ok own.new.events.items))) }
-    ensures read { OnOk result (IsRead own.new) }
+    ensures read { OnOk result (IsRead (length names.now) own.new) }
     ensures many { OnOk result (length own.new.events.items ≡ length own.old.events.items + piece_length index.now.opening before batch) }
     ensures stopped { IfErr result (λ stop. WhereTold (D.image disk.old)
         (λ image. IsStopBehind names.now own.new stop (tested names.now own.old (with_recent image (opened_with index.now.opening names.now) own.old.events.items number before batch)))) }
@@ -171,11 +171,11 @@ fn add_piece<D: Disk>(
     requires there { slice_get index.now.opening.batches number ≡ Some batch }
     requires few { before + batch.events ≤ event_total index.now.opening.batches }
     requires image { IfSome (D.image disk.old) (λ image. opening image ≡ Ok (opened_with index.now.opening names.now)) }
-    requires read { IsRead own.old }
+    requires read { IsRead (length names.now) own.old }
     requires so_far { AreSoFar index.now.opening before own.old.events.items }
     ensures pieced { OnOk result (WhereTold (D.image disk.old)
         (λ image. tested names.now own.old (with_piece_events image (opened_with index.now.opening names.now) own.old.events.items number before batch) ≡ tested names.now own.new (Ok own.new.events.items))) }
-    ensures read { OnOk result (IsRead own.new) }
+    ensures read { OnOk result (IsRead (length names.now) own.new) }
     ensures so_far { OnOk result (AreSoFar index.now.opening (before + batch.events) own.new.events.items) }
     ensures stopped { IfErr result (λ stop. WhereTold (D.image disk.old)
         (λ image. IsStopBehind names.now own.new stop (tested names.now own.old (with_piece_events image (opened_with index.now.opening names.now) own.old.events.items number before batch)))) }
@@ -207,13 +207,13 @@ pub fn add_pieces<D: Disk>(
     own: &mut OwnEvents,
 ) -> Result<(), Stop>
     requires image { IfSome (D.image disk.old) (λ image. opening image ≡ Ok (opened_with index.now.opening names.now)) }
-    requires read { IsRead own.old }
+    requires read { IsRead (length names.now) own.old }
     requires so_far { AreSoFar index.now.opening 0 own.old.events.items }
 
     // the events
     ensures pieced { OnOk result (WhereTold (D.image disk.old)
         (λ image. tested names.now own.old (with_pieces image (opened_with index.now.opening names.now) own.old.events.items 0 0 index.now.opening.batches) ≡ tested names.now own.new (Ok own.new.events.items))) }
-    ensures read { OnOk result (IsRead own.new) }
+    ensures read { OnOk result (IsRead (length names.now) own.new) }
     ensures many { OnOk result (length own.new.events.items ≡ event_total index.now.opening.batches) }
 
     // why there are none

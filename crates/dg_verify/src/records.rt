@@ -1,16 +1,18 @@
 //! Reading the events of a record, and comparing its columns.
 
-ghost use Rattle.std.specs.Prelude.{◌≡◌, ◌<◌, ◌^◌, true, IfErr, IfOk, IfSome, IsErrOf, Ok, OnOk, None, bytes_eq, is_some, length};
+ghost use Rattle.std.specs.Prelude.{◌≡◌, ◌<◌, ◌≤◌, ◌^◌, true, IfErr, IfOk, IfSome, IsErrOf, Ok, OnOk, None, bytes_eq, is_some, length};
 ghost use Rattle.std.specs.List.{All};
 ghost use Rattle.std.specs.Map.{lookup};
 ghost use Rattle.dg_columns.specs.NamesInRange.{NamesFit};
 ghost use Rattle.dg_disk.specs.Calls.{Fails, ReadsDisk};
 ghost use Rattle.dg_file.specs.Images.{IsOpenedAs};
 ghost use Rattle.dg_graph.specs.declared.event.Event.{Event};
+ghost use Rattle.dg_graph.specs.declared.limits.TheConstants.{TIME_MAX};
 ghost use Rattle.dg_history.specs.Keys.{same_key};
 ghost use Rattle.dg_index.specs.FileOfHistory.{lent};
 ghost use Rattle.dg_index.specs.OpenedIndex.{column_at, entry_at, opening, total};
 ghost use Rattle.dg_records.specs.ColumnReads.{TakesAtMost};
+ghost use Rattle.dg_records.specs.EventNames.{EventNamesAreThere};
 ghost use Rattle.dg_sound.specs.OwnEvents.{events_of_record};
 ghost use Rattle.dg_start.specs.EventSources.{WhereTold};
 ghost use Rattle.dg_verify.specs.RecordBytes.{graph_total, length_at};
@@ -45,6 +47,8 @@ pub fn read_events<D: Disk>(
     ensures read { IfOk result (λ events. WhereTold (D.image disk.old)
         (λ image. events_of_record image (opened_with index.now.opening names.now) key count ≡ Ok events.items)) }
     ensures fit { IfOk result (λ events. All (λ (e : Event). NamesFit e.body) events.items) }
+    ensures named { IfOk result (λ events. EventNamesAreThere (length names.now) events.items) }
+    ensures timed { IfOk result (λ events. All (λ (e : Event). e.time ≤ TIME_MAX) events.items) }
     ensures many { IfOk result (λ events. length events.items ≡ count) }
     ensures stopped { IfErr result (λ stop. WhereTold (D.image disk.old)
         (λ image. IsStop stop (keyed key (events_of_record image (opened_with index.now.opening names.now) key count)))) }

@@ -7,6 +7,7 @@ ghost use Rattle.dg_disk.specs.Calls.{Fails, ReadsDisk};
 ghost use Rattle.dg_build.specs.declared.fault.BuildFault.TheVariants.{Memory};
 ghost use Rattle.dg_graph.specs.declared.element.Column.{Column};
 ghost use Rattle.dg_graph.specs.declared.event.Event.{Event};
+ghost use Rattle.dg_graph.specs.declared.limits.TheConstants.{TIME_MAX};
 ghost use Rattle.dg_history.specs.declared.node.Key.{Key};
 ghost use Rattle.dg_history.specs.declared.limits.TheConstants.{EVENTS_MAX};
 ghost use Rattle.dg_history.specs.History.{are_parameters};
@@ -14,13 +15,16 @@ ghost use Rattle.dg_index.specs.FileOfHistory.{stored};
 ghost use Rattle.dg_index.specs.Hierarchy.{leaves};
 ghost use Rattle.dg_index.specs.IndexRecords.{deltas_due, lists_due, record_among};
 ghost use Rattle.dg_index.specs.OpenedIndex.{event_total, opening};
+ghost use Rattle.dg_records.specs.Calls.{ReadsRecords};
 ghost use Rattle.dg_records.specs.ColumnReads.{TakesAtMost};
-ghost use Rattle.dg_sound.specs.OwnEvents.{own_events};
+ghost use Rattle.dg_records.specs.EventNames.{EventNamesAreThere};
+ghost use Rattle.dg_sound.specs.OwnEvents.{are_completions, own_events};
 ghost use Rattle.dg_sound.specs.Soundness.{soundness_of};
 ghost use Rattle.dg_sound.specs.declared.soundness.Soundness.TheVariants.{Sound};
 ghost use Rattle.dg_start.specs.EventSources.{WhereTold};
 ghost use Rattle.dg_verify.specs.Deltas.{AreMadeOf};
 ghost use Rattle.dg_verify.specs.EventTests.{IsRead, IsStopBehind, IsUnfit, first_unfit, tested};
+ghost use Rattle.dg_verify.specs.Faults.{IsFirstWrong};
 ghost use Rattle.dg_verify.specs.RecordBytes.{columns_bytes, piece_keys, records_bytes};
 ghost use Rattle.dg_verify.specs.Verification.{IsStop, IsUnsound, opened_with};
 
@@ -35,10 +39,11 @@ use dg_build::BuildFault;
 use dg_catalogue::leaves;
 use dg_disk::Disk;
 use dg_file::Index;
-use dg_graph::Column;
+use dg_graph::{Column, Event};
 use dg_history::{Key, Params};
 use dg_names::Names;
 use dg_net::law_changes_of_a_graph_are_exact;
+use dg_records::RecordFault;
 use dg_sound::Soundness;
 use std::alloc::{AllocError, Global};
 use std::thread::{Threads, join};
@@ -53,12 +58,12 @@ fn read_all<D: Disk>(
 ) -> Result<(), Stop>
     requires none { own.old.events.items ≡ [] }
     requires image { IfSome (D.image disk.old) (λ image. opening image ≡ Ok (opened_with index.now.opening names.now)) }
-    requires read { IsRead own.old }
+    requires read { IsRead (length names.now) own.old }
 
     // the events
     ensures own { OnOk result (WhereTold (D.image disk.old)
         (λ image. own_events image (opened_with index.now.opening names.now) ≡ tested names.now own.new (Ok own.new.events.items))) }
-    ensures read { OnOk result (IsRead own.new) }
+    ensures read { OnOk result (IsRead (length names.now) own.new) }
     ensures many { OnOk result (length own.new.events.items ≡ event_total index.now.opening.batches) }
 
     // why there are none
@@ -85,6 +90,79 @@ fn first_stop(alloc: Global, names: &Names, own: &OwnEvents, stop: Stop) -> Resu
     match own.first_unfit(alloc, names)? {
         Some(key) => Ok(Stop::Wrong(key, Column::Structure)),
         None => Ok(stop),
+    }
+}
+
+// Reads all events, each of which may stand behind those before it.
+fn read_fit<D: Disk>(
+    alloc: Global,
+    index: &Index,
+    disk: &mut D,
+    names: &Names,
+) -> Result<Vec<Event>, Stop>
+    requires image { IfSome (D.image disk.old) (λ image. opening image ≡ Ok (opened_with index.now.opening names.now)) }
+
+    // the events
+    ensures own { IfOk result (λ events. WhereTold (D.image disk.old)
+        (λ image. own_events image (opened_with index.now.opening names.now) ≡ Ok events.items)) }
+    ensures follow { IfOk result (λ events. are_completions names.now [] 0 events.items ≡ true) }
+    ensures named { IfOk result (λ events. EventNamesAreThere (length names.now) events.items) }
+    ensures timed { IfOk result (λ events. All (λ (e : Event). e.time ≤ TIME_MAX) events.items) }
+    ensures many { IfOk result (λ events. length events.items ≡ event_total index.now.opening.batches) }
+
+    // why there are none
+    ensures stopped { IfErr result (λ stop. WhereTold (D.image disk.old)
+        (λ image. IsStop stop (own_events image (opened_with index.now.opening names.now)))) }
+    ensures cause { IsErrOf result Stop.Disk → Fails D.Disk disk.old disk.new }
+
+    // what it reads, and what it leaves
+    ensures takes { WhereTold (D.image disk.old) (λ image. TakesAtMost (columns_bytes index.now.opening (lists_due index.now.opening.params 0 (event_total index.now.opening.batches) ++ piece_keys index.now.opening)) (D.taken disk.old) (D.taken disk.new)) }
+    ensures disk { ReadsDisk D.Disk disk.old disk.new }
+{
+    let mut own = OwnEvents::new(alloc);
+    if let Err(stop) = read_all(alloc, index, disk, names, &mut own) {
+        return Err(first_stop(alloc, names, &own, stop)?);
+    }
+    match own.first_unfit(alloc, names)? {
+        Some(key) => Err(Stop::Wrong(key, Column::Structure)),
+        None => Ok(own.events),
+    }
+}
+
+/// The events that the file holds of its own: those of its lists, and behind them those of its recent pieces. Each is what
+/// some change comes to after those before it, and none is earlier. No top and no down is read.
+///
+/// `RecordFault::Damaged` for the first record of events that is not right, by what `verify` asks of it, and its first such
+/// column; `RecordFault::Disk` where the disk failed, `RecordFault::Memory` for want of memory.
+pub fn read_own_events<D: Disk>(
+    alloc: Global,
+    index: &Index,
+    disk: &mut D,
+    names: &Names,
+) -> Result<Vec<Event>, RecordFault>
+    requires image { IfSome (D.image disk.old) (λ image. opening image ≡ Ok (opened_with index.now.opening names.now)) }
+
+    // the events
+    ensures own { IfOk result (λ events. WhereTold (D.image disk.old)
+        (λ image. own_events image (opened_with index.now.opening names.now) ≡ Ok events.items)) }
+    ensures follow { IfOk result (λ events. are_completions names.now [] 0 events.items ≡ true) }
+    ensures named { IfOk result (λ events. EventNamesAreThere (length names.now) events.items) }
+    ensures timed { IfOk result (λ events. All (λ (e : Event). e.time ≤ TIME_MAX) events.items) }
+    ensures many { IfOk result (λ events. length events.items ≡ event_total index.now.opening.batches) }
+
+    // why there are none
+    ensures damage { IfErr result (λ fault. WhereTold (D.image disk.old)
+        (λ image. IsFirstWrong fault (own_events image (opened_with index.now.opening names.now)))) }
+
+    // what it reads, and what it leaves
+    ensures takes { WhereTold (D.image disk.old) (λ image. TakesAtMost (columns_bytes index.now.opening (lists_due index.now.opening.params 0 (event_total index.now.opening.batches) ++ piece_keys index.now.opening)) (D.taken disk.old) (D.taken disk.new)) }
+    ensures reads { ReadsRecords D.Disk disk.old disk.new result }
+{
+    match read_fit(alloc, index, disk, names) {
+        Ok(events) => Ok(events),
+        Err(Stop::Wrong(key, col)) => Err(RecordFault::Damaged(key, col)),
+        Err(Stop::Disk) => Err(RecordFault::Disk),
+        Err(Stop::Memory) => Err(RecordFault::Memory),
     }
 }
 
@@ -117,7 +195,7 @@ fn test_and_make<R: Threads>(
 ) -> Result<DueDeltas, Stop>
     requires parameters { are_parameters params.l params.k ≡ true }
     requires few { length own.events.items ≤ EVENTS_MAX }
-    requires read { IsRead own }
+    requires read { IsRead (length names.now) own }
     ensures keys { IfOk result (λ due. due.keys.items ≡ deltas_due params.k 0 (leaves params (length own.events.items))) }
     ensures deltas { IfOk result (λ due. due.segment.deltas ≡ map (λ k. stored (record_among params own.events.items [] k)) due.keys.items) }
     ensures fit { OnOk result (first_unfit names.now own ≡ None) }

@@ -7,7 +7,7 @@ use Rattle.dg_plan.specs.HistoryGraph.{all_columns}
 use Rattle.dg_records.specs.ColumnReads.{Takes, TakesAtMost, asked_length, kept_in}
 use Rattle.dg_start.specs.EventSources.{source_of}
 use Rattle.dg_start.specs.RecentEvents.{placed_in_record}
-use Rattle.dg_start.proofs.ColumnMergeRecords.{IsMerged, PlacedFits, merged_fit, names_there, spelled}
+use Rattle.dg_start.proofs.ColumnMergeRecords.{IsMerged, PlacedFits, in_time, merged_fit, names_there, spelled}
 use Rattle.dg_start.proofs.EventSourceBytes.{fails_with, first_fails, fourth_fails, second_fails, takes_less, takes_record, third_fails}
 use Rattle.dg_start.proofs.EventSourceOutcomes.{said_before}
 use Rattle.dg_start.proofs.RecentEventSources.{record_read}
@@ -152,5 +152,6 @@ returns-in-Ok-clause-done g c =
       fit = spelled names c.in-Ok.events.items c.requires.names together.fit;
       named = names_there names c.in-Ok.events.items together.fit;
       many = together.many;
+      timed = in_time names c.in-Ok.events.items together.fit;
       rises = together.rises;
     }

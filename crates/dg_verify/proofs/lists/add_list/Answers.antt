@@ -1,8 +1,9 @@
-use Rattle.std.proofs.Common.{ℕ, ap, subst, ◌∙◌}
+use Rattle.std.proofs.Common.{ℕ, length, sym, ap, subst, ◌∙◌}
 use Rattle.dg_history.specs.declared.node.Key.TheVariants as key
 use Rattle.dg_history.specs.declared.params.Params.{Params}
 use Rattle.dg_history.proofs.ParameterRanges.{in_range}
 use Rattle.dg_index.specs.OpenedIndex.{entry_at}
+use Rattle.dg_records.specs.EventNames.{EventNamesAreThere}
 use Rattle.dg_sound.specs.OwnEvents.{events_of_record, have_ends, with_list}
 use Rattle.dg_start.specs.EventSources.{WhereTold}
 use Rattle.dg_start.proofs.EventSourceOutcomes.{err_is}
@@ -33,3 +34,7 @@ returns-in_err-events-clause-stopped g c =
     (λ image h. stops_behind s c.args.names.now c.args.own.now (with_list image x c.args.own.now.events.items c.args.number)
     (record_stops s c.args.names.now k (have_ends (entry_at o k).ends) c.args.own.now.events.items (events_of_record image x k o.params.l)
     (subst (λ (n : ℕ). IsStop s (keyed k (events_of_record image x k n))) (c.from-size.ensures ∙ ap (λ (p : Params). p.l) c.params.ensures) (c.in_err-events.ensures.stopped image h))))
+
+pub returns-clause-read : goal.returns-clause-read
+returns-clause-read g c =
+    c.in_ok-add.ensures.read (length c.args.names.now) c.requires.read (subst (EventNamesAreThere (length c.args.names.now)) (sym c.deref.ensures.value) c.in_ok-events.ensures.named)

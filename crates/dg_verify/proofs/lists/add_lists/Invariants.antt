@@ -12,7 +12,7 @@ use Rattle.dg_verify.proofs.lists.add_lists.Given as goal
 abbrev pub invariant-loop-number : goal.invariant-loop-number
 invariant-loop-number g l = record {
   frame : ReadsDisk g.D.Disk l.fn.disk l.disk;
-  read : IsRead l.own;
+  read : IsRead (length l.names) l.own;
   many : length l.own.events.items ≡ l.number * l.index.opening.params.l;
   so_far : ListsGoOn (g.D.Disk.image l.fn.disk) (opened_with l.index.opening l.names) l.total l.number l.own;
   takes : WhereTold (g.D.Disk.image l.fn.disk) (λ image. TakesAtMost (first_bytes l.index.opening (λ i. key.List i) l.number) (g.D.Disk.taken l.fn.disk) (g.D.Disk.taken l.disk));

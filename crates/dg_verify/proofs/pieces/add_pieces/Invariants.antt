@@ -12,7 +12,7 @@ use Rattle.dg_verify.proofs.pieces.add_pieces.Given as goal
 abbrev pub invariant-loop-batch : goal.invariant-loop-batch
 invariant-loop-batch g l = record {
   frame : ReadsDisk g.D.Disk l.fn.disk l.disk;
-  read : IsRead l.own;
+  read : IsRead (length l.names) l.own;
   many : AreSoFar l.index.opening l.before l.own.events.items;
   so_far : PiecesGoOn (g.D.Disk.image l.fn.disk) (opened_with l.index.opening l.names) l.fn.own l.number l.before l.own;
   takes : WhereTold (g.D.Disk.image l.fn.disk) (λ image. TakesAtMost (first_bytes l.index.opening (λ i. key.Piece i) l.number) (g.D.Disk.taken l.fn.disk) (g.D.Disk.taken l.disk));

@@ -1,6 +1,7 @@
-use Rattle.std.proofs.Common.{◌≡◌, ℕ, true, false, List, Ok, sym, ◌∙◌, ap, subst, ◌++◌}
+use Rattle.std.proofs.Common.{◌≡◌, ℕ, true, false, List, Ok, length, sym, ◌∙◌, ap, subst, ◌++◌}
 use Rattle.dg_graph.specs.declared.event.Event.{Event}
 use Rattle.dg_history.specs.declared.node.Key.TheVariants as key
+use Rattle.dg_records.specs.EventNames.{EventNamesAreThere}
 use Rattle.dg_sound.specs.OwnEvents.{events_of_record, has_batch_ends, piece_length, with_recent}
 use Rattle.dg_start.specs.EventSources.{WhereTold}
 use Rattle.dg_index.proofs.HeldRecords.{piece_held}
@@ -56,3 +57,7 @@ returns-clause-pieced g c image h =
     (subst (λ (n : ℕ). events_of_record image x k n ≡ Ok c.deref.result.now) c.span_of-count.ensures.count (c.in_ok-events.ensures.read image h ∙ ap (λ (es : List Event). Ok es) (sym c.deref.ensures.value)))
     (c.in_ok-add.ensures.behind c.args.names.now (λ events. has_batch_ends c.args.before c.args.batch (own ++ events)))
     (ap (has_batch_ends c.args.before c.args.batch) (sym c.in_ok-add.ensures.added ∙ sym c.deref-2.ensures.value) ∙ sym c.has_batch_ends.ensures ∙ c.if-not-has_batch_ends.false)
+
+pub returns-clause-read : goal.returns-clause-read
+returns-clause-read g c =
+    c.in_ok-add.ensures.read (length c.args.names.now) c.requires.read (subst (EventNamesAreThere (length c.args.names.now)) (sym c.deref.ensures.value) c.in_ok-events.ensures.named)

@@ -1,3 +1,5 @@
+use Rattle.std.proofs.Common.{subst}
+use Rattle.dg_records.specs.EventNames.{EventNamesAreThere}
 use Rattle.dg_sound.specs.OwnEvents.{events_of_record}
 use Rattle.dg_start.specs.EventSources.{WhereTold}
 use Rattle.dg_start.proofs.EventSourceOutcomes.{err_is}
@@ -24,6 +26,13 @@ returns-clause-read g c image h =
 
 pub returns-clause-fit : goal.returns-clause-fit
 returns-clause-fit g c = c.in_ok-read_record.ensures.done.fit
+
+pub returns-clause-named : goal.returns-clause-named
+returns-clause-named g c =
+    subst (λ n. EventNamesAreThere n c.in_ok-read_record.field-0.items) c.len.ensures.len c.in_ok-read_record.ensures.done.named
+
+pub returns-clause-timed : goal.returns-clause-timed
+returns-clause-timed g c = c.in_ok-read_record.ensures.done.timed
 
 pub returns-clause-many : goal.returns-clause-many
 returns-clause-many g c = c.in_ok-read_record.ensures.done.many

@@ -166,3 +166,6 @@ returns-clause-takes g c =
     told_part told (events_bytes o + tops + columns_bytes o (filter (has_kind delta.Down) keys)) (records_bytes o) start downed (downs_within o range.arity_some keys keys_are)
     (told_then told (g.D.Disk.image c.compare_deltas.new.disk) (columns_bytes o (filter (has_kind delta.Down) keys)) (events_bytes o + tops) start topped downed
     (c.compare_deltas.ensures.disk.same_image ∙ image_same) with_tops c.compare_deltas-2.ensures.takes)
+
+pub read_all-requires-clause-read : goal.read_all-requires-clause-read
+read_all-requires-clause-read g c = c.new-own.ensures.read (length c.args.names.now)
