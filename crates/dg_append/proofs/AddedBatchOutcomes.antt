@@ -283,6 +283,8 @@ module _ {D : Type 0} (g : Ghosts D) (o opened : Opening) (limit : ℕ) (batch :
     segment = segment;
     comes = comes o batch h next.current.now.graph events next graph_is n (g.image before) segment p k.made.built;
     many = p.many;
+    counts = behind.events_are;
+    ends = behind.last_is;
     whole = whole_over o batch h next.current.now.graph events next graph_is n (g.image before) p.many k.made.whole;
     index = index_is;
     names = w.names_are;

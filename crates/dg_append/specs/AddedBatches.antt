@@ -116,13 +116,16 @@ MeetsNoDamage before o known count = IfSome before (λ image. AreUndamaged known
 
 -- ---- what is added
 
--- The batch was added: in the file, behind the segments of the index, and in memory. It has an event for each change. It met
--- no damage, no graph of a slot has changed, and there is a pool where there was one.
+-- The batch was added: in the file, behind the segments of the index, and in memory. It has an event for each change, and its
+-- segment tells as many, with the time of the last. It met no damage, no graph of a slot has changed, and there is a pool
+-- where there was one.
 pub record AddsBatch (o : Opening) (limit : ℕ) (batch : Batch) (old new : Live) (before after : Option (List ℕ)) (added : AddedBatch) : Type 0 where
   pub events : List Event
   pub segment : Segment
   pub comes : ComesToSegment o batch old.history before events segment
   pub many : length events ≡ length batch.changes.items
+  pub counts : segment.events ≡ length events
+  pub ends : segment.last ≡ last_time_from 0 events
   pub whole : MeetsNoDamage before o batch.known (length batch.changes.items)
   pub index : index_opening new.history.index ≡ Some (index_with o segment)
   pub names : new.history.names ≡ old.history.names
