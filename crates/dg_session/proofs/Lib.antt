@@ -23,12 +23,14 @@ pub mod ReadsStep
 pub mod DamageStep
 pub mod RecordListingStep
 pub mod VerifiedStep
+pub mod HistoryEvents
 pub mod SessionStartChecks
 pub mod SessionCreationStep
 pub mod NodeSets
 pub mod NodeLeads
 pub mod ChosenGraphs
 pub mod GraphSets
+pub mod GatheredGraphs
 pub mod SessionGraphs
 pub mod KeptPlannerGraphs
 pub mod SessionNodeStep

@@ -68,7 +68,7 @@ abbrev pub kept_opened : Parts → Opening → Opened
 kept_opened p o = record { index = o; names = p.names }
 
 -- what is kept is what the image of the history is opened as
-opened_is : (p : Parts) (o : Opening) (image : List ℕ) (m : MachineState) (z : History) → IsOf p o image m z → kept_opened p o ≡ opened_of z
+pub opened_is : (p : Parts) (o : Opening) (image : List ℕ) (m : MachineState) (z : History) → IsOf p o image m z → kept_opened p o ≡ opened_of z
 opened_is p o image m z h = λ i. record { index = h.opened i; names = (h.names ∙ sym (behind z h.stands.legal).names_are) i }
 
 -- the image of a history is sound

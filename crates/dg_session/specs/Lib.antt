@@ -15,5 +15,6 @@ pub mod BatchReads
 pub mod Retrievals
 pub mod HistoryBytes
 pub mod Reads
+pub mod Gathering
 pub mod Damage
 pub mod Calls

@@ -11,8 +11,8 @@ ghost use Rattle.dg_handles.specs.Handles.{IsTied, held_by, slot_graphs};
 ghost use Rattle.dg_retrieval.specs.Beginnings.{begun_with, leads_in, led_to};
 
 use dg_batch::Held;
-use dg_event::{asks, column_of};
 use dg_fold::{Writing, compose_for};
+use dg_gather::shown;
 use dg_graph::Columns;
 use dg_handles::Handles;
 use dg_pool::Pool;
@@ -41,8 +41,8 @@ pub fn led_sets(
     Ok(sets)
 }
 
-// The set with which a graph begins.
-fn begun_set(alloc: Global, held: &Held, begins: Beginning) -> Result<Set, AllocError>
+/// The set with which a graph begins. An `Err` says that memory ran out.
+pub fn begun_set(alloc: Global, held: &Held, begins: Beginning) -> Result<Set, AllocError>
     requires held { IsHeld held.now }
     ensures { IfOk result (λ set. set ≡ begun_with held.now.live.history.now.graph (held_by held.now.handles.table (graphs_held held.now)) begins) }
 {
@@ -91,13 +91,4 @@ fn led_set(
     let delta = compose_for(alloc, writings, number)?;
     let set = begun.into_replaced(delta.minus(), delta.plus())?;
     Ok(shown(set, cols))
-}
-
-// The elements of the set in these columns. Takes no memory.
-fn shown(set: Set, cols: Columns) -> Set
-    ensures { result ≡ shown set cols }
-{
-    let mut items = set.into_items();
-    items.retain(|element| asks(cols, column_of(element)));
-    Set::from_rising(items)
 }

@@ -28,6 +28,7 @@ ghost use Rattle.dg_batch.specs.declared.stop.Stop.TheVariants as stop;
 
 mod bases;
 mod batches;
+mod gathering;
 mod handles;
 mod indexes;
 mod opening;
@@ -348,8 +349,8 @@ impl Session {
         }
     }
 
-    // The first and the last instant of the history, where there is an event.
-    fn span(&self) -> Option<(u64, u64)>
+    /// The first and the last instant of the history, where there is an event.
+    pub fn span(&self) -> Option<(u64, u64)>
         ensures { result ≡ span_held self.now.parts.index }
     {
         match &self.held.live.history.index {
