@@ -5,6 +5,7 @@ use Rattle.dg_cuts.proofs.TakenEntries.{AtStart, taken_front, taken_whole, took_
 use Rattle.dg_cuts.specs.TakenLines.{CutsEntries, GaveEntries}
 use Rattle.dg_io.specs.Frame.{Advances}
 use Rattle.dg_io.specs.LinesState.{LinesState, ahead}
+use Rattle.dg_machine.specs.CommandGrammar.{command_of}
 use Rattle.dg_machine.specs.Script.{Entry}
 use Rattle.dg_run.specs.declared.status.Status.{Status}
 use Rattle.dg_run.specs.declared.status.Status.TheVariants as status
@@ -20,13 +21,13 @@ fresh_starts r limit is more = ap (λ (x : LinesState). ahead x more) is
 -- entries, and then those of more lines
 pub took_more : (es fs : List Entry) (first now next : LinesState) (had mid has : Option (List ℕ)) → (IsTrue now.ended → IsTrue next.ended) → GaveEntries [] fs now mid next has → GaveEntries [] es first had now mid
     → GaveEntries [] (es ++ fs) first had next has
-took_more es fs first now next had mid has stays more so_far = took_both es fs first now next had mid has stays so_far more
+took_more es fs first now next had mid has stays more so_far = took_both command_of es fs first now next had mid has stays so_far more
 
 -- the same of lines that are those of none
 pub took_no_more : (es : List Entry) (first now next : LinesState) (had mid has : Option (List ℕ)) → (IsTrue now.ended → IsTrue next.ended) → GaveEntries [] [] now mid next has → GaveEntries [] es first had now mid
     → GaveEntries [] es first had next has
 took_no_more es first now next had mid has stays none so_far =
-    subst (λ (x : List Entry). GaveEntries [] x first had next has) (append-nil es) (took_both es [] first now next had mid has stays so_far none)
+    subst (λ (x : List Entry). GaveEntries [] x first had next has) (append-nil es) (took_both command_of es [] first now next had mid has stays so_far none)
 
 -- where a read has given the end of input, the script was taken to its end
 pub taken_to_end : (es : List Entry) (first now : LinesState) (had has : Option (List ℕ)) (limit f g : ℕ) → IsFresh first limit → Advances first had f now has g → IsTrue now.ended → AreTaken es had has
@@ -42,7 +43,7 @@ entries_taken es first now had has limit f g fresh advances gave = by now.ended 
     by : (b : Bool) → now.ended ≡ b → AreTaken es had has
     by true ended = taken_to_end es first now had has limit f g fresh advances ended
     by false yet =
-        let front = taken_front es first now had has (fresh_starts first limit fresh) yet gave in
+        let front = taken_front command_of es first now had has (fresh_starts first limit fresh) yet gave in
         (front.0, front.1, inl (front.2, front.3))
 
 front_taken : (es fs : List Entry) (had has : Option (List ℕ)) → AreTaken (es ++ fs) had has → AreTaken es had has
@@ -58,7 +59,7 @@ before_others es fs first now next had mid has limit f g fresh advances stays mo
 -- where the script was cut they are all that stand whole
 pub all_whole : (es : List Entry) (first now next : LinesState) (had mid has : Option (List ℕ)) (limit : ℕ) → IsFresh first limit → (IsTrue now.ended → IsTrue next.ended) → CutsEntries [] now mid next has → GaveEntries [] es first had now mid
     → AreWhole es had has
-all_whole es first now next had mid has limit fresh stays cuts gave = taken_whole es first now next had mid has (fresh_starts first limit fresh) stays gave cuts
+all_whole es first now next had mid has limit fresh stays cuts gave = taken_whole command_of es first now next had mid has (fresh_starts first limit fresh) stays gave cuts
 
 -- ---- by how the run ended
 

@@ -6,6 +6,7 @@ use Rattle.std.specs.Option.{option_map}
 use Rattle.dg_disk.specs.Calls.{LeftByCrash}
 use Rattle.dg_disk.specs.declared.disk.Disk as disk
 use Rattle.dg_io.specs.declared.source.Source as source
+use Rattle.dg_machine.specs.CommandGrammar.{command_of}
 use Rattle.dg_machine.specs.declared.command.Command.{Command}
 use Rattle.dg_machine.specs.declared.reply.Head.TheVariants as head
 use Rattle.dg_machine.specs.declared.reply.Refusal.{Refusal}
@@ -61,7 +62,7 @@ leaves_turn Took start after line text syntax column session image taken crashes
     let means_line = subst (λ (l : List ℕ). Means (meaning.Other syntax) l) same means in
     let said : reply ≡ headed (head.Refused (refusal.Syntax syntax.0)) = is ∙ ap (λ (k : ℕ). headed (head.Refused (refusal.Syntax k))) at in (
       script.No_command line,
-      told_other start after (Text line) (script.No_command line) comes means_line.0,
+      told_other command_of start after (Text line) (script.No_command line) comes means_line.0,
       same_told image (λ x y. Replies (script.No_command line) session x session y reply) (λ x m stands. (
         m,
         subst (λ (r : Reply). Step m (script.No_command line) r m) (sym said) (Leaves_grammar line syntax.0 means_line.1),
@@ -81,11 +82,11 @@ pub command_turn : (start : Option (List ScriptLine)) (lines then_lines : LinesS
 command_turn start lines then_lines left then_left line text command old new image now taken then_taken crashes reply same comes means steps reads =
     let means_line = subst (λ (l : List ℕ). Means (meaning.Command command) l) same means in (
       script.Asked command steps.0,
-      told_asked start (told lines left) (told then_lines then_left) (Text line) command steps.0 comes means_line steps.1.follows,
+      told_asked command_of start (told lines left) (told then_lines then_left) (Text line) command steps.0 comes means_line steps.1.follows,
       steps.2,
       λ unasked. absurd unasked,
       steps.5,
-      took_command (Text line) command steps.0 lines then_lines left then_left means_line steps.1,
+      took_command command_of (Text line) command steps.0 lines then_lines left then_left means_line steps.1,
       reads,
     )
 
@@ -97,10 +98,10 @@ pub broken_turn : (start : Option (List ScriptLine)) (lines then_lines : LinesSt
 broken_turn start lines then_lines left then_left line text command old image now taken then_taken crashes same comes means stops reads =
     let means_line = subst (λ (l : List ℕ). Means (meaning.Command command) l) same means in (
       script.Asked command stops.0,
-      told_asked start (told lines left) (told then_lines then_left) (Text line) command stops.0 comes means_line stops.1.follows,
+      told_asked command_of start (told lines left) (told then_lines then_left) (Text line) command stops.0 comes means_line stops.1.follows,
       stops.3,
       stops.4,
-      took_command (Text line) command stops.0 lines then_lines left then_left means_line stops.1,
+      took_command command_of (Text line) command stops.0 lines then_lines left then_left means_line stops.1,
       reads,
     )
 
@@ -109,7 +110,7 @@ pub long_turn : (Took : List script.Entry → Type 0) (start after : Option (Lis
     → Comes Long start after → reply ≡ headed (head.Refused refusal.LineLong) → crashes (λ first left. left ≡ first) → Took (script.Long_line ∷ []) → IsReplied Took start after session image session image taken taken crashes reply
 long_turn Took start after session image taken crashes reply comes is crash took = (
   script.Long_line,
-  told_other start after Long script.Long_line comes refl,
+  told_other command_of start after Long script.Long_line comes refl,
   same_told image (λ x y. Replies script.Long_line session x session y reply)
       (λ x m stands. (m, subst (λ (r : Reply). Step m script.Long_line r m) (sym is) Too_long, stands)),
   λ unasked. (refl, refl),
@@ -121,7 +122,7 @@ long_turn Took start after session image taken crashes reply comes is crash took
 -- the turn at a line that is skipped
 pub skipped_turn : (start after : Option (List ScriptLine)) (line text : List ℕ) → text ≡ line → Comes (Text line) start after → Means meaning.Skipped text
     → option_map script.entries_of start ≡ option_map script.entries_of after
-skipped_turn start after line text same comes means = told_skip start after (Text line) comes (subst (λ (l : List ℕ). Means meaning.Skipped l) same means)
+skipped_turn start after line text same comes means = told_skip command_of start after (Text line) comes (subst (λ (l : List ℕ). Means meaning.Skipped l) same means)
 
 -- at the end of the script no entry is to come
 pub none_asked : (lines : Option (List ScriptLine)) → NoneLeft lines → IfSome (option_map script.entries_of lines) (λ rest. rest ≡ [])
@@ -190,7 +191,7 @@ made_on s d entries line first lines early from old before then_lines then_from 
 }
   where
     behind : (es : List script.Entry) → TakesEntries s (line ∷ []) lines from then_lines then_from es → TakesEntries s [] first early then_lines then_from es
-    behind es took = took_behind line es first lines then_lines (s.left early) (s.left from) (s.left then_from) stays gave took
+    behind es took = took_behind command_of line es first lines then_lines (s.left early) (s.left from) (s.left then_from) stays gave took
 
     turns_on : (made : Turn) → Turns made (TakesEntries s (line ∷ []) lines from then_lines then_from) entries (asked then_lines (s.left then_from)) old (d.image before) new (d.image after) (d.taken before) (d.taken after) (LeftByCrash d before after)
         → Turns made (TakesEntries s [] first early then_lines then_from) entries (asked then_lines (s.left then_from)) old (d.image before) new (d.image after) (d.taken before) (d.taken after) (LeftByCrash d before after)

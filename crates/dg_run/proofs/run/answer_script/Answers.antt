@@ -4,6 +4,7 @@ use Rattle.dg_disk.specs.Calls.{LeftByCrash}
 use Rattle.dg_file.proofs.TidyWrites.{same_tidy}
 use Rattle.dg_io.proofs.FrameLemmas.{advances_none, advances_both}
 use Rattle.dg_io.specs.Told.{CountRose, grown, GrowsByPart}
+use Rattle.dg_machine.specs.CommandGrammar.{command_of}
 use Rattle.dg_machine.specs.ReplyText.{text}
 use Rattle.dg_run.specs.declared.status.Status.TheVariants as status
 use Rattle.dg_run.specs.Turns.{CutsEntry, LeavesTurn, asked}
@@ -19,7 +20,7 @@ use Rattle.dg_run.proofs.run.answer_script.Goals as goal
 pub loop-reply-init : goal.loop-reply-init
 loop-reply-init g c = record {
   going = over_first _ _ _ _ _ _ (TakesEntries g.S.Source [] c.new-lines.result c.args.source.now c.new-lines.result c.args.source.now) _ (LeftByCrash g.D.Disk c.args.disk.now c.args.disk.now)
-      (took_none c.new-lines.result (g.S.Source.left c.args.source.now)) (asked_first c.new-lines.result (g.S.Source.left c.args.source.now) c.args.limit c.new-lines.ensures) (stays_here g.D.Disk g.met.D.Disk.only_now c.args.disk.now);
+      (took_none command_of c.new-lines.result (g.S.Source.left c.args.source.now)) (asked_first c.new-lines.result (g.S.Source.left c.args.source.now) c.args.limit c.new-lines.ensures) (stays_here g.D.Disk g.met.D.Disk.only_now c.args.disk.now);
   replies = none_so_far c.args.session.now.parts.names (g.K.Sink.written c.args.sink.now);
   on_device = λ on. on;
   exact = λ tidy. tidy;

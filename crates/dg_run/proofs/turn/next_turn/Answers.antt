@@ -8,6 +8,7 @@ use Rattle.dg_text.specs.Lines.{Long, ScriptLine, Text}
 use Rattle.dg_io.proofs.FrameLemmas.{advances_both}
 use Rattle.dg_io.proofs.GivenLines.{gave_line}
 use Rattle.dg_io.specs.declared.lines.Line.TheVariants as line
+use Rattle.dg_machine.specs.CommandGrammar.{command_of}
 use Rattle.dg_machine.specs.declared.reply.Head.TheVariants as head
 use Rattle.dg_machine.specs.declared.reply.Refusal.TheVariants as refusal
 use Rattle.dg_machine.specs.Script.{Long_line, Other, entries_of}
@@ -29,7 +30,7 @@ returns-in-Ok-TooLong-clause-turn g c =
     makes_here {then_lines = c.next.new.self} (turn.Replied c.refused.result) c.requires
     (long_turn (TakesEntries g.S.Source [] c.args.lines.now c.args.source.now c.next.new.self c.next.new.source) (told c.args.lines.now (g.S.Source.left c.args.source.now)) (told c.next.new.self (g.S.Source.left c.next.new.source))
     _ _ _ (LeftByCrash g.D.Disk c.args.disk.now c.args.disk.now) c.refused.result (rw c.in-Ok-TooLong.field-0-is at c.in-Ok-TooLong.ensures.line) c.refused.ensures (unread_leaves g.D.Disk g.met.D.Disk.only_now c.args.disk.now)
-    (Long ∷ [], gave_line line.TooLong c.args.lines.now c.next.new.self _ _ (rw c.in-Ok-TooLong.field-0-is at c.in-Ok-TooLong.ensures.whole), λ yet. lines_by Long (Other Long_line) [] refl refl))
+    (Long ∷ [], gave_line line.TooLong c.args.lines.now c.next.new.self _ _ (rw c.in-Ok-TooLong.field-0-is at c.in-Ok-TooLong.ensures.whole), λ yet. lines_by command_of Long (Other Long_line) [] refl refl))
     (tells_no_read c.refused.result refusal.LineLong _ c.refused.ensures refl) (head_names (length c.args.session.now.parts.names) (head.Refused refusal.LineLong) c.refused.result c.refused.ensures)
 
 pub returns-in-Ok-Text-clause-turn : goal.returns-in-Ok-Text-clause-turn
@@ -53,8 +54,8 @@ returns-in-Ok-Text-clause-stops g c =
     _ _ (CutsTurn g.S.Source [] c.args.lines.now c.args.source.now c.turn_of.new.lines c.turn_of.new.source)
     (Breaks (TakesEntries g.S.Source [] c.args.lines.now c.args.source.now c.turn_of.new.lines c.turn_of.new.source) (asked c.args.lines.now had) (asked c.turn_of.new.lines has) c.args.session.now.parts (g.D.Disk.image c.args.disk.now) (g.D.Disk.image c.turn_of.new.disk)
     (g.D.Disk.taken c.args.disk.now) (g.D.Disk.taken c.turn_of.new.disk) (LeftByCrash g.D.Disk c.args.disk.now c.turn_of.new.disk))
-    c.turn_of.result c.next.ensures.advances.counted (cut_behind text c.args.lines.now c.next.new.self c.turn_of.new.lines had mid has stays gave)
-    (λ b. (b.0, b.1, b.2, b.3, took_behind text (b.0 ∷ []) c.args.lines.now c.next.new.self c.turn_of.new.lines had mid has stays gave b.4, b.5))
+    c.turn_of.result c.next.ensures.advances.counted (cut_behind command_of text c.args.lines.now c.next.new.self c.turn_of.new.lines had mid has stays gave)
+    (λ b. (b.0, b.1, b.2, b.3, took_behind command_of text (b.0 ∷ []) c.args.lines.now c.next.new.self c.turn_of.new.lines had mid has stays gave b.4, b.5))
     (c.turn_of.ensures.stops (told c.args.lines.now (g.S.Source.left c.args.source.now)) comes.0)
 
 pub returns-in-Ok-Text-clause-lines : goal.returns-in-Ok-Text-clause-lines
@@ -66,7 +67,7 @@ returns-in-Err-Read-clause-stops g c = record {
   as_before = λ e. record { same = refl; same_image = refl };
   read = λ e. c.next.ensures.read (c.in-Err-Read.is ∙ ap (λ x. Err x) c.in-Err-Read.field-0-is);
   limit = λ e. cc;
-  lines = λ e. cut_between c.args.lines.now c.next.new.self _ _ c.in-Err-Read.ensures.kept c.in-Err-Read.ensures.needs;
+  lines = λ e. cut_between command_of c.args.lines.now c.next.new.self _ _ c.in-Err-Read.ensures.kept c.in-Err-Read.ensures.needs;
   unread = λ e. refl;
   store = λ e. cc;
   store_cause = λ e. cc;
@@ -77,7 +78,7 @@ returns-in-Err-Limit-clause-stops g c = record {
   as_before = λ e. record { same = refl; same_image = refl };
   read = λ e. cc;
   limit = λ e. c.next.ensures.limit (c.in-Err-Limit.is ∙ ap (λ x. Err x) c.in-Err-Limit.field-0-is);
-  lines = λ e. cut_between c.args.lines.now c.next.new.self _ _ c.in-Err-Limit.ensures.kept c.in-Err-Limit.ensures.needs;
+  lines = λ e. cut_between command_of c.args.lines.now c.next.new.self _ _ c.in-Err-Limit.ensures.kept c.in-Err-Limit.ensures.needs;
   unread = λ e. refl;
   store = λ e. cc;
   store_cause = λ e. cc;

@@ -4,6 +4,7 @@ use Rattle.dg_cuts.proofs.TakenEntries.{cut_command, took_line}
 use Rattle.dg_cuts.proofs.TakenLines.{lines_by}
 use Rattle.dg_disk.specs.Calls.{LeftByCrash}
 use Rattle.dg_text.specs.Lines.{Text}
+use Rattle.dg_machine.specs.CommandGrammar.{command_of}
 use Rattle.dg_machine.specs.Script as script
 use Rattle.dg_session.specs.Reads.{ReadsToStop}
 use Rattle.dg_run.specs.Calls.{TakesEntries}
@@ -27,7 +28,7 @@ returns-in-Skipped-clause-turn g c = λ start comes.
       refl,
       refl,
       unread_leaves g.D.Disk g.met.D.Disk.only_now c.args.disk.now,
-      took_line (Text lines.text) [] lines (g.S.Source.left c.args.source.now) (lines_by (Text lines.text) script.Skipped [] means refl),
+      took_line command_of (Text lines.text) [] lines (g.S.Source.left c.args.source.now) (lines_by command_of (Text lines.text) script.Skipped [] means refl),
     ) tt tt
 
 pub returns-in-Other-clause-turn : goal.returns-in-Other-clause-turn
@@ -36,7 +37,7 @@ returns-in-Other-clause-turn g c = λ start comes.
     makes_here (turn.Replied c.refused.result) c.requires
     (leaves_turn (TakesEntries g.S.Source (Text lines.text ∷ []) lines c.args.source.now lines c.args.source.now) start _ lines.text c.text.result.now c.in-Other.field-0 c.in-Other.field-0.0 _ _ _ (LeftByCrash g.D.Disk c.args.disk.now c.args.disk.now) c.refused.result
     c.text.ensures refl comes c.in-Other.ensures.means c.refused.ensures (unread_leaves g.D.Disk g.met.D.Disk.only_now c.args.disk.now)
-    (λ means. took_line (Text lines.text) (script.No_command lines.text ∷ []) lines (g.S.Source.left c.args.source.now) (lines_by (Text lines.text) (script.Other (script.No_command lines.text)) [] means refl)))
+    (λ means. took_line command_of (Text lines.text) (script.No_command lines.text ∷ []) lines (g.S.Source.left c.args.source.now) (lines_by command_of (Text lines.text) (script.Other (script.No_command lines.text)) [] means refl)))
     (tells_no_read c.refused.result (refusal.Syntax c.in-Other.field-0.0) _ c.refused.ensures refl) (head_names (length c.args.session.now.parts.names) (head.Refused (refusal.Syntax c.in-Other.field-0.0)) c.refused.result c.refused.ensures)
 
 pub returns-in_ok-step-in-Command-clause-turn : goal.returns-in_ok-step-in-Command-clause-turn
@@ -65,7 +66,7 @@ returns-in_err-step-in-Command-clause-stops g c = λ start comes.
     let after = g.D.Disk.taken c.step.new.disk in
     let means = subst (λ (l : List ℕ). Means (meaning.Command command) l) c.text.ensures c.in-Command.ensures.means in
     handed_on c.from_residual.result why _ c.from_residual.ensures
-    (stopped_in _ _ why (cut_command (Text c.args.lines.now.text) command c.args.lines.now c.step.new.lines had has means)
+    (stopped_in _ _ why (cut_command command_of (Text c.args.lines.now.text) command c.args.lines.now c.step.new.lines had has means)
     (λ is cut. broken_turn start c.args.lines.now c.step.new.lines had has c.args.lines.now.text c.text.result.now command _ _ _ before after (LeftByCrash g.D.Disk c.args.disk.now c.step.new.disk) c.text.ensures comes c.in-Command.ensures.means cut
     (subst (λ (w : Stop). ReadsToStop command c.args.session.now.parts image w before after) is stops.reads)) stops.stopped)
 

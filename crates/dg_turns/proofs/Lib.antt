@@ -1,0 +1,5 @@
+pub mod LinesStateEnds
+pub mod TakenRuns
+pub mod EntryLines
+pub mod SoFar
+pub mod RunEnds
