@@ -5,31 +5,25 @@
 
 ghost use Rattle.std.specs.Prelude.{◌≡◌, [], IfSome};
 
-mod descriptors;
 #[cfg(test)]
 mod tests;
-mod words;
 
-use descriptors::hold_standard;
 use dg_cache::RangeCache;
 use dg_cached_disk::CachedDisk;
 use dg_file_disk::FileDisk;
 use dg_io::{StdSink, StdSource};
+use dg_program::{WordsFault, hold_standard, keep_freed, words_after_name};
 use dg_run::{Status, serve};
 use dg_seed::Seed;
 use dg_words::{Words, read_words};
-use std::alloc::{AllocError, Global};
 use std::num::NonZeroUsize;
 use std::process::ExitCode;
-use words::words_after_name;
-
-/// The block that the C library gives back first. With a larger one, blocks of a large graph lie beside one another unused.
-const KEPT_BYTES: usize = 512 * 1024;
 
 fn main(rt: HostRuntime) -> ExitCode {
     let words = match words_after_name(&rt) {
         Ok(words) => words,
-        Err(status) => return ends(&rt, status),
+        Err(WordsFault::Text) => return ends(&rt, Status::Words),
+        Err(WordsFault::Memory) => return ends(&rt, Status::NoMemory),
     };
     let read = match read(&rt, words.as_slice()) {
         Ok(read) => read,
@@ -73,14 +67,6 @@ fn main(rt: HostRuntime) -> ExitCode {
         &mut disk,
     );
     ends_over(&rt, status, disk.disk())
-}
-
-// Has the C library keep memory that is freed for what is needed next. It gives a large block back to the system at once, and
-// then takes the next one anew, page by page; but it keeps those that are no larger than the largest block that it has given
-// back. No byte of this block is touched. Where memory lacks nothing is lost but time.
-fn keep_freed(alloc: Global) {
-    let block: Result<Vec<u8>, AllocError> = Vec::with_capacity(alloc, KEPT_BYTES);
-    drop(block);
 }
 
 // What the words say. `Status::Words` where they are not of the written form, and `Status::NoMemory` for want of memory.
