@@ -1,0 +1,4 @@
+pub mod Endings
+pub mod PutText
+pub mod SpanText
+pub mod Dumped
