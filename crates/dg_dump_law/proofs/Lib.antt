@@ -1,0 +1,4 @@
+mod LoadedScripts
+mod BatchCounts
+mod LegalAnswers
+mod KeptRuns

@@ -1,0 +1,2 @@
+pub mod ScriptLoads
+pub mod OwnFiles
