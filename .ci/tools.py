@@ -1812,13 +1812,71 @@ def spells(tests: Tests) -> None:
         tests.same("Parquet", len(pandas.read_parquet(tests.folder / "edges.parquet")), 2)
 
 
+def spells_as_gexf(tests: Tests) -> None:
+    """Nodes and edges with the spells that the changes tell, without pandas."""
+    lines = ["10 +node 1", "10 +node 2", "10 nset 1 name Ana", "20 +edge 7 1 2 dir", "30 -edge 7", "40 +edge 7 2 1 undir", "50 nset 1 name A&B"]
+    tests.load("index", program.bytes_of("".join(f"{line}\n" for line in ["create 4 2 union", f"load {len(lines)}", *lines])))
+    ran = tests.run("tools/spells", "index", "--output", "history.gexf")
+    graph = xml.parse(tests.folder / "history.gexf").getroot()
+    space = "{http://www.gexf.net/1.2draft}"
+
+    def told(kind: str, *names: str) -> list[Any]:
+        found = graph.iter(space + kind)
+        return [(*(one.get(name) for name in names), [(s.get("start"), s.get("end")) for s in one.iter(space + "spell")]) for one in found]
+
+    tests.same("GEXF of a history ends well", ran.returncode, 0)
+    nodes = [("n1", "A&B", [("10", "Infinity")]), ("n2", "2", [("10", "Infinity")])]
+    tests.same("nodes of a history as GEXF", told("node", "id", "label"), nodes)
+    edges = [("n1", "n2", None, [("20", "30")]), ("n2", "n1", "undirected", [("40", "Infinity")])]
+    tests.same("edges of a history as GEXF", told("edge", "source", "target", "type"), edges)
+    tests.one_line("no file for GEXF", tests.run("tools/spells", "none", "--format", "gexf"), 1, "none: no such file")
+
+
+# Late records.
+
+OLD_LINES = ["10 +node 1", "20 +node 2", "20 nset 2 name Bo", "30 +edge 7 1 2 dir"]
+LATE_LINES = ["# late", "25 +node 3", "", "15 nset 1 name Ana "]
+
+
+def rebuild(tests: Tests) -> None:
+    """A rebuilt index is the one that all changes make in the order of their times."""
+
+    def script(lines: Sequence[str]) -> bytes:
+        return program.bytes_of("".join(f"{line}\n" for line in ["create 4 2 union", f"load {len(lines)}", *lines]))
+
+    tests.load("old", script(OLD_LINES))
+    before = (tests.folder / "old").read_bytes()
+    late = tests.file("late", "".join(f"{line}\n" for line in LATE_LINES))
+    ran = tests.run("tools/rebuild", "old", late, "new")
+    tests.one_line("late changes are told", ran, 0, "rebuild: 6 changes, 2 of them late\n")
+    whole = [OLD_LINES[0], LATE_LINES[3], *OLD_LINES[1:3], LATE_LINES[1], OLD_LINES[3]]
+    tests.load("due", script(whole))
+    due = (tests.folder / "due").read_bytes()
+    tests.same("late changes take their places", (tests.folder / "new").read_bytes(), due)
+    tests.one_line("a new file that is there", tests.run("tools/rebuild", "old", late, "new"), 2, "is there already")
+    wrong = tests.file("wrong", "15 +edge 8 1 2 dir\n5 frob\n")
+    tests.one_line("a late change that cannot hold", tests.run("tools/rebuild", "old", wrong), 2, "late change 2", "5 frob", "form")
+    tests.same("the old file is as it was", (tests.folder / "old").read_bytes(), before)
+    ran = tests.run("tools/rebuild", "old", wrong, "--skip-refused", "--keep")
+    told = program.text_of(ran.stderr).split("\n")
+    tests.same("what is left out is listed", [line.count("left out") for line in told], [1, 1, 1, 0])
+    tests.same("nothing held", (tests.folder / "old").read_bytes(), before)
+    tests.same("the old file is kept", (tests.folder / "old.old").read_bytes(), before)
+    command, environment = tests.command("tools/rebuild", "old", "-", "--at-equal-times", "before")
+    subprocess.run(command, input=b"20 msg 1 1 x\n", env=environment, cwd=tests.folder, capture_output=True)
+    tests.load("due", script([OLD_LINES[0], "20 msg 1 1 x", *OLD_LINES[1:]]))
+    tests.same("before those of its instant", (tests.folder / "old").read_bytes(), (tests.folder / "due").read_bytes())
+    tests.one_line("no such file", tests.run("tools/rebuild", "none", late), 2, "none: no such file")
+    tests.one_line("no such late file", tests.run("tools/rebuild", "old", "none"), 1, "none")
+
+
 # Words.
 
 
 def words_are_told(tests: Tests) -> None:
     """What bash completes are the options of --help, and the manual page has the commands of docs/SCRIPT.md."""
     source = f'source "{ROOT}/tools/completion.bash"; '
-    for tool in ("edges2script", "snapshot", "growth", "spells", "timeline"):
+    for tool in ("edges2script", "snapshot", "growth", "spells", "timeline", "rebuild"):
         told = tests.run(f"tools/{tool}", "--help").stdout.decode()
         due = {option for line in re.findall(r"^  -.*$", told, re.M) for option in re.findall(r"--[a-z-]+", line)}
         offered = subprocess.run(["bash", "-c", f"{source}_deltagraph_options {tool}"], capture_output=True)
@@ -1898,7 +1956,7 @@ def bench_of_a_liar(tests: Tests, word: str) -> None:
 def main() -> int:
     tests = Tests(sys.argv[1], sys.argv[2])
     parts = [convert_many, convert_forms, convert_batches, other_forms, large, spread_in_parts, dates]
-    parts += [snapshots, growth, short_way, timeline, spells, messages, failures, words_are_told, tutorial_as_written, bench]
+    parts += [snapshots, growth, short_way, timeline, spells, spells_as_gexf, rebuild, messages, failures, words_are_told, tutorial_as_written, bench]
     for part in parts:
         try:
             part(tests)

@@ -17,6 +17,7 @@ _deltagraph_offer() {
 _deltagraph_values() {
     case $1 in
         --as) echo mixed directed undirected ;;
+        --at-equal-times) echo before after ;;
         --columns) [ "$2" = edges2script ] || echo s sn se sne st snt set snet ;;
         --encoding) echo utf-8 utf-16 latin-1 cp1252 bytes ;;
         --every) echo hour day week month quarter year ;;
@@ -24,7 +25,7 @@ _deltagraph_values() {
         --format)
             case $2 in
                 timeline) echo html gexf ;;
-                spells) echo csv parquet ;;
+                spells) echo csv parquet gexf ;;
                 *) echo graphml gexf dot edges nodes ;;
             esac
             ;;
@@ -49,6 +50,7 @@ _deltagraph_options() {
         spells)
             echo --help --key --label --ids --dates --instants --verify --format --output --program --progress
             ;;
+        rebuild) echo --help --at-equal-times --skip-refused --keep --dump --program ;;
         snapshot) echo --help --format --columns --label --numbers --as --ids --output --program --progress ;;
         growth)
             echo --help --from --to --points --every --at --columns --text --svg --log --title --dates --shift --program \
@@ -78,4 +80,4 @@ _deltagraph() {
     fi
 }
 
-complete -F _deltagraph deltagraph edges2script snapshot growth spells timeline
+complete -F _deltagraph deltagraph edges2script snapshot growth spells timeline rebuild
