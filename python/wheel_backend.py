@@ -18,8 +18,11 @@ from typing import Any, Optional
 
 HERE = Path(__file__).resolve().parent
 PACKAGE = "deltagraph"
-PROGRAM = "DELTAGRAPH_IN_WHEEL"  # the variable that names a built program, which the wheel then brings along
-IN_WHEEL = f"{PACKAGE}/bin/{PACKAGE}"
+# The variables that name built programs, which the wheel then brings along, and their places in it.
+PROGRAMS = {
+    "DELTAGRAPH_IN_WHEEL": f"{PACKAGE}/bin/deltagraph",
+    "DELTAGRAPH_DUMP_IN_WHEEL": f"{PACKAGE}/bin/deltagraph-dump",
+}
 MOMENT = (1980, 1, 1, 0, 0, 0)  # the earliest that a zip file can tell: equal files make equal wheels
 
 
@@ -41,7 +44,9 @@ def _metadata() -> str:
         f"Requires-Python: {_told('requires-python')}",
         "Description-Content-Type: text/markdown",
     ]
-    for extra, names in (("bars", ["tqdm"]), ("graphs", ["networkx", "igraph"]), ("tables", ["numpy", "pandas"])):
+    extras = [("bars", ["tqdm"]), ("graphs", ["networkx", "igraph"]), ("tables", ["numpy", "pandas"])]
+    extras.append(("clusters", ["dask", "distributed", "numpy", "pandas"]))
+    for extra, names in extras:
         lines.append(f"Provides-Extra: {extra}")
         lines += [f'Requires-Dist: {name}; extra == "{extra}"' for name in names]
     return "\n".join(lines) + "\n\n" + (HERE / "README.md").read_text("utf-8")
@@ -55,15 +60,13 @@ def build_wheel(wheel_directory: str, config_settings: Any = None, metadata_dire
     """Writes the wheel into a folder, and gives its name."""
     stem = f"{PACKAGE}-{_told('version')}"
     files = {f"{PACKAGE}/{path.name}": path.read_bytes() for path in _sources()}
-    program = os.environ.get(PROGRAM)
-    tag = "py3-none-any"
-    if program:
-        files[IN_WHEEL] = Path(program).read_bytes()
-        tag = "py3-none-" + re.sub("[-.]", "_", sysconfig.get_platform())
+    programs = {place: Path(os.environ[name]).read_bytes() for name, place in PROGRAMS.items() if os.environ.get(name)}
+    files.update(programs)
+    tag = "py3-none-" + (re.sub("[-.]", "_", sysconfig.get_platform()) if programs else "any")
     files[f"{stem}.dist-info/METADATA"] = _metadata().encode()
     files[
         f"{stem}.dist-info/WHEEL"
-    ] = f"Wheel-Version: 1.0\nGenerator: {Path(__file__).stem}\nRoot-Is-Purelib: {str(not program).lower()}\nTag: {tag}\n".encode()
+    ] = f"Wheel-Version: 1.0\nGenerator: {Path(__file__).stem}\nRoot-Is-Purelib: {str(not programs).lower()}\nTag: {tag}\n".encode()
     record = f"{stem}.dist-info/RECORD"
     rows = []
     for name, content in files.items():
@@ -75,7 +78,7 @@ def build_wheel(wheel_directory: str, config_settings: Any = None, metadata_dire
         for name, content in files.items():
             entry = zipfile.ZipInfo(name, MOMENT)
             entry.compress_type = zipfile.ZIP_DEFLATED
-            entry.external_attr = (stat.S_IFREG | (0o755 if name == IN_WHEEL else 0o644)) << 16  # pip asks for both
+            entry.external_attr = (stat.S_IFREG | (0o755 if name in programs else 0o644)) << 16  # pip asks for both
             archive.writestr(entry, content)
     return wheel
 

@@ -35,6 +35,7 @@ from .failures import (
     Closed,
     DeltagraphError,
     DiskFault,
+    EmptyFile,
     IndexRefused,
     Killed,
     NoMemory,
@@ -47,6 +48,7 @@ from .failures import (
     WrongWords,
 )
 from .process import Program
+from .rebuilding import FileChanged, LateChangeRefused, Rebuilt, Refusal, rebuild
 from .refusals import (
     AlreadyIndexed,
     AlreadyLoaded,
@@ -97,6 +99,7 @@ from .replies import (
     Verdict,
     Verification,
 )
+from .script import Creation, Script, Spell, changes_between, dump, spells
 from .snapshot import EdgeTable, Snapshot, Snapshots
 from .store import Store
 from .tables import BadTable, Report, from_csv, from_pandas
@@ -112,14 +115,19 @@ __all__ = [
     "BadTable",
     "Calendar",
     "Change",
+    "changes_between",
     "Closed",
     "Counts",
+    "Creation",
     "Damaged",
     "DeltagraphError",
     "DiskFault",
+    "dump",
     "Edge",
     "EdgeAttribute",
     "EdgeTable",
+    "EmptyFile",
+    "FileChanged",
     "FileFull",
     "from_csv",
     "from_pandas",
@@ -134,6 +142,7 @@ __all__ = [
     "InvalidChange",
     "Killed",
     "LargeInstant",
+    "LateChangeRefused",
     "LineLong",
     "Loaded",
     "Message",
@@ -158,11 +167,15 @@ __all__ = [
     "Program",
     "ProgramEnded",
     "ProgramMissing",
+    "rebuild",
+    "Rebuilt",
     "Record",
+    "Refusal",
     "Refused",
     "Report",
     "RemoveEdge",
     "RemoveNode",
+    "Script",
     "ScriptLimit",
     "SendMessage",
     "SetEdge",
@@ -173,6 +186,8 @@ __all__ = [
     "Snapshots",
     "SourceFault",
     "Span",
+    "Spell",
+    "spells",
     "Step",
     "Store",
     "StoreRead",

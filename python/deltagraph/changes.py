@@ -26,6 +26,9 @@ class LargeInstant(DeltagraphError, ValueError):
         self.instant = instant
         super().__init__(f"instant {instant} has more than {LARGEST_BATCH} changes, and all have to be in one batch")
 
+    def __reduce__(self) -> tuple[type["LargeInstant"], tuple[str]]:  # so that it goes to another process as it is
+        return type(self), (self.instant,)
+
 
 def _outside(time: int, *ids: int) -> InvalidChange:
     """What is wrong with a time and some ids of which one is too small or too large."""

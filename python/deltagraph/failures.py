@@ -2,7 +2,7 @@
 from __future__ import annotations
 
 import signal
-from typing import Sequence
+from typing import Any, Sequence
 
 
 class DeltagraphError(Exception):
@@ -33,6 +33,9 @@ class ProgramEnded(DeltagraphError):
     def __init__(self, status: int, errors: Sequence[str], command: str = "") -> None:
         self.status, self.errors, self.command = status, list(errors), command
         super().__init__()
+
+    def __reduce__(self) -> tuple[Any, ...]:  # so that it goes to another process as it is
+        return type(self), (self.status, self.errors, self.command), self.__dict__
 
     def __str__(self) -> str:
         before = f" before it answered `{self.command}`" if self.command else ""
@@ -76,6 +79,13 @@ class IndexRefused(ProgramEnded):
     meaning = "the file is refused: it is no index, or it is damaged"
 
 
+class EmptyFile(ProgramEnded):
+    """Status 8, of `deltagraph-dump` alone: the file has no index."""
+
+    STATUS = 8
+    meaning = "the file has no index"
+
+
 class ScriptLimit(ProgramEnded):
     """Status 9: the script had 2^40 bytes, and more was to come."""
 
@@ -98,6 +108,7 @@ OF_STATUS: dict[int, type[ProgramEnded]] = {
     5: DiskFault,
     6: NoMemory,
     7: IndexRefused,
+    EmptyFile.STATUS: EmptyFile,
     9: ScriptLimit,
 }
 

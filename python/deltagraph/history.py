@@ -237,12 +237,18 @@ class History:
         columns = {"source": ends[0], "target": ends[1], "time": self._moments(of.time, dates)}
         return pandas.DataFrame({**columns, "value": self._texts(of.new)})
 
-    def changes(self, dates: Optional[bool] = None) -> Any:
+    def changes(self, dates: Optional[bool] = None, begin: Optional[int] = None, end: Optional[int] = None) -> Any:
         """A frame of all changes in their order: `time`, `change` (the word of the script), `id`, `source`, `target`,
-        `directed`, `key` and `value`, of which each change has what its line has. The id of a value is its owner's."""
+        `directed`, `key` and `value`, of which each change has what its line has. The id of a value is its owner's.
+
+        With `begin` or `end`, which are instants, it has those from `begin` on and before `end`."""
         import pandas
 
         order, parts = self._in_order()
+        times = numpy.concatenate([part["time"] for part in parts])[order]
+        first = 0 if begin is None else numpy.searchsorted(times, begin)
+        last = len(times) if end is None else numpy.searchsorted(times, end)
+        order = order[first : max(first, last)]
         whole = {name: numpy.concatenate([part[name] for part in parts])[order] for name in parts[0]}
         frame = pandas.DataFrame({"time": self._moments(whole["time"], dates)})
         frame["change"] = pandas.Categorical.from_codes(whole["word"], WORDS)

@@ -2,7 +2,7 @@
 from __future__ import annotations
 
 import re
-from typing import TYPE_CHECKING, Optional, Sequence
+from typing import TYPE_CHECKING, Any, Optional, Sequence
 
 from .failures import DeltagraphError
 from .words import bytes_of
@@ -37,6 +37,9 @@ class Refused(DeltagraphError):
     def __init__(self, head: Sequence[str], command: str) -> None:
         self.number, self.name, self.rest, self.command = int(head[1]), head[2], list(head[3:]), command
         super().__init__()
+
+    def __reduce__(self) -> tuple[Any, ...]:  # so that it goes to another process as it is
+        return type(self), (self.head.split(" "), self.command), self.__dict__
 
     def words(self) -> str:
         """What is wrong, in words."""

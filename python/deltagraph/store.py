@@ -520,9 +520,15 @@ class Store:
             raise NoIndex(["refused", "2", "no-index"], "history")
         return History(self.path, self.told_calendar())
 
-    def changes(self) -> Any:
-        """All changes of the history in their order, as a frame of pandas (`History.changes`)."""
-        return self.history().changes()
+    def changes(self, begin: Optional[Time] = None, end: Optional[Time] = None) -> Any:
+        """The changes from a time on and before another, in their order, as a frame of pandas (`History.changes`).
+
+        Without a begin they are from the first on, and without an end up to the last: together all changes. So
+        `changes("2020-03", "2020-04")` are those of March.
+        """
+        first = None if begin is None else self.instant(begin)
+        last = None if end is None else self.instant(end)
+        return self.history().changes(begin=first, end=last)
 
     def materialise(self, node: str, columns: str = "s") -> Snapshot:
         """Holds a node of the index, `leaf 3` or `inner 2 1`, from which later retrievals go on for nothing."""

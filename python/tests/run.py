@@ -20,7 +20,8 @@ def main() -> int:
         print(f"left out: {test.id()}: {reason}")
     # A test may fail in several of its parts.
     failed = len({test.id().split(" ")[0] for test, _ in [*result.failures, *result.errors]})
-    print(f"python: {result.testsRun - failed - len(result.skipped)} passed, {failed} failed")
+    left = f", {len(result.skipped)} left out" if result.skipped else ""
+    print(f"python: {result.testsRun - failed - len(result.skipped)} passed, {failed} failed{left}")
     return 1 if failed or not result.testsRun else 0
 
 

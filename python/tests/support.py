@@ -7,7 +7,7 @@ import sys
 import tempfile
 import unittest
 from pathlib import Path
-from typing import Any, Callable, Optional, Union
+from typing import Any, Callable, Optional, Sequence, Union
 
 import deltagraph
 from deltagraph import Change, ProgramMissing
@@ -187,6 +187,20 @@ class Model:
     ) -> Change:
         del held[of[0]][of[1]]
         return kind(self.time, *of)
+
+
+def parts_of(changes: Sequence[Change], count: int) -> list[list[Change]]:
+    """The changes of each of so many parts. Nodes come and go in all of them; a value of a node, an edge with its values,
+    and a message are in one, by the node, the edge and the source."""
+    parts: list[list[Change]] = [[] for _ in range(count)]
+    for change in changes:
+        if isinstance(change, (deltagraph.AddNode, deltagraph.RemoveNode)):
+            for part in parts:
+                part.append(change)
+        else:
+            owner = change.source if isinstance(change, deltagraph.SendMessage) else change[1]
+            parts[owner % count].append(change)
+    return parts
 
 
 def in_some_form(pick: random.Random, change: Change) -> Union[Change, tuple[Any, ...], str, bytes]:

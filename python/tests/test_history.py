@@ -73,6 +73,11 @@ class HistoryTests(Case):
             self.assertEqual(changes[6], (30, "msg", None, 2, 1, None, None, "Hello, you"))
             self.assertEqual(changes[8], (40, "edel", 5, None, None, None, "weight", None))
             self.assertEqual([row[:3] for row in changes], [words(line) for line in BY_HAND])
+            self.assertEqual(rows(store.changes(20, 30)), changes[3:6])
+            self.assertEqual(rows(store.changes(21)), changes[5:])
+            self.assertEqual(rows(store.changes(end=10)), [])
+            self.assertEqual(rows(store.changes(60, 20)), [])
+            self.assertEqual(rows(store.changes(end="1970-01-01T00:00:21")), changes[:5])
 
     def test_dates(self) -> None:
         with self.open() as store:
