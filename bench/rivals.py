@@ -1,25 +1,38 @@
 #!/usr/bin/env python3
-"""Three other stores of a graph's history, with the commands of `deltagraph` that the benchmark uses.
+"""Four other stores of a graph's history, with the commands of `deltagraph` that the benchmark uses.
 
   rivals.py log FOLDER         a log of changes that is replayed over dictionaries
   rivals.py copies:N FOLDER    the log in parts of N changes, with a copy of the graph behind each
   rivals.py sqlite FOLDER      SQLite, with the interval of each element's validity
+  rivals.py postgres FOLDER    PostgreSQL, with the range of each element's validity and GiST indexes
 
 They take `create`, `load`, `append`, `at`, `several`, `counts`, `neighbours`, `list` and `release` on standard input
 and answer as docs/SCRIPT.md has it, `clean all` too, which has nothing to do: what is released is given back at once.
-Further `ready`, which does nothing, and `open` and `close` of the files.
+Further `ready`, which does nothing, `open` and `close` of the files, and `helper`, which names the process of a server
+that works for the store, or 0. The server of PostgreSQL runs as long as this program: it is there before `ready` is
+answered, and it has ended, with its socket gone, when this program ends.
 They check no change and refuse nothing. As with `deltagraph`, a batch is in the files for good when it is answered.
 """
 from __future__ import annotations
 
+import ctypes
 import gc
+import glob
 import marshal
 import os
+import pwd
+import re
+import shutil
+import signal
+import socket
 import struct
+import subprocess
 import sys
+import tempfile
 from bisect import bisect_right
 from itertools import groupby, islice
-from typing import IO, Any, Callable, Iterable, Iterator, Optional, Protocol, Sequence, cast
+from time import monotonic, sleep
+from typing import IO, Any, Callable, Iterable, Iterator, NamedTuple, Optional, Protocol, Sequence, cast
 
 try:
     import sqlite3
@@ -29,6 +42,14 @@ except ImportError:
     SQLITE = ""  # the store that needs it is then not asked for
 
 NODES, EDGES, NODE_VALUES, EDGE_VALUES = range(4)
+COLUMNS = {
+    NODES: ["id"],
+    EDGES: ["id", "source", "target", "directed"],
+    NODE_VALUES: ["id", "key", "value"],
+    EDGE_VALUES: ["id", "key", "value"],
+}
+KEYS = {NODES: ["id"], EDGES: ["id"], NODE_VALUES: ["id", "key"], EDGE_VALUES: ["id", "key"]}
+NAMES = {NODES: "node", EDGES: "edge", NODE_VALUES: "node_value", EDGE_VALUES: "edge_value"}
 TABLES = {"s": [0, 1], "sn": [0, 1, 2], "se": [0, 1, 3], "sne": [0, 1, 2, 3]}
 NEVER = 2**63 - 1  # when an element ends that is there now
 
@@ -52,6 +73,8 @@ class Snapshot(Protocol):
 
 
 class Store(Protocol):
+    helper: int  # the process of a server that works for the store, or 0
+
     def create(self) -> None:
         ...
 
@@ -162,6 +185,8 @@ def replay(tables: Tables, changes: Iterable[Change], columns: str = "sne") -> N
 class Log:
     """A text file of changes. It is read and parsed when it is opened, and replayed from its start for each graph."""
 
+    helper = 0
+
     def __init__(self, folder: str) -> None:
         self.path = os.path.join(folder, "log")
 
@@ -219,6 +244,7 @@ class Copies:
     changes behind the last whole part stand as text in `tail` with the number of whole parts.
     """
 
+    helper = 0
     ROW = struct.Struct(">QQQQ")  # the first instant of a part, and where it begins, ends, and the copy behind it ends
 
     def __init__(self, folder: str, every: int) -> None:
@@ -313,7 +339,7 @@ class Copies:
         return [found[time] for time in times]
 
 
-# SQLite.
+# Intervals of validity.
 
 
 class Rows:
@@ -337,6 +363,60 @@ class Rows:
         )
 
 
+class Names(dict[int, str]):
+    """Texts of names, read when they are first needed."""
+
+    def __init__(self, read: Callable[[], Iterable[tuple[int, str]]]) -> None:
+        super().__init__()
+        self.read = read
+
+    def __missing__(self, _: int) -> str:
+        self.update(self.read())
+        return self[_]
+
+
+class Interval(NamedTuple):
+    """When a row begins and ends, and what stands in its other columns."""
+
+    since: int
+    until: int
+    columns: tuple[int, ...]
+
+
+def key_of(table: int, key: Any, number: Callable[[str], int]) -> tuple[int, ...]:
+    return (key,) if table in (NODES, EDGES) else (key[0], number(key[1]))
+
+
+def content_of(table: int, content: Any, number: Callable[[str], int]) -> tuple[int, ...]:
+    if table == NODES:
+        return ()
+    return tuple(content) if table == EDGES else (number(content),)
+
+
+def intervals(
+    table: int, changes: Iterable[Change], number: Callable[[str], int]
+) -> tuple[list[Interval], dict[tuple[int, ...], int]]:
+    """Of the changes of a table the rows that begin with them, and by their keys the ends of rows that stand there."""
+    begun: dict[tuple[int, ...], tuple[int, tuple[int, ...]]] = {}
+    rows: list[Interval] = []
+    ends: dict[tuple[int, ...], int] = {}
+    for time, _, key, content in changes:
+        whole = key_of(table, key, number)
+        old = begun.pop(whole, None)
+        if old is not None:
+            if old[0] < time:
+                rows.append(Interval(old[0], time, whole + old[1]))
+        elif content is None or table in (NODE_VALUES, EDGE_VALUES):
+            ends.setdefault(whole, time)
+        if content is not None:
+            begun[whole] = (time, content_of(table, content, number))
+    rows += [Interval(since, NEVER, whole + content) for whole, (since, content) in begun.items()]
+    return rows, ends
+
+
+# SQLite.
+
+
 class Sqlite:
     """Each element is a row that is valid from `since` on and before `until`.
 
@@ -345,14 +425,7 @@ class Sqlite:
     else by the second.
     """
 
-    COLUMNS = {
-        NODES: ["id"],
-        EDGES: ["id", "source", "target", "directed"],
-        NODE_VALUES: ["id", "key", "value"],
-        EDGE_VALUES: ["id", "key", "value"],
-    }
-    KEYS = {NODES: ["id"], EDGES: ["id"], NODE_VALUES: ["id", "key"], EDGE_VALUES: ["id", "key"]}
-    NAMES = {NODES: "node", EDGES: "edge", NODE_VALUES: "node_value", EDGE_VALUES: "edge_value"}
+    helper = 0
 
     def __init__(self, folder: str) -> None:
         self.path = os.path.join(folder, "history.sqlite")
@@ -369,9 +442,9 @@ class Sqlite:
         self.connect()
         self.base.execute("CREATE TABLE name (number INTEGER PRIMARY KEY, text TEXT UNIQUE)")
         self.base.execute("CREATE TABLE history (first INTEGER, last INTEGER)")
-        for table, name in self.NAMES.items():
-            columns = ", ".join(f"{column} INTEGER" for column in self.COLUMNS[table])
-            key = ", ".join(["since", *self.KEYS[table]])
+        for table, name in NAMES.items():
+            columns = ", ".join(f"{column} INTEGER" for column in COLUMNS[table])
+            key = ", ".join(["since", *KEYS[table]])
             self.base.execute(
                 f"CREATE TABLE {name} (since INTEGER, until INTEGER, {columns}, PRIMARY KEY ({key})) WITHOUT ROWID"
             )
@@ -379,8 +452,8 @@ class Sqlite:
 
     def index(self) -> None:
         """After the first batch, since rows are faster put into a table without indexes."""
-        for table, name in self.NAMES.items():
-            columns, key = ", ".join(self.COLUMNS[table]), ", ".join(self.KEYS[table])
+        for table, name in NAMES.items():
+            columns, key = ", ".join(COLUMNS[table]), ", ".join(KEYS[table])
             self.base.execute(f"CREATE INDEX {name}_until ON {name} (until, since, {columns})")
             self.base.execute(f"CREATE INDEX {name}_now ON {name} ({key}) WHERE until = {NEVER}")
 
@@ -394,7 +467,7 @@ class Sqlite:
     def append(self, lines: Sequence[str]) -> None:
         changes = [change_of(line) for line in lines]
         self.base.execute("BEGIN")
-        for table in self.NAMES:
+        for table in NAMES:
             self.add(table, [change for change in changes if change[1] == table])
         self.last = changes[-1][0]
         if self.first is None:
@@ -406,34 +479,15 @@ class Sqlite:
         self.base.execute("COMMIT")
 
     def add(self, table: int, changes: Iterable[Change]) -> None:
-        """Puts the changes of a table into it: rows that begin, and the ends of rows that stand there already."""
-        begun: dict[Any, tuple[int, tuple[int, ...]]] = {}
-        rows: list[tuple[int, ...]] = []
-        ends: list[tuple[int, ...]] = []
-        for time, _, key, content in changes:
-            whole = self.key_of(table, key)
-            old = begun.pop(whole, None)
-            if old is not None:
-                if old[0] < time:
-                    rows.append((old[0], time, *whole, *old[1]))
-            elif content is None or table in (NODE_VALUES, EDGE_VALUES):
-                ends.append((time, *whole))
-            if content is not None:
-                begun[whole] = (time, self.content_of(table, content))
-        rows += [(since, NEVER, *whole, *content) for whole, (since, content) in begun.items()]
-        name, key_is = self.NAMES[table], " AND ".join(f"{column} = ?" for column in self.KEYS[table])
+        """Puts the changes of a table into it, both in the order of an index."""
+        rows, ends = intervals(table, changes, self.number)
+        name, key_is = NAMES[table], " AND ".join(f"{column} = ?" for column in KEYS[table])
         if self.first is not None:
-            self.base.executemany(f"UPDATE {name} SET until = ? WHERE {key_is} AND until = {NEVER}", ends)
-        marks = ", ".join("?" * (2 + len(self.COLUMNS[table])))
-        self.base.executemany(f"INSERT INTO {name} VALUES ({marks})", sorted(rows))
-
-    def key_of(self, table: int, key: Any) -> tuple[int, ...]:
-        return (key,) if table in (NODES, EDGES) else (key[0], self.number(key[1]))
-
-    def content_of(self, table: int, content: Any) -> tuple[int, ...]:
-        if table == NODES:
-            return ()
-        return tuple(content) if table == EDGES else (self.number(content),)
+            # Left alone, SQLite takes the index by `until`, and looks through all rows that are valid now.
+            update = f"UPDATE {name} INDEXED BY {name}_now SET until = ? WHERE {key_is} AND until = {NEVER}"
+            self.base.executemany(update, ((time, *key) for key, time in sorted(ends.items())))
+        marks = ", ".join("?" * (2 + len(COLUMNS[table])))
+        self.base.executemany(f"INSERT INTO {name} VALUES ({marks})", ((r[0], r[1], *r[2]) for r in sorted(rows)))
 
     def number(self, text: str) -> int:
         """The number of a name, which is new where it has none."""
@@ -446,6 +500,9 @@ class Sqlite:
             number = self.numbers[text] = row[0]
         return number
 
+    def names(self) -> Iterable[tuple[int, str]]:
+        return self.base.execute("SELECT number, text FROM name")
+
     def at(self, time: int, columns: str) -> Snapshot:
         assert self.first is not None
         early = time < (self.first + self.last) // 2
@@ -453,35 +510,409 @@ class Sqlite:
         valid = "since <= ? AND +until > ?" if early else "+since <= ? AND until > ?"
         rows: list[list[Any]] = [[], [], [], []]
         for table in TABLES[columns]:
-            asked = ", ".join(self.COLUMNS[table])
-            cursor = self.base.execute(f"SELECT {asked} FROM {self.NAMES[table]} WHERE {valid}", (time, time))
+            asked = ", ".join(COLUMNS[table])
+            cursor = self.base.execute(f"SELECT {asked} FROM {NAMES[table]} WHERE {valid}", (time, time))
             rows[table] = cursor.fetchall()
-        return Rows(rows, Names(self.base))
+        return Rows(rows, Names(self.names))
 
     def several(self, times: Sequence[int], columns: str) -> list[Snapshot]:
         return [self.at(time, columns) for time in times]
 
 
-class Names(dict[int, str]):
-    """Texts of names, read when they are first needed."""
+# PostgreSQL.
 
-    def __init__(self, base: "sqlite3.Connection") -> None:
-        super().__init__()
-        self.base = base
 
-    def __missing__(self, _: int) -> str:
-        self.update(self.base.execute("SELECT number, text FROM name"))
-        return self[_]
+class Failed(Exception):
+    """PostgreSQL is not there, or it refused something."""
+
+
+def postgres_program(name: str) -> str:
+    """The path of one of PostgreSQL's programs, or nothing: on the PATH, or the newest one where Debian has them."""
+    debian = glob.glob(f"/usr/lib/postgresql/*/bin/{name}")
+    newest = max(debian, key=lambda path: [int(part) for part in re.findall("[0-9]+", path)], default="")
+    found = shutil.which(name) or newest
+    return os.path.realpath(found) if found else ""
+
+
+def postgres_version() -> str:
+    """As `postgres` tells it, or nothing where it is not there."""
+    if not postgres_program("postgres") or not postgres_program("initdb"):
+        return ""
+    told = subprocess.run([postgres_program("postgres"), "--version"], capture_output=True, text=True).stdout
+    found = re.search("[0-9][0-9.]*", told)
+    return found[0] if found else ""
+
+
+def postgres_lacks(folder: str) -> str:
+    """What keeps PostgreSQL from a history in a folder, or nothing."""
+    if not postgres_version():
+        return "no `initdb` and `postgres` here"
+    try:
+        reached = subprocess.run(["test", "-x", folder], cwd="/", **as_user())
+    except Failed as failed:
+        return str(failed)
+    return "" if reached.returncode == 0 else f"its server does not run as root, and its user does not get to {folder}"
+
+
+def server_user() -> Optional[tuple[int, int]]:
+    """The numbers of the user and the group that the server takes where this process is root, as which it refuses."""
+    if os.geteuid() != 0:
+        return None
+    for name in ("postgres", "nobody"):
+        try:
+            entry = pwd.getpwnam(name)
+            return entry.pw_uid, entry.pw_gid
+        except KeyError:
+            continue
+    raise Failed("its server does not run as root, and there is no user `postgres`")
+
+
+def as_user() -> dict[str, Any]:
+    """The words that start a process as that user."""
+    user = server_user()
+    return {} if user is None else {"user": user[0], "group": user[1], "extra_groups": []}
+
+
+def is_relation(path: str) -> bool:
+    """Whether a file of a cluster, named from its folder on, is of a table or an index that is not the system's own."""
+    first_number = 16384  # that the system gives to what it does not have from its beginning
+    found = re.fullmatch("base/[0-9]+/([0-9]+)([._].*)?", path)
+    return found is not None and int(found[1]) >= first_number
+
+
+class Server:
+    """A server of PostgreSQL over a folder, which is made where it is not there.
+
+    It has no network, and its socket stands in a folder of its own. It ends with this process, whatever ends that.
+    """
+
+    SETTINGS = {
+        "listen_addresses": "",
+        "port": "5432",  # of which the name of the socket is made
+        "fsync": "on",
+        "synchronous_commit": "on",
+        "shared_buffers": "256MB",
+        "work_mem": "64MB",
+        "maintenance_work_mem": "256MB",
+        "jit": "off",
+        "max_parallel_workers_per_gather": "0",
+        "autovacuum": "off",  # `Postgres.append` tidies up, so that nothing comes between what is timed
+    }
+    PATIENCE = 300  # seconds, for its start and its end
+    LONGEST_PATH = 70  # bytes, so that there is room for the socket's own name
+
+    def __init__(self, folder: str) -> None:
+        self.folder = folder
+        self.process: Optional["subprocess.Popen[bytes]"] = None
+
+    def __enter__(self) -> "Server":
+        signal.signal(signal.SIGTERM, lambda *_: sys.exit(1))
+        beside = os.path.dirname(self.folder)
+        # The path of a socket is short: the system's temporary folder serves where the one of the history is not.
+        self.sockets = tempfile.mkdtemp(prefix="socket", dir=beside if len(beside) < self.LONGEST_PATH else None)
+        try:
+            is_new = not os.path.exists(self.folder)
+            if is_new:
+                self.make()
+            self.own(self.folder)
+            self.own(self.sockets)
+            self.start()
+            if is_new:
+                self.thin()
+        except BaseException:
+            self.__exit__()
+            raise
+        return self
+
+    def __exit__(self, *_: object) -> None:
+        if self.process is not None and self.process.poll() is None:
+            self.process.send_signal(signal.SIGINT)  # which ends all connections, and writes what is not written
+            try:
+                self.process.wait(self.PATIENCE)
+            except subprocess.TimeoutExpired:
+                self.process.send_signal(signal.SIGQUIT)
+                self.process.wait()
+        shutil.rmtree(self.sockets, ignore_errors=True)
+
+    def make(self) -> None:
+        os.makedirs(self.folder, 0o700)
+        self.own(self.folder)
+        words = [postgres_program("initdb"), "--username=bench", "--auth=trust", "--locale=C", "--encoding=UTF8"]
+        words += ["--no-sync", self.folder]
+        ran = subprocess.run(words, cwd="/", capture_output=True, text=True, **as_user())
+        if ran.returncode != 0:
+            raise Failed(f"initdb: {ran.stderr.strip()}")
+        os.sync()  # all files at once
+
+    def thin(self) -> None:
+        """Takes away the databases that nothing needs here, which are most of the files."""
+        base = self.connect()
+        for name in ("template0", "template1"):
+            base.query(f"ALTER DATABASE {name} IS_TEMPLATE false")
+            base.query(f"DROP DATABASE {name}")
+        base.close()
+
+    def own(self, folder: str) -> None:
+        """Gives a folder with all in it to the user of the server."""
+        user = server_user()
+        if user is None or os.stat(folder).st_uid == user[0]:
+            return
+        for inside, _, files in os.walk(folder):
+            for path in [inside, *(os.path.join(inside, file) for file in files)]:
+                os.chown(path, *user)
+
+    def start(self) -> None:
+        words = [postgres_program("postgres"), "-D", self.folder, "-k", self.sockets]
+        for name, value in self.SETTINGS.items():
+            words += ["-c", f"{name}={value}"]
+        log = os.path.join(self.sockets, "log")
+        with open(log, "wb") as file:
+            self.process = subprocess.Popen(
+                words,
+                stdin=subprocess.DEVNULL,
+                stdout=file,
+                stderr=file,
+                cwd="/",
+                start_new_session=True,  # so that an interruption from a terminal goes to this process alone
+                preexec_fn=ends_with_parent(),
+                **as_user(),
+            )
+        late = monotonic() + self.PATIENCE
+        while True:
+            try:
+                return self.connect().close()
+            except (OSError, Failed) as error:
+                if self.process.poll() is not None or monotonic() > late:
+                    with open(log, encoding="utf-8", errors="replace") as text:
+                        raise Failed(f"the server did not start: {error}; {text.read()[-1000:]}") from error
+            sleep(0.01)
+
+    def connect(self) -> "Connection":
+        return Connection(os.path.join(self.sockets, ".s.PGSQL.5432"))
+
+
+def ends_with_parent() -> Optional[Callable[[], object]]:
+    """What a new process does so that it gets a signal where its parent is killed: on Linux."""
+    if sys.platform != "linux":
+        return None
+    system, set_signal_of_parents_death = ctypes.CDLL(None), 1
+    return lambda: system.prctl(set_signal_of_parents_death, signal.SIGQUIT)
+
+
+class Connection:
+    """A client of the server, by PostgreSQL's own protocol (version 3), as far as it is needed here."""
+
+    VERSION = 3 << 16
+    PIECE = 1 << 18  # bytes
+    STREAM_HEAD = 19  # bytes at the beginning of what COPY gives as binary
+
+    def __init__(self, path: str) -> None:
+        self.socket = socket.socket(socket.AF_UNIX)
+        self.socket.connect(path)
+        self.buffer = bytearray()
+        self.process = 0  # that works for this client
+        words = b"".join(word + b"\0" for word in (b"user", b"bench", b"database", b"postgres", b""))
+        self.socket.sendall(struct.pack(">ii", 8 + len(words), self.VERSION) + words)
+        for kind, body in self.replies():
+            if kind == b"K":
+                self.process = int.from_bytes(body[:4], "big")
+
+    def close(self) -> None:
+        self.send(b"X")
+        self.socket.close()
+
+    def send(self, kind: bytes, body: bytes = b"") -> None:
+        self.socket.sendall(struct.pack(">ci", kind, 4 + len(body)) + body)
+
+    def fill(self, size: int) -> None:
+        while len(self.buffer) < size:
+            piece = self.socket.recv(self.PIECE)
+            if not piece:
+                raise Failed("the server has closed the connection")
+            self.buffer += piece
+
+    def message(self) -> tuple[bytes, bytes]:
+        self.fill(5)
+        kind, size = struct.unpack_from(">ci", self.buffer)
+        self.fill(1 + size)
+        body = bytes(self.buffer[5 : 1 + size])
+        del self.buffer[: 1 + size]
+        if kind == b"E":
+            raise Failed("; ".join(part[1:].decode() for part in body.split(b"\0") if part[:1] in (b"M", b"D")))
+        return kind, body
+
+    def replies(self) -> Iterator[tuple[bytes, bytes]]:
+        """What is told until the server is ready for the next statement."""
+        while True:
+            kind, body = self.message()
+            if kind == b"Z":
+                return
+            yield kind, body
+
+    def query(self, statements: str) -> list[list[str]]:
+        """The rows of statements, none of which is null."""
+        self.send(b"Q", statements.encode() + b"\0")
+        return [self.row(body) for kind, body in self.replies() if kind == b"D"]
+
+    def row(self, body: bytes) -> list[str]:
+        columns, place = [], 2
+        for _ in range(int.from_bytes(body[:2], "big")):
+            start = place + 4
+            place = start + int.from_bytes(body[place:start], "big")
+            columns.append(body[start:place].decode())
+        return columns
+
+    def copy_out(self, query: str, columns: int) -> list[tuple[int, ...]]:
+        """The rows of a query whose columns are of type bigint, and none is null: so all messages have one length."""
+        self.send(b"Q", f"COPY ({query}) TO STDOUT (FORMAT binary)".encode() + b"\0")
+        numbers = struct.Struct(">7x" + "4xq" * columns)
+        head = struct.pack(">cih", b"d", numbers.size - 1, columns)
+        while self.message()[0] != b"H":
+            pass
+        # The first message has the head of the stream and the first row, if there is one.
+        first = head[:-2] + self.message()[1][self.STREAM_HEAD :]
+        rows = [numbers.unpack(first)] if first.startswith(head) else []
+        self.fill(len(head))
+        while self.buffer.startswith(head):
+            self.fill(numbers.size)
+            whole = len(self.buffer) // numbers.size
+            while not self.buffer.startswith(head, (whole - 1) * numbers.size):
+                whole -= 1  # the messages behind the rows are in the buffer already
+            rows += numbers.iter_unpack(self.buffer[: whole * numbers.size])
+            del self.buffer[: whole * numbers.size]
+            self.fill(len(head))
+        for _ in self.replies():
+            pass
+        return rows
+
+
+def arrays(columns: Iterable[Iterable[Optional[int]]]) -> str:
+    """Columns as arrays in a statement; a number that is not there is one without an end."""
+    texts = (",".join("NULL" if n is None else str(int(n)) for n in numbers) for numbers in columns)
+    return ", ".join(f"'{{{text}}}'::bigint[]" for text in texts)
+
+
+class Postgres:
+    """Each element is a row with the range of instants at which it is valid.
+
+    Each table has a GiST index by that range, and one that finds the rows that are valid now.
+    """
+
+    TIDIED = 10_000  # changes of a batch after which the tables are tidied up at once
+
+    def __init__(self, server: Server) -> None:
+        self.server = server
+
+    @property
+    def helper(self) -> int:
+        return self.base.process
+
+    def connect(self) -> None:
+        self.base = self.server.connect()
+        self.numbers: dict[str, int] = {}  # of the names that were needed so far
+
+    def create(self) -> None:
+        self.connect()
+        number = "bigint GENERATED ALWAYS AS IDENTITY PRIMARY KEY"
+        tables = [f"CREATE TABLE name (number {number}, text text UNIQUE NOT NULL)"]
+        for table, name in NAMES.items():
+            columns = ", ".join(f"{column} bigint NOT NULL" for column in COLUMNS[table])
+            tables.append(f"CREATE TABLE {name} (validity int8range NOT NULL, {columns})")
+        self.base.query("; ".join(tables))
+        self.is_new = True
+
+    def index(self) -> str:
+        """After the first batch, since rows are faster put into a table without indexes."""
+        made = []
+        for table, name in NAMES.items():
+            columns, key = ", ".join(COLUMNS[table]), ", ".join(KEYS[table])
+            made.append(f"CREATE INDEX {name}_validity ON {name} USING gist (validity)")
+            made.append(f"CREATE INDEX {name}_now ON {name} ({key}) WHERE upper_inf(validity)")
+        return "; ".join(made)
+
+    def open(self) -> None:
+        self.connect()
+        self.is_new = False
+
+    def close(self) -> None:
+        self.base.close()
+
+    def append(self, lines: Sequence[str]) -> None:
+        """By two queries with all that is needed, since each is a way to the server and back."""
+        changes = [change_of(line) for line in lines]
+        self.base.query("BEGIN")
+        self.learn(changes)
+        statements = []
+        for table in NAMES:
+            rows, ends = intervals(table, (c for c in changes if c[1] == table), self.numbers.__getitem__)
+            if ends and not self.is_new:
+                statements.append(self.ending(table, ends))
+            if rows:
+                statements.append(self.beginning(table, sorted(rows)))
+        if self.is_new:
+            statements.append(self.index())
+        self.base.query("; ".join([*statements, "COMMIT"]))
+        if self.is_new or len(lines) >= self.TIDIED:
+            self.base.query("VACUUM ANALYZE")
+        self.is_new = False
+
+    def learn(self, changes: Iterable[Change]) -> None:
+        """Numbers all names of changes, also those that are new."""
+        texts = {c[2][1] for c in changes if c[1] in (NODE_VALUES, EDGE_VALUES)}
+        texts |= {c[3] for c in changes if c[1] in (NODE_VALUES, EDGE_VALUES) and c[3] is not None}
+        needed = sorted(texts - self.numbers.keys())
+        if needed:
+            quoted = ",".join('"' + re.sub(r'(["\\])', r"\\\1", text) + '"' for text in needed).replace("'", "''")
+            array = f"'{{{quoted}}}'::text[]"
+            new = f"INSERT INTO name (text) SELECT * FROM unnest({array}) ON CONFLICT DO NOTHING"
+            found = self.base.query(f"{new}; SELECT number, text FROM name WHERE text = ANY ({array})")
+            self.numbers.update((text, int(number)) for number, text in found)
+
+    def ending(self, table: int, ends: dict[tuple[int, ...], int]) -> str:
+        """The statement that ends rows that are valid now."""
+        name, key = NAMES[table], KEYS[table]
+        given = arrays([ends.values(), *zip(*ends)])
+        same = " AND ".join(f"{name}.{column} = ended.{column}" for column in key)
+        return (
+            f"UPDATE {name} SET validity = int8range(lower(validity), ended.at) "
+            f"FROM unnest({given}) AS ended (at, {', '.join(key)}) WHERE {same} AND upper_inf(validity)"
+        )
+
+    def beginning(self, table: int, rows: Sequence[Interval]) -> str:
+        """The statement that puts rows into a table."""
+        columns = ", ".join(COLUMNS[table])
+        untils = (None if row.until == NEVER else row.until for row in rows)
+        given = arrays([(row.since for row in rows), untils, *zip(*(row.columns for row in rows))])
+        return (
+            f"INSERT INTO {NAMES[table]} SELECT int8range(since, until), {columns} "
+            f"FROM unnest({given}) AS begun (since, until, {columns})"
+        )
+
+    def names(self) -> Iterable[tuple[int, str]]:
+        return [(int(number), text) for number, text in self.base.query("SELECT number, text FROM name")]
+
+    def at(self, time: int, columns: str) -> Snapshot:
+        rows: list[list[Any]] = [[], [], [], []]
+        for table in TABLES[columns]:
+            query = f"SELECT {', '.join(COLUMNS[table])} FROM {NAMES[table]} WHERE validity @> {time}::bigint"
+            rows[table] = self.base.copy_out(query, len(COLUMNS[table]))
+        return Rows(rows, Names(self.names))
+
+    def several(self, times: Sequence[int], columns: str) -> list[Snapshot]:
+        return [self.at(time, columns) for time in times]
 
 
 # Commands.
 
 
-def store_of(kind: str, folder: str) -> Store:
+def store_of(kind: str, folder: str, server: Optional[Server]) -> Store:
     if kind == "log":
         return Log(folder)
     if kind == "sqlite":
         return Sqlite(folder)
+    if kind == "postgres":
+        assert server is not None
+        return Postgres(server)
     return Copies(folder, int(kind.split(":")[1]))
 
 
@@ -515,6 +946,9 @@ class Run:
             self.close()
         elif word == "release":
             del self.graphs[int(words[1])]
+        elif word == "helper":
+            yield f"ok helper {self.store.helper if self.store else 0}"
+            return
         elif word not in ("ready", "clean"):
             assert self.store is not None
             yield from self.answer_of(self.store, words, script)
@@ -552,15 +986,22 @@ class Run:
         return self.handles
 
 
-def main() -> None:
-    gc.disable()  # nothing here is a cycle, and looking for some takes long
-    kind, folder = sys.argv[1:]
-    run = Run(lambda: store_of(kind, folder))
+def answer_all(run: Run) -> None:
     script, replies = sys.stdin.buffer, sys.stdout.buffer
     for line in iter(script.readline, b""):
         reply = "\n".join(run.answer(line.decode().rstrip("\n").split(" "), script))
         replies.write(f"{reply}\nend\n".encode())
         replies.flush()
+
+
+def main() -> None:
+    gc.disable()  # nothing here is a cycle, and looking for some takes long
+    kind, folder = sys.argv[1:]
+    if kind == "postgres":
+        with Server(os.path.abspath(folder)) as server:
+            answer_all(Run(lambda: store_of(kind, folder, server)))
+    else:
+        answer_all(Run(lambda: store_of(kind, folder, None)))
 
 
 if __name__ == "__main__":
