@@ -98,25 +98,6 @@ put_on x m o i h g =
     ap (λ n. eqb n 1) (bit_at_or (bit_and x (18446744073709551615 - m)) o i ∙ ap (λ n. max n (bit_at o i)) (bit_at_and x (18446744073709551615 - m) i ∙ ap (min (bit_at x i)) (bit_at_not w64 m i h g)))
     ∙ on_table (bit_at x i) (bit_at m i) (bit_at o i) (bit_at-lt x i) (bit_at-lt m i) (bit_at-lt o i)
 
-module _ (bs ms os : List ℕ) (b_len : length bs ≡ 4) (o_len : length os ≡ 4) (first : get_or ms 0 0 < 2 ^ 64) (second : get_or ms 1 0 < 2 ^ 64) (third : get_or ms 2 0 < 2 ^ 64) (fourth : get_or ms 3 0 < 2 ^ 64) where
-  abbrev put : ℕ → ℕ
-  put w = bit_or (bit_and (get_or bs w 0) (18446744073709551615 - get_or ms w 0)) (get_or os w 0)
-
-  on_in : (w i : ℕ) → i < 64 → eqb (bit_at (get_or (put 0 ∷ put 1 ∷ put 2 ∷ put 3 ∷ []) w 0) i) 1 ≡ (eqb (bit_at (get_or os w 0) i) 1 || (eqb (bit_at (get_or bs w 0) i) 1 && not (eqb (bit_at (get_or ms w 0) i) 1)))
-  on_in zero i h = put_on (get_or bs 0 0) (get_or ms 0 0) (get_or os 0 0) i first h
-  on_in (suc zero) i h = put_on (get_or bs 1 0) (get_or ms 1 0) (get_or os 1 0) i second h
-  on_in (suc (suc zero)) i h = put_on (get_or bs 2 0) (get_or ms 2 0) (get_or os 2 0) i third h
-  on_in (suc (suc (suc zero))) i h = put_on (get_or bs 3 0) (get_or ms 3 0) (get_or os 3 0) i fourth h
-  on_in (suc (suc (suc (suc w)))) i h =
-      let none = get_or_past bs (suc (suc (suc (suc w)))) 0 (omega arith) in
-      let nor = get_or_past os (suc (suc (suc (suc w)))) 0 (omega arith) in
-      ap (λ n. eqb n 1) (bit_at-zero i)
-      ∙ sym ((λ j. eqb (bit_at (nor j) i) 1 || (eqb (bit_at (none j) i) 1 && not (eqb (bit_at (get_or ms (suc (suc (suc (suc w)))) 0) i) 1)))
-      ∙ ap (λ n. eqb n 1 || (eqb n 1 && not (eqb (bit_at (get_or ms (suc (suc (suc (suc w)))) 0) i) 1))) (bit_at-zero i))
-
-  pub all_put : (b : ℕ) → bit_in (put 0 ∷ put 1 ∷ put 2 ∷ put 3 ∷ []) b ≡ (bit_in os b || (bit_in bs b && not (bit_in ms b)))
-  all_put b = on_in (b / 64) (b % 64) (omega arith)
-
 -- ---- the same, where a word that neither mask touches is left
 
 masked_word : (x m o i : ℕ) → m < 2 ^ 64 → i < 64 → (t : Bool) → eqb (bit_or o m) 0 ≡ t → eqb (bit_at (cond t x (bit_or (bit_and x (18446744073709551615 - m)) o)) i) 1 ≡ (eqb (bit_at o i) 1 || (eqb (bit_at x i) 1 && not (eqb (bit_at m i) 1)))
@@ -133,21 +114,24 @@ masked_word x m o i h g true e =
     stays true = refl
     stays false = refl
 
-module _ (bs ms os : List ℕ) (o_len : length os ≡ 4) (first : get_or ms 0 0 < 2 ^ 64) (second : get_or ms 1 0 < 2 ^ 64) (third : get_or ms 2 0 < 2 ^ 64) (fourth : get_or ms 3 0 < 2 ^ 64) (b_len : length bs ≡ 4) where
-  abbrev mask_put : ℕ → ℕ
-  mask_put w = masked (get_or os w 0) (get_or ms w 0) (get_or bs w 0)
+-- one word is written, and the others stay
+module _ (bs : List ℕ) (k on off : ℕ) (within : k < length bs) (fits : off < 2 ^ 64) where
+  abbrev word_put : ℕ
+  word_put = masked on off (get_or bs k 0)
 
-  masked_in : (w i : ℕ) → i < 64 → eqb (bit_at (get_or (mask_put 0 ∷ mask_put 1 ∷ mask_put 2 ∷ mask_put 3 ∷ []) w 0) i) 1 ≡ (eqb (bit_at (get_or os w 0) i) 1 || (eqb (bit_at (get_or bs w 0) i) 1 && not (eqb (bit_at (get_or ms w 0) i) 1)))
-  masked_in zero i h = masked_word (get_or bs 0 0) (get_or ms 0 0) (get_or os 0 0) i first h (eqb (bit_or (get_or os 0 0) (get_or ms 0 0)) 0) refl
-  masked_in (suc zero) i h = masked_word (get_or bs 1 0) (get_or ms 1 0) (get_or os 1 0) i second h (eqb (bit_or (get_or os 1 0) (get_or ms 1 0)) 0) refl
-  masked_in (suc (suc zero)) i h = masked_word (get_or bs 2 0) (get_or ms 2 0) (get_or os 2 0) i third h (eqb (bit_or (get_or os 2 0) (get_or ms 2 0)) 0) refl
-  masked_in (suc (suc (suc zero))) i h = masked_word (get_or bs 3 0) (get_or ms 3 0) (get_or os 3 0) i fourth h (eqb (bit_or (get_or os 3 0) (get_or ms 3 0)) 0) refl
-  masked_in (suc (suc (suc (suc w)))) i h =
-      let none = get_or_past bs (suc (suc (suc (suc w)))) 0 (omega arith) in
-      let nor = get_or_past os (suc (suc (suc (suc w)))) 0 (omega arith) in
-      ap (λ n. eqb n 1) (bit_at-zero i)
-      ∙ sym ((λ j. eqb (bit_at (nor j) i) 1 || (eqb (bit_at (none j) i) 1 && not (eqb (bit_at (get_or ms (suc (suc (suc (suc w)))) 0) i) 1)))
-      ∙ ap (λ n. eqb n 1 || (eqb n 1 && not (eqb (bit_at (get_or ms (suc (suc (suc (suc w)))) 0) i) 1))) (bit_at-zero i))
+  abbrev as_masked : ℕ → Bool
+  as_masked b = eqb (bit_at on (b % 64)) 1 || (bit_in bs b && not (eqb (bit_at off (b % 64)) 1))
 
-  pub all_masked : (b : ℕ) → bit_in (mask_put 0 ∷ mask_put 1 ∷ mask_put 2 ∷ mask_put 3 ∷ []) b ≡ (bit_in os b || (bit_in bs b && not (bit_in ms b)))
-  all_masked b = masked_in (b / 64) (b % 64) (omega arith)
+  pub word_written : (b : ℕ) → bit_in (set bs k word_put) b ≡ cond (eqb (b / 64) k) (as_masked b) (bit_in bs b)
+  word_written b = at (cases_eq (b / 64) k)
+    where
+      at : ((b / 64 ≡ k) ⊎ (b / 64 ≡ k → ⊥)) → bit_in (set bs k word_put) b ≡ cond (eqb (b / 64) k) (as_masked b) (bit_in bs b)
+      at (inl e) =
+          ap (λ w. eqb (bit_at (get_or (set bs k word_put) w 0) (b % 64)) 1) e
+          ∙ ap (λ w. eqb (bit_at w (b % 64)) 1) (get_or-set_same bs k word_put 0 within)
+          ∙ masked_word (get_or bs k 0) off on (b % 64) fits (omega arith) (eqb (bit_or on off) 0) refl
+          ∙ ap (λ w. eqb (bit_at on (b % 64)) 1 || (eqb (bit_at (get_or bs w 0) (b % 64)) 1 && not (eqb (bit_at off (b % 64)) 1))) (sym e)
+          ∙ ap (λ t. cond t (as_masked b) (bit_in bs b)) (sym (eq-eqb (b / 64) k e))
+      at (inr d) =
+          ap (λ w. eqb (bit_at w (b % 64)) 1) (get_or-set_other bs k (b / 64) word_put 0 d)
+          ∙ ap (λ t. cond t (as_masked b) (bit_in bs b)) (sym (ne_eqb (b / 64) k d))

@@ -6,5 +6,6 @@ pub mod Lending
 pub mod Options
 pub mod Vacancies
 pub mod Walks
+pub mod WordWrites
 pub mod Filling
 pub mod ColumnCells

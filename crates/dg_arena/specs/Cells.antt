@@ -48,10 +48,11 @@ module _ {X : Type 0} where
     pub element : new.element ≡ old.element
     pub bits : (b : ℕ) → has_bit new b ≡ (has_bit old b && not (word_bit mask b))
 
-  -- the bits of one mask are on, those of another are off unless they are in the first, and all others as they were
-  pub record WritesBits (on off : List ℕ) (old new : Row X) : Type 0 where
+  -- in one of the words the bits of one mask are on, and those of another are off unless they are in the first; all other
+  -- bits are as they were
+  pub record WritesWord (index on off : ℕ) (old new : Row X) : Type 0 where
     pub element : new.element ≡ old.element
-    pub bits : (b : ℕ) → has_bit new b ≡ (word_bit on b || (has_bit old b && not (word_bit off b)))
+    pub bits : (b : ℕ) → has_bit new b ≡ cond (b / 64 == index) (bit_at on (b % 64) == 1 || (has_bit old b && not (bit_at off (b % 64) == 1))) (has_bit old b)
 
   -- the row of one live cell is written so, and all other cells stay
   pub record Writes (old new : CellMap X) (n : ℕ) (How : Row X → Row X → Type 0) : Type 0 where

@@ -1,6 +1,6 @@
 //! Numbered places for cells, in columns: the values with their links in one, and each word of bits in one of its own.
 ghost use Rattle.std.specs.Prelude.{◌≡◌, ℕ, ◌+◌, ◌*◌, ◌<◌, ◌≤◌, ◌^◌, List, Some, None, [], ◌++◌, length, replicate, slice_index_or, slice_set, IsSome, IfSome, IfNone, OnOk, OnErr};
-ghost use Rattle.dg_arena.specs.Cells.{shown, value_at, WritesBits};
+ghost use Rattle.dg_arena.specs.Cells.{shown, value_at, WritesWord};
 ghost use Rattle.dg_arena.specs.Columns.{cell_with, masked, RewritesRow};
 
 use crate::cell::{Cell, Link};
@@ -56,6 +56,7 @@ fn lengthen(words: &mut Words, len: usize) -> Result<(), AllocError>
 }
 
 // Writes a word with the bits of `on`, and without those of `off` alone. Where neither has a bit, nothing is read.
+#[inline(always)]
 fn write_word(words: &mut Words, n: usize, on: u64, off: u64)
     requires { n < length words.old }
     ensures { words.new ≡ slice_set words.old n (masked on off (slice_index_or words.old n 0)) }
@@ -179,15 +180,19 @@ impl<T: Copy> Columns<T> {
             _ => self.fourth.word(n),
         }
     }
-    /// Sets the bits of the cell in a place that are in `on`, and puts off those that are in `off` alone. A word of which
-    /// neither has a bit is not read.
-    pub(crate) fn write_masks(&mut self, n: usize, on: &[u64; 4], off: &[u64; 4])
-        requires { IsSome (slice_index_or self.old n None) }
-        ensures { RewritesRow self.old self.new n (WritesBits on.now off.now) }
+    /// Sets the bits that are in `on` in one word of the bits of the cell in a place, and puts off those that are in
+    /// `off` alone. Of the other words and the value nothing is read or written.
+    #[inline(always)]
+    pub(crate) fn write_word(&mut self, n: usize, index: u8, on: u64, off: u64)
+        requires there { IsSome (slice_index_or self.old n None) }
+        requires index { index < 4 }
+        ensures { RewritesRow self.old self.new n (WritesWord index on off) }
     {
-        write_word(&mut self.first, n, on[0], off[0]);
-        write_word(&mut self.second, n, on[1], off[1]);
-        write_word(&mut self.third, n, on[2], off[2]);
-        write_word(&mut self.fourth, n, on[3], off[3]);
+        match index {
+            0 => write_word(&mut self.first, n, on, off),
+            1 => write_word(&mut self.second, n, on, off),
+            2 => write_word(&mut self.third, n, on, off),
+            _ => write_word(&mut self.fourth, n, on, off),
+        }
     }
 }

@@ -14,7 +14,7 @@ pub use cell::{Cell, Link};
 pub use chunk::Chunk;
 pub use columns::{Columns, Spot};
 pub use raw::{Places, Start, Title};
-pub use row::{Row, has_bit, set_bit, with_masks, without_bits};
+pub use row::{Row, has_bit, set_bit, without_bits};
 pub use rows::Rows;
 pub use store::Store;
 pub use words::Words;

@@ -1,6 +1,6 @@
 //! A value and its bits.
 ghost use Rattle.std.specs.Prelude.{◌≡◌, ℕ, ◌==◌, cond};
-ghost use Rattle.dg_arena.specs.Cells.{has_bit, ClearsBits, WritesBits};
+ghost use Rattle.dg_arena.specs.Cells.{has_bit, ClearsBits};
 
 /// A value, and 256 bits.
 #[derive(Clone, Copy)]
@@ -40,21 +40,6 @@ pub fn without_bits<T: Copy>(row: Row<T>, mask: [u64; 4]) -> Row<T>
             row.bits[1] & !mask[1],
             row.bits[2] & !mask[2],
             row.bits[3] & !mask[3],
-        ],
-    }
-}
-
-/// The row with the bits of `on`, and without those of `off` that are not in `on`.
-pub fn with_masks<T: Copy>(row: Row<T>, on: &[u64; 4], off: &[u64; 4]) -> Row<T>
-    ensures { WritesBits on.now off.now row result }
-{
-    Row {
-        element: row.element,
-        bits: [
-            (row.bits[0] & !off[0]) | on[0],
-            (row.bits[1] & !off[1]) | on[1],
-            (row.bits[2] & !off[2]) | on[2],
-            (row.bits[3] & !off[3]) | on[3],
         ],
     }
 }

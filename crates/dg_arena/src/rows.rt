@@ -1,7 +1,7 @@
 //! Numbered cells.
 ghost use Rattle.std.specs.Prelude.{◌≡◌, ℕ, ◌+◌, ◌<◌, ◌≤◌, ◌^◌, [], ◌∷◌, ◌++◌, Some, None, length, slice_index_or, slice_set, IfSome, IfNone, IsSome, OnOk, OnErr};
 ghost use Rattle.std.specs.List.{All};
-ghost use Rattle.dg_arena.specs.Cells.{cell_at, value_at, has_bit, SetsBit, ClearsBits, WritesBits, Writes, Puts, Reuses, IsNext, lowest};
+ghost use Rattle.dg_arena.specs.Cells.{cell_at, value_at, has_bit, SetsBit, ClearsBits, WritesWord, Writes, Puts, Reuses, IsNext, lowest};
 
 use crate::cell::{Cell, Link, behind, link_to, live_row};
 use crate::columns::{Columns, live_value};
@@ -307,11 +307,15 @@ impl<T: Copy> Rows<T> {
         let row = self.row(n);
         self.write(n, without_bits(row, mask));
     }
-    /// Sets the bits of a live cell that are in `on`, and puts off those that are in `off` alone.
-    pub fn write_masks(&mut self, n: usize, on: &[u64; 4], off: &[u64; 4])
-        requires { IsSome (cell_at self.old.items n) }
-        ensures { Writes self.old self.new n (WritesBits on.now off.now) }
+
+    /// Sets the bits that are in `on` in one of the four words of bits of a live cell, and puts off those that are in
+    /// `off` alone. Of the value and of the other words nothing is read or written.
+    #[inline(always)]
+    pub fn write_word(&mut self, n: usize, index: u8, on: u64, off: u64)
+        requires there { IsSome (cell_at self.old.items n) }
+        requires index { index < 4 }
+        ensures { Writes self.old self.new n (WritesWord index on off) }
     {
-        self.cells.write_masks(n, on, off);
+        self.cells.write_word(n, index, on, off);
     }
 }
