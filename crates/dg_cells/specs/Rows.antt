@@ -41,9 +41,10 @@ word_bit = arena.word_bit
 abbrev pub ClearsBits : List ℕ → Row → Row → Type 0
 ClearsBits = arena.ClearsBits
 
--- the bits of one mask are on, those of another are off unless they are in the first, and all others as they were
-abbrev pub WritesBits : List ℕ → List ℕ → Row → Row → Type 0
-WritesBits = arena.WritesBits
+-- in one of the words the bits of one mask are on, and those of another are off unless they are in the first; all other bits
+-- are as they were
+abbrev pub WritesWord : ℕ → ℕ → ℕ → Row → Row → Type 0
+WritesWord = arena.WritesWord
 
 -- what stands in a cell
 abbrev pub cell_at : List (Option Row) → ℕ → Option Row

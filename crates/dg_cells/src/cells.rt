@@ -1,7 +1,7 @@
 //! The cells of the pool.
 ghost use Rattle.std.specs.Prelude.{◌≡◌, ℕ, ◌<◌, ◌≤◌, ◌==◌, Bool, true, false, List, Option, Some, None, [], ◌∷◌, ◌++◌, length, IfSome, IfNone, IsSome, is_some, IfOk, OnErr, OnOk, slice_set};
-ghost use Rattle.dg_cells.specs.Rows.{Row, cell_at, is_current, pair, Writes, SetsCurrent, SetsPair, ClearsBits, WritesBits, Holds, Lacks, CellsAreApart, CellsGrow, Reuses, HasCell, AllHave, AreNumbers, AreAmong, new_rows};
-ghost use Rattle.std.specs.Prelude.{◌+◌, ◌^◌, min, slice_get};
+ghost use Rattle.dg_cells.specs.Rows.{Row, cell_at, is_current, pair, Writes, SetsCurrent, SetsPair, ClearsBits, WritesWord, Holds, Lacks, CellsAreApart, CellsGrow, Reuses, HasCell, AllHave, AreNumbers, AreAmong, new_rows};
+ghost use Rattle.std.specs.Prelude.{◌+◌, ◌^◌, min, slice_get, slice_index_or};
 ghost use Rattle.dg_graph.specs.Elements.{IsSet};
 ghost use Rattle.dg_cells.specs.Order.{IsLower, cell_element};
 ghost use Rattle.dg_cells.specs.Cursors.{ordered, ordered_elements, cursor_index};
@@ -130,6 +130,16 @@ impl Cells {
         word_pair(self.rows.word(n, slot / 32), slot)
     }
 
+    /// One of the four words of bits of an occupied cell. The slots from `32 * index` on have their bits in it.
+    #[inline(always)]
+    pub fn word(&self, n: usize, index: u8) -> u64
+        requires there { IsSome (cell_at self.now n) }
+        requires index { index < 4 }
+        ensures { IfSome (cell_at self.now n) (λ r. result ≡ slice_index_or r.bits index 0) }
+    {
+        self.rows.word(n, index)
+    }
+
     /// Writes whether the current graph has the element of an occupied cell.
     pub fn set_current(&mut self, n: usize, on: bool)
         requires { IsSome (cell_at self.old n) }
@@ -169,13 +179,15 @@ impl Cells {
         self.rows.write(n, without_bits(row, mask));
     }
 
-    /// Sets the bits of an occupied cell that are in `on`, and puts off those that are in `off` alone: one write for
-    /// any number of slots.
-    pub fn write_masks(&mut self, n: usize, on: &[u64; 4], off: &[u64; 4])
-        requires { IsSome (cell_at self.old n) }
-        ensures { Writes self.old self.new n (WritesBits on.now off.now) }
+    /// Sets the bits that are in `on` in one of the four words of an occupied cell, and puts off those that are in `off`
+    /// alone: one write for any number of slots. Of the other words nothing is read or written.
+    #[inline(always)]
+    pub fn write_word(&mut self, n: usize, index: u8, on: u64, off: u64)
+        requires there { IsSome (cell_at self.old n) }
+        requires index { index < 4 }
+        ensures { Writes self.old self.new n (WritesWord index on off) }
     {
-        self.rows.write_masks(n, on, off);
+        self.rows.write_word(n, index, on, off);
     }
 
     /// Vacates the cell. Its number is used again. Takes no memory.
