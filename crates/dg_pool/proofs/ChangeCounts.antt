@@ -1,7 +1,7 @@
 -- The counts of slots that change together at one element.
-use Rattle.std.proofs.Common.{arith, ◌≡◌, ℕ, ◌+◌, ◌<◌, ◌≤◌, Bool, true, false, cond, eqb, not, ◌||◌, ◌&&◌, List, [], ◌∷◌, ◌++◌, Option, Some, length, filter, refl, sym, ap, ◌∙◌, subst, ◌⊎◌, inl, inr}
+use Rattle.std.proofs.Common.{arith, ◌≡◌, ℕ, ◌+◌, ◌<◌, ◌≤◌, Bool, true, false, cond, not, ◌||◌, ◌&&◌, List, Option, Some, length, filter, refl, sym, ap, ◌∙◌, subst, ◌⊎◌, inl, inr}
 use mathlib.Core.Bool.{beq}
-use Rattle.std.proofs.lemmas.Bool.{cases_eq, eq-eqb, ne_eqb, true≢false}
+use Rattle.std.proofs.lemmas.Bool.{true≢false}
 use Rattle.std.proofs.lemmas.List.Sums.{length-filter, count_by-le-length}
 use Rattle.dg_graph.specs.declared.element.Element.{Element}
 use Rattle.dg_graph.specs.Elements.{IsSet, has, same, put, take_out}
@@ -9,14 +9,12 @@ use Rattle.dg_graph.proofs.Sets.{same_members, has-filter, IsSet-filter, IsSet-p
 use Rattle.dg_cells.specs.Rows.{Row, cell_at, CellsAreApart, Lacks}
 use Rattle.dg_query.specs.declared.answers.Counts.{Counts}
 use Rattle.dg_query.specs.Queries.{counts_of}
-use Rattle.dg_pool.specs.declared.slots.Slot.{Slot}
-use Rattle.dg_pool.specs.Graphs.{is_listed, picked}
-use Rattle.dg_pool.specs.Counts.{kind_count, one_more, one_less, counts_at}
-use Rattle.dg_pool.specs.Changes.{numbers_of, recounted, CanRecount}
+use Rattle.dg_pool.specs.Graphs.{picked}
+use Rattle.dg_pool.specs.Counts.{kind_count, one_more, one_less}
+use Rattle.dg_pool.specs.Changes.{recounted, CanRecount}
 use Rattle.dg_pool.proofs.GraphSets.{picked_set, picked_decides, picked_nothing}
 use Rattle.dg_pool.proofs.GraphInvariant.{row_or_none}
 use Rattle.dg_pool.proofs.GraphCounts.{counts-put, counts-take_out, kind-one_more, kind-most, kind-least, picked_most}
-use Rattle.dg_pool.proofs.ChangeMasks.{listed_more}
 
 -- ---- of one slot
 
@@ -43,31 +41,6 @@ moved_less true true x c f e g = cc
 moved_less true false x c f e g = f.less refl refl
 moved_less false true x c f e g = cc
 moved_less false false x c f e g = cc
-
--- ---- of one slot after another
-
-module _ (value : ℕ → Counts → Counts) (slots next : List Slot) (t : Slot) (start before after : List Counts) (more : next ≡ slots ++ t ∷ []) (fresh : is_listed (numbers_of slots) t.0 ≡ false)
-    (done : (s : ℕ) → counts_at before s ≡ cond (is_listed (numbers_of slots) s) (value s (counts_at start s)) (counts_at start s))
-    (here : counts_at after t.0 ≡ value t.0 (counts_at before t.0)) (past : (s : ℕ) → (s ≡ t.0 → ⊥) → counts_at after s ≡ counts_at before s) where
-  listed_next : (s : ℕ) → is_listed (numbers_of next) s ≡ (is_listed (numbers_of slots) s || eqb t.0 s)
-  listed_next s = ap (λ (l : List Slot). is_listed (numbers_of l) s) more ∙ listed_more slots t s
-
-  or_false : (b : Bool) → (b || false) ≡ b
-  or_false true = refl
-  or_false false = refl
-
-  at : (s : ℕ) → (s ≡ t.0) ⊎ (s ≡ t.0 → ⊥) → counts_at after s ≡ cond (is_listed (numbers_of next) s) (value s (counts_at start s)) (counts_at start s)
-  at s (inl e) =
-      ap (counts_at after) e ∙ here
-      ∙ ap (value t.0) (done t.0 ∙ ap (λ b. cond b (value t.0 (counts_at start t.0)) (counts_at start t.0)) fresh)
-      ∙ sym (ap (λ b. cond b (value s (counts_at start s)) (counts_at start s)) (listed_next s ∙ ap (λ b. b || eqb t.0 s) (ap (is_listed (numbers_of slots)) e ∙ fresh) ∙ eq-eqb t.0 s (sym e))
-      ∙ ap (λ n. value n (counts_at start n)) e)
-  at s (inr d) =
-      past s d ∙ done s
-      ∙ sym (ap (λ b. cond b (value s (counts_at start s)) (counts_at start s)) (listed_next s ∙ ap (λ b. is_listed (numbers_of slots) s || b) (ne_eqb t.0 s (λ e. d (sym e))) ∙ or_false (is_listed (numbers_of slots) s)))
-
-  pub recounted_next : (s : ℕ) → counts_at after s ≡ cond (is_listed (numbers_of next) s) (value s (counts_at start s)) (counts_at start s)
-  recounted_next s = at s (cases_eq s t.0)
 
 -- ---- the counts of a set that has the element then, or lacks it
 

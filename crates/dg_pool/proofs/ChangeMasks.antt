@@ -1,16 +1,15 @@
 -- Which numbers are listed of slots that change together, and what their masks write.
-use Rattle.std.proofs.Common.{arith, eqb, get_or, take, suc, zero, ◌≡◌, ℕ, ◌*◌, ◌+◌, ◌<◌, ◌≤◌, Bool, true, false, cond, not, ◌||◌, ◌&&◌, List, [], ◌∷◌, ◌++◌, length, refl, sym, ap, ◌∙◌, ◌⊎◌, inl, inr}
-use Rattle.std.proofs.lemmas.Bool.{cases_eq, cases_lt, true≢false, eq-eqb, ne_eqb, eqb-true}
-use Rattle.dg_cells.specs.Rows.{Row, has_bit, pair, is_current, word_bit, WritesBits}
+use Rattle.std.proofs.Common.{arith, eqb, get_or, suc, zero, ◌≡◌, ℕ, ◌*◌, ◌+◌, ◌<◌, ◌≤◌, Bool, true, false, ◌||◌, List, [], ◌∷◌, ◌++◌, length, refl, sym, ap, ◌∙◌, ◌⊎◌, inl, inr}
+use Rattle.std.proofs.lemmas.Bool.{cases_eq, eq-eqb, ne_eqb}
+use Rattle.dg_cells.specs.Rows.{word_bit}
 use Rattle.dg_pool.specs.declared.slots.Slot.{Slot}
 use Rattle.dg_pool.specs.declared.slots.Base.TheVariants as base
 use Rattle.dg_graph.specs.declared.element.Columns.{Columns}
 use Rattle.dg_pool.specs.declared.slots.SlotState.{SlotState}
 use Rattle.dg_pool.specs.declared.slots.SlotState.TheVariants as state
 use Rattle.dg_pool.specs.Graphs.{slot_at, is_live, is_listed, AreSlots, IsBased, IsBaseFor}
-use Rattle.dg_pool.specs.Changes.{numbers_of, AreDistinct, AreChangeable, AreMarks, SetsPairs}
+use Rattle.dg_pool.specs.Changes.{numbers_of, AreChangeable, AreMarks}
 use Rattle.dg_pool.proofs.GraphInvariant.{live_from_one, live_within}
-use Rattle.dg_pool.proofs.MaskBits.{word_bit-past}
 use Rattle.std.proofs.Common.{subst}
 use Rattle.std.proofs.Math.Bool.{or-false}
 
@@ -32,17 +31,6 @@ listed_at (t ∷ slots) (suc i) d h = rest (eqb t.0 (get_or slots i d).0) (liste
     rest : (a : Bool) {b : Bool} → b ≡ true → (a || b) ≡ true
     rest true e = refl
     rest false e = e
-
--- a slot is not among those before it
-pub not_before : (slots : List Slot) (i : ℕ) (d : Slot) → AreDistinct (numbers_of slots) → i < length slots → is_listed (numbers_of (take i slots)) (get_or slots i d).0 ≡ false
-not_before [] i d apart h = absurd (omega arith)
-not_before (t ∷ slots) zero d apart h = refl
-not_before (t ∷ slots) (suc i) d apart h = by (eqb t.0 (get_or slots i d).0) refl (not_before slots i d apart.1 (omega arith))
-  where
-    by : (a : Bool) → eqb t.0 (get_or slots i d).0 ≡ a → is_listed (numbers_of (take i slots)) (get_or slots i d).0 ≡ false → (eqb t.0 (get_or slots i d).0 || is_listed (numbers_of (take i slots)) (get_or slots i d).0) ≡ false
-    by true e f =
-        absurd (true≢false (sym (listed_at slots i d (omega arith)) ∙ ap (is_listed (numbers_of slots)) (sym (eqb-true t.0 (get_or slots i d).0 e)) ∙ apart.0))
-    by false e f = ap (λ a. a || is_listed (numbers_of (take i slots)) (get_or slots i d).0) e ∙ f
 
 -- ---- the slots
 
@@ -107,72 +95,3 @@ module _ (slots next : List Slot) (t : Slot) (more : next ≡ slots ++ t ∷ [])
         second (2 * s + 1) ∙ (λ i. odd_halves s (cases_eq s t.0) i || first (2 * s + 1) i)
         ∙ ap (λ b. eqb t.0 s || b) (λ i. ne_eqb (2 * s + 1) (2 * t.0) (λ e. omega arith) i || m.own s h i) ∙ swap (eqb t.0 s) (is_listed (numbers_of slots) s) ∙ sym (listed_next s);
   }
-
--- ---- a write by the masks
-
-set_by : (t x : Bool) → (t || (x && not t)) ≡ cond t true x
-set_by true x = refl
-set_by false true = refl
-set_by false false = refl
-
-off_by : (t x : Bool) → (false || (x && not t)) ≡ cond t false x
-off_by true true = refl
-off_by true false = refl
-off_by false true = refl
-off_by false false = refl
-
-untouched : (x : Bool) → (false || (x && not false)) ≡ x
-untouched true = refl
-untouched false = refl
-
-both_of : (t x y o : Bool) (e : Bool × Bool) → e ≡ (x, y) → (cond t true x, cond t o y) ≡ cond t (true, o) e
-both_of true x y o e f = refl
-both_of false x y o e f = sym f
-
-module _ (slots : List SlotState) (numbers : List ℕ) (ones pairs : List ℕ) (m : AreMarks numbers ones pairs) (can : AreChangeable slots numbers) where
-  not_past : (u : ℕ) → 128 ≤ u → (t : Bool) → is_listed numbers u ≡ t → is_listed numbers u ≡ false
-  not_past u h true k = let high = listed_high slots numbers can u k in absurd (omega arith)
-  not_past u h false k = k
-
-  past : (on off : List ℕ) → length on ≡ 4 → length off ≡ 4 → (a b : Row) → WritesBits on off a b → (c : ℕ) → 256 ≤ c → has_bit b c ≡ has_bit a c
-  past on off f g a b w c h =
-      w.bits c ∙ (λ i. word_bit-past on c f h i || (has_bit a c && not (word_bit-past off c g h i))) ∙ untouched (has_bit a c)
-
-  past_pair : (p : Bool × Bool) (on off : List ℕ) → length on ≡ 4 → length off ≡ 4 → (a b : Row) → WritesBits on off a b → (u : ℕ) → 128 ≤ u → pair u b ≡ cond (is_listed numbers u) p (pair u a)
-  past_pair p on off f g a b w u h =
-      let low = past on off f g a b w (2 * u) (omega arith) in
-      let high = past on off f g a b w (2 * u + 1) (omega arith) in
-      (λ i. (low i, high i)) ∙ sym (ap (λ t. cond t p (pair u a)) (not_past u h (is_listed numbers u) refl))
-
-  current_by : (on off : List ℕ) → word_bit on 0 ≡ false → word_bit off 0 ≡ false → (a b : Row) → WritesBits on off a b → is_current b ≡ is_current a
-  current_by on off f g a b w = w.bits 0 ∙ (λ i. f i || (has_bit a 0 && not (g i))) ∙ untouched (has_bit a 0)
-
-  pairs_zero : word_bit pairs 0 ≡ false
-  pairs_zero = m.both 0 (omega arith) ∙ zero_unlisted slots numbers can
-
-  ones_zero : word_bit ones 0 ≡ false
-  ones_zero = m.explicit 0 (omega arith) ∙ zero_unlisted slots numbers can
-
-  put_pair : (a b : Row) → WritesBits pairs pairs a b → (u : ℕ) → (u < 128) ⊎ (128 ≤ u) → pair u b ≡ cond (is_listed numbers u) (true, true) (pair u a)
-  put_pair a b w u (inr h) = past_pair (true, true) pairs pairs m.pairs_len m.pairs_len a b w u h
-  put_pair a b w u (inl h) =
-      let t = is_listed numbers u in
-      let low = w.bits (2 * u) ∙ (λ i. m.both u h i || (has_bit a (2 * u) && not (m.both u h i))) ∙ set_by t (has_bit a (2 * u)) in
-      let high = w.bits (2 * u + 1) ∙ (λ i. m.own u h i || (has_bit a (2 * u + 1) && not (m.own u h i))) ∙ set_by t (has_bit a (2 * u + 1)) in
-      (λ i. (low i, high i)) ∙ both_of t (has_bit a (2 * u)) (has_bit a (2 * u + 1)) true (pair u a) refl
-
-  out_pair : (a b : Row) → WritesBits ones pairs a b → (u : ℕ) → (u < 128) ⊎ (128 ≤ u) → pair u b ≡ cond (is_listed numbers u) (true, false) (pair u a)
-  out_pair a b w u (inr h) = past_pair (true, false) ones pairs m.ones_len m.pairs_len a b w u h
-  out_pair a b w u (inl h) =
-      let t = is_listed numbers u in
-      let low = w.bits (2 * u) ∙ (λ i. m.explicit u h i || (has_bit a (2 * u) && not (m.both u h i))) ∙ set_by t (has_bit a (2 * u)) in
-      let high = w.bits (2 * u + 1) ∙ (λ i. m.no_own u h i || (has_bit a (2 * u + 1) && not (m.own u h i))) ∙ off_by t (has_bit a (2 * u + 1)) in
-      (λ i. (low i, high i)) ∙ both_of t (has_bit a (2 * u)) (has_bit a (2 * u + 1)) false (pair u a) refl
-
-  -- both masks put both bits on
-  pub put_writes : (a b : Row) → WritesBits pairs pairs a b → SetsPairs numbers (true, true) a b
-  put_writes a b w = record { element = w.element; current = current_by pairs pairs pairs_zero pairs_zero a b w; pairs = λ u one. put_pair a b w u (cases_lt u 128) }
-
-  -- the one over the other puts the own bits off
-  pub out_writes : (a b : Row) → WritesBits ones pairs a b → SetsPairs numbers (true, false) a b
-  out_writes a b w = record { element = w.element; current = current_by ones pairs ones_zero pairs_zero a b w; pairs = λ u one. out_pair a b w u (cases_lt u 128) }

@@ -20,4 +20,6 @@ pub mod ChangeCounts
 pub mod ChangeGraphs
 pub mod ChangeCells
 pub mod MovedSlots
-pub mod OneSlot
+pub mod WordCounts
+pub mod WordPairs
+pub mod WordSlots

@@ -4,7 +4,7 @@ use Rattle.std.specs.Int.{bit_at}
 use Rattle.std.specs.Int.Bits.{and_lt}
 use Rattle.std.proofs.lemmas.Nat.{or_lt}
 use Rattle.std.proofs.lemmas.Nat.Bits.{bit_at_and, bit_at_or, bit_at_not, bit_at-lt, bit_at-suc}
-use Rattle.std.proofs.Common.{w64, arith, suc, zero, min, max, ◌≡◌, ℕ, ◌+◌, ◌*◌, ◌-◌, ◌/◌, ◌%◌, ◌^◌, ◌<◌, Bool, true, false, cond, eqb, not, ◌||◌, ◌&&◌, List, [], ◌∷◌, ◌++◌, length, get_or, refl, sym, ap, ◌∙◌, ◌⊎◌, inl, inr}
+use Rattle.std.proofs.Common.{w64, arith, suc, zero, min, max, ◌≡◌, ℕ, ◌+◌, ◌*◌, ◌-◌, ◌/◌, ◌^◌, ◌<◌, Bool, true, false, cond, eqb, not, ◌||◌, ◌&&◌, List, [], ◌∷◌, ◌++◌, length, refl, sym, ap, ◌∙◌, ◌⊎◌, inl, inr}
 use mathlib.Core.Bool.{beq}
 use Rattle.std.proofs.Math.Bool.{or-false}
 use Rattle.std.proofs.lemmas.Bool.{cases_eq, eq-eqb, ne_eqb}
@@ -18,7 +18,7 @@ use Rattle.dg_delta.specs.Deltas.{is_in_after}
 use Rattle.dg_pool.specs.Graphs.{slot_at, is_listed, is_on_now, pair_says, in_base}
 use Rattle.dg_pool.specs.Masks.{is_asking}
 use Rattle.dg_pool.specs.Sweeps.{in_state}
-use Rattle.dg_pool.specs.Changes.{numbers_of, IsMarked, AreMoved, moves, base_has, is_on_slot, will_have}
+use Rattle.dg_pool.specs.Changes.{numbers_of, IsMarked, moves, base_has, is_on_slot, will_have}
 use Rattle.dg_pool.proofs.ChangeMasks.{listed_more}
 
 -- ---- a mask of those slots that pass a test, with one slot more
@@ -39,7 +39,11 @@ module _ (test : SlotState → Bool) (states : List SlotState) (slots next : Lis
   and_false false = refl
 
   pub marked_put : (mask mask2 : List ℕ) → IsMarked test states (numbers_of slots) mask → length mask2 ≡ 4 → ((c : ℕ) → word_bit mask2 c ≡ (eqb c (2 * t.0) || word_bit mask c)) → test (slot_at states t.0) ≡ true → IsMarked test states (numbers_of next) mask2
-  marked_put mask mask2 m len one passes = record { len = len; marks = λ s h. at s h (cases_eq s t.0) }
+  marked_put mask mask2 m len one passes = record {
+    len = len;
+    marks = λ s h. at s h (cases_eq s t.0);
+    no_own = λ s h. one (2 * s + 1) ∙ (λ i. ne_eqb (2 * s + 1) (2 * t.0) (λ e. omega arith) i || m.no_own s h i);
+  }
     where
       at : (s : ℕ) → s < 128 → ((s ≡ t.0) ⊎ (s ≡ t.0 → ⊥)) → word_bit mask2 (2 * s) ≡ tested (is_listed (numbers_of next) s) s
       at s h (inl e) =
@@ -50,7 +54,7 @@ module _ (test : SlotState → Bool) (states : List SlotState) (slots next : Lis
           ∙ sym (ap (λ b. tested b s) (listed_next s ∙ ap (λ b. is_listed (numbers_of slots) s || b) (ne_eqb t.0 s (λ e. d (sym e))) ∙ or-false (is_listed (numbers_of slots) s)))
 
   pub marked_skip : (mask : List ℕ) → IsMarked test states (numbers_of slots) mask → test (slot_at states t.0) ≡ false → IsMarked test states (numbers_of next) mask
-  marked_skip mask m fails = record { len = m.len; marks = λ s h. m.marks s h ∙ at s (cases_eq s t.0) }
+  marked_skip mask m fails = record { len = m.len; marks = λ s h. m.marks s h ∙ at s (cases_eq s t.0); no_own = m.no_own }
     where
       at : (s : ℕ) → ((s ≡ t.0) ⊎ (s ≡ t.0 → ⊥)) → tested (is_listed (numbers_of slots) s) s ≡ tested (is_listed (numbers_of next) s) s
       at s (inl e) =
@@ -67,22 +71,6 @@ module _ (test : SlotState → Bool) (states : List SlotState) (slots next : Lis
       at (inl e) = ap (λ n. test (slot_at states n)) e ∙ fails
       at (inr d) =
           none s (sym (or-false (is_listed (numbers_of slots) s)) ∙ sym (ap (λ b. is_listed (numbers_of slots) s || b) (ne_eqb t.0 s (λ e. d (sym e)))) ∙ sym (listed_next s) ∙ k)
-
--- no slot is marked that is not listed
-pub marked_none : (test : SlotState → Bool) (states : List SlotState) (numbers : List ℕ) (mask : List ℕ) → length mask ≡ 4 → ((c : ℕ) → word_bit mask c ≡ false) → ((s : ℕ) → is_listed numbers s ≡ true → test (slot_at states s) ≡ false) → IsMarked test states numbers mask
-marked_none test states numbers mask len none fails = record { len = len; marks = λ s h. none (2 * s) ∙ sym (at s (is_listed numbers s) refl) }
-  where
-    at : (s : ℕ) (b : Bool) → is_listed numbers s ≡ b → (is_listed numbers s && test (slot_at states s)) ≡ false
-    at s true e = ap (λ b. b && test (slot_at states s)) e ∙ fails s e
-    at s false e = ap (λ b. b && test (slot_at states s)) e
-
--- the same marks by a test that agrees on the slots that are listed
-pub marked_same : (test other : SlotState → Bool) (states : List SlotState) (numbers : List ℕ) (mask : List ℕ) → IsMarked test states numbers mask → ((s : ℕ) → is_listed numbers s ≡ true → test (slot_at states s) ≡ other (slot_at states s)) → IsMarked other states numbers mask
-marked_same test other states numbers mask m same = record { len = m.len; marks = λ s h. m.marks s h ∙ at s (is_listed numbers s) refl }
-  where
-    at : (s : ℕ) (b : Bool) → is_listed numbers s ≡ b → (is_listed numbers s && test (slot_at states s)) ≡ (is_listed numbers s && other (slot_at states s))
-    at s true e = ap (λ b. is_listed numbers s && b) (same s e)
-    at s false e = ap (λ b. b && test (slot_at states s)) e ∙ sym (ap (λ b. b && other (slot_at states s)) e)
 
 -- a slot that rests on no other slot has an element of its base where it rests on the current graph, which has it
 pub base_of_now : (r : Row) (slot : SlotState) → is_on_slot slot ≡ false → base_has r slot ≡ (is_on_now slot && has_bit r 0)
@@ -138,45 +126,24 @@ module _ (bits base asking : ℕ) (fits : bits < 2 ^ 64) (base_fits : base < 2 ^
       or_lt 64 (bit_and bits (bits / 2 ^ 1)) (bit_and (18446744073709551615 - bits) base)
       (and_lt 64 bits (bits / 2 ^ 1) fits (omega arith)) (and_lt 64 (18446744073709551615 - bits) base (omega arith) base_fits)
 
-  had_bit : (i : ℕ) → i < 63 → eqb (bit_at had i) 1 ≡ cond (eqb (bit_at bits i) 1) (eqb (bit_at bits (i + 1)) 1) (eqb (bit_at base i) 1)
+  had_bit : (i : ℕ) → i < 64 → eqb (bit_at had i) 1 ≡ cond (eqb (bit_at bits i) 1) (eqb (bit_at bits (i + 1)) 1) (eqb (bit_at base i) 1)
   had_bit i h =
       ap (λ n. eqb n 1) (bit_at_or (bit_and bits (bits / 2 ^ 1)) (bit_and (18446744073709551615 - bits) base) i
       ∙ (λ j. max ((bit_at_and bits (bits / 2 ^ 1) i ∙ ap (min (bit_at bits i)) (sym (bit_at-suc bits i))) j) ((bit_at_and (18446744073709551615 - bits) base i ∙ ap (λ n. min n (bit_at base i)) (bit_at_not w64 bits i fits (omega arith))) j)))
       ∙ had_table (bit_at bits i) (bit_at bits (suc i)) (bit_at base i) (bit_at-lt bits i) (bit_at-lt bits (suc i)) (bit_at-lt base i)
       ∙ ap (λ n. cond (eqb (bit_at bits i) 1) (eqb (bit_at bits n) 1) (eqb (bit_at base i) 1)) (omega arith)
 
-  pub got_word : (i : ℕ) → i < 63 → eqb (bit_at (bit_and asking (18446744073709551615 - had)) i) 1 ≡ moves true (eqb (bit_at bits i) 1) (eqb (bit_at bits (i + 1)) 1) (eqb (bit_at base i) 1) (eqb (bit_at asking i) 1)
+  pub got_word : (i : ℕ) → i < 64 → eqb (bit_at (bit_and asking (18446744073709551615 - had)) i) 1 ≡ moves true (eqb (bit_at bits i) 1) (eqb (bit_at bits (i + 1)) 1) (eqb (bit_at base i) 1) (eqb (bit_at asking i) 1)
   got_word i h =
       ap (λ n. eqb n 1) (bit_at_and asking (18446744073709551615 - had) i ∙ ap (min (bit_at asking i)) (bit_at_not w64 had i had_small (omega arith)))
       ∙ got_table (bit_at asking i) (bit_at had i) (bit_at-lt asking i) (bit_at-lt had i)
       ∙ ap (λ b. eqb (bit_at asking i) 1 && not b) (had_bit i h)
 
-  pub lost_word : (i : ℕ) → i < 63 → eqb (bit_at (bit_and asking had) i) 1 ≡ moves false (eqb (bit_at bits i) 1) (eqb (bit_at bits (i + 1)) 1) (eqb (bit_at base i) 1) (eqb (bit_at asking i) 1)
+  pub lost_word : (i : ℕ) → i < 64 → eqb (bit_at (bit_and asking had) i) 1 ≡ moves false (eqb (bit_at bits i) 1) (eqb (bit_at bits (i + 1)) 1) (eqb (bit_at base i) 1) (eqb (bit_at asking i) 1)
   lost_word i h =
       ap (λ n. eqb n 1) (bit_at_and asking had i)
       ∙ lost_table (bit_at asking i) (bit_at had i) (bit_at-lt asking i) (bit_at-lt had i)
       ∙ ap (λ b. eqb (bit_at asking i) 1 && b) (had_bit i h)
-
--- ---- four words
-
-module _ (own : Bool) (bits base asking : List ℕ) (w0 w1 w2 w3 : ℕ) where
-  abbrev Word : ℕ → ℕ → Type 0
-  Word w result = (i : ℕ) → i < 63 → eqb (bit_at result i) 1 ≡ moves own (eqb (bit_at (get_or bits w 0) i) 1) (eqb (bit_at (get_or bits w 0) (i + 1)) 1) (eqb (bit_at (get_or base w 0) i) 1) (eqb (bit_at (get_or asking w 0) i) 1)
-
-  module _ (f0 : Word 0 w0) (f1 : Word 1 w1) (f2 : Word 2 w2) (f3 : Word 3 w3) where
-    in_words : (w : ℕ) → w < 4 → Word w (get_or (w0 ∷ w1 ∷ w2 ∷ w3 ∷ []) w 0)
-    in_words zero h = f0
-    in_words (suc zero) h = f1
-    in_words (suc (suc zero)) h = f2
-    in_words (suc (suc (suc zero))) h = f3
-    in_words (suc (suc (suc (suc w)))) h = absurd (omega arith)
-
-    pub moved_bits : (s : ℕ) → s < 128 → word_bit (w0 ∷ w1 ∷ w2 ∷ w3 ∷ []) (2 * s) ≡ moves own (word_bit bits (2 * s)) (word_bit bits (2 * s + 1)) (word_bit base (2 * s)) (word_bit asking (2 * s))
-    moved_bits s h =
-        let a : (2 * s + 1) / 64 ≡ (2 * s) / 64 = omega arith in
-        let b : (2 * s + 1) % 64 ≡ (2 * s) % 64 + 1 = omega arith in
-        in_words ((2 * s) / 64) (omega arith) ((2 * s) % 64) (omega arith)
-        ∙ (λ j. moves own (word_bit bits (2 * s)) (eqb (bit_at (get_or bits (sym a j) 0) (sym b j)) 1) (word_bit base (2 * s)) (word_bit asking (2 * s)))
 
 -- ---- what moves is what the counts go by
 
@@ -201,9 +168,6 @@ state_moves false s r (state.Live b cols) = by (asks cols (column_of r.element))
     by true false o true = refl
     by true false o false = refl
     by false e o q = refl
-
-pub moved_is : (states : List SlotState) (numbers : List ℕ) (own : Bool) (r : Row) (mask : List ℕ) → AreMoved states numbers own r mask → (s : ℕ) → s < 128 → is_listed numbers s ≡ true → word_bit mask (2 * s) ≡ not (beq (in_state s (slot_at states s) r) (will_have own (slot_at states s) r))
-moved_is states numbers own r mask m s h k = m.moved s h k ∙ state_moves own s r (slot_at states s)
 
 -- where a graph gets the element or loses it, it has it then as is written
 pub moved_on : (own : Bool) (s : ℕ) (r : Row) (slot : SlotState) → not (beq (in_state s slot r) (will_have own slot r)) ≡ true → will_have own slot r ≡ own

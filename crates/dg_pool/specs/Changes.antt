@@ -1,5 +1,5 @@
 -- Changes of several slots' graphs by one delta.
-use Rattle.std.specs.Prelude.{◌≡◌, ℕ, ◌+◌, ◌*◌, ◌≤◌, ◌<◌, ◌^◌, Bool, true, false, ◌||◌, ◌&&◌, not, if◌then◌else◌, List, [], ◌∷◌, map, Option, Some, IsSome, length}
+use Rattle.std.specs.Prelude.{◌≡◌, ℕ, ◌+◌, ◌*◌, ◌/◌, ◌≤◌, ◌<◌, ◌^◌, ◌==◌, Bool, true, false, ◌||◌, ◌&&◌, not, if◌then◌else◌, List, [], ◌∷◌, map, Option, Some, IsSome, length}
 use Rattle.std.specs.Option.{option_map}
 use Rattle.dg_graph.specs.declared.element.Element.{Element}
 use Rattle.dg_graph.specs.Elements.{has, shown, column_of}
@@ -12,7 +12,7 @@ use Rattle.dg_pool.specs.declared.slots.Slot.{Slot}
 use Rattle.dg_pool.specs.declared.slots.SlotState.{SlotState}
 use Rattle.dg_pool.specs.Graphs.{PoolState, SlotGraph, AreSlots, slot_at, pair_at, is_live, is_listed, is_on_now, in_base, slot_graph, graph_now}
 use Rattle.dg_pool.specs.Slots.{NoneOn}
-use Rattle.dg_pool.specs.Masks.{is_asking}
+use Rattle.dg_pool.specs.Masks.{is_asking, explicit_in, own_in}
 use Rattle.dg_pool.specs.declared.slots.SlotState.TheVariants as state
 use Rattle.dg_graph.specs.declared.element.Column.TheVariants as column
 use Rattle.dg_pool.specs.Sweeps.{element_of, in_state}
@@ -94,6 +94,22 @@ pub record AreMarks (numbers : List ℕ) (ones pairs : List ℕ) : Type 0 where
 pub record IsMarked (test : SlotState → Bool) (slots : List SlotState) (numbers : List ℕ) (mask : List ℕ) : Type 0 where
   pub len : length mask ≡ 4
   pub marks : (s : ℕ) → s < 128 → word_bit mask (2 * s) ≡ (is_listed numbers s && test (slot_at slots s))
+  pub no_own : (s : ℕ) → s < 128 → word_bit mask (2 * s + 1) ≡ false
+
+-- one word of such a mask: slot s has its bits in the word s / 32
+pub record IsMarkedWord (test : SlotState → Bool) (slots : List SlotState) (numbers : List ℕ) (index word : ℕ) : Type 0 where
+  pub marks : (s : ℕ) → s / 32 ≡ index → explicit_in word s ≡ (is_listed numbers s && test (slot_at slots s))
+  pub no_own : (s : ℕ) → s / 32 ≡ index → own_in word s ≡ false
+
+-- one word of the bits that are set: the explicit bits of the slots, and their own bits where these are to be on
+pub record IsPairWord (numbers : List ℕ) (on : Bool) (index word : ℕ) : Type 0 where
+  pub explicit : (s : ℕ) → s / 32 ≡ index → explicit_in word s ≡ is_listed numbers s
+  pub own : (s : ℕ) → s / 32 ≡ index → own_in word s ≡ (is_listed numbers s && on)
+
+-- the words from one on and before another have the bits of the slots
+pub record AreWithin (numbers : List ℕ) (first past : ℕ) : Type 0 where
+  pub few : past ≤ 4
+  pub words : (s : ℕ) → is_listed numbers s ≡ true → (first ≤ s / 32) × (s / 32 < past)
 
 -- the slot rests on another slot
 abbrev pub is_on_slot : SlotState → Bool
@@ -119,6 +135,7 @@ pub record AreTargets (t : Targets) : Type 0 where
   pub transient : IsMarked (is_asking column.Transient) t.states.now (numbers_of t.slots.now) t.transient
   pub on_now : IsMarked is_on_now t.states.now (numbers_of t.slots.now) t.on_now
   pub on_slot : t.on_slot ≡ false → (s : ℕ) → is_listed (numbers_of t.slots.now) s ≡ true → is_on_slot (slot_at t.states.now s) ≡ false
+  pub words : AreWithin (numbers_of t.slots.now) t.first_word t.end_word
 
 -- each of the slots has this pair, and all else is as it was
 pub record SetsPairs (numbers : List ℕ) (p : Bool × Bool) (old new : Row) : Type 0 where
@@ -162,7 +179,23 @@ RecountsAll slots numbers own r old new =
 abbrev pub moves : Bool → Bool → Bool → Bool → Bool → Bool
 moves own explicit says base asks = asks && (if own then not (if explicit then says else base) else (if explicit then says else base))
 
--- the mask has the explicit bits of the slots whose graphs get the element or lose it
-pub record AreMoved (slots : List SlotState) (numbers : List ℕ) (own : Bool) (r : Row) (mask : List ℕ) : Type 0 where
-  pub len : length mask ≡ 4
-  pub moved : (s : ℕ) → s < 128 → is_listed numbers s ≡ true → word_bit mask (2 * s) ≡ moves own (pair s r).0 (pair s r).1 (base_has r (slot_at slots s)) (is_asking (column_of r.element) (slot_at slots s))
+-- the word has the explicit bits of those slots in it whose graphs get the element or lose it, and no other bit
+pub record IsMovedWord (slots : List SlotState) (numbers : List ℕ) (own : Bool) (r : Row) (index word : ℕ) : Type 0 where
+  pub moved : (s : ℕ) → s / 32 ≡ index → explicit_in word s ≡ (is_listed numbers s && moves own (pair s r).0 (pair s r).1 (base_has r (slot_at slots s)) (is_asking (column_of r.element) (slot_at slots s)))
+  pub no_own : (s : ℕ) → own_in word s ≡ false
+
+-- one more, or one less
+abbrev pub counted : Bool → Element → Counts → Counts
+counted own x c = if own then one_more c x else one_less c x
+
+-- one more can be counted, or one less
+pub record CanCount (own : Bool) (x : Element) (c : Counts) : Type 0 where
+  pub more : own ≡ true → kind_count c x + 1 < 2 ^ 64
+  pub less : own ≡ false → 1 ≤ kind_count c x
+
+-- the counts of a slot, with one more or one less where the word has its explicit bit
+abbrev pub counts_moved : Bool → Element → ℕ → ℕ → List Counts → ℕ → Counts
+counts_moved own x index word counts s = if s / 32 == index && explicit_in word s then counted own x (counts_at counts s) else counts_at counts s
+
+abbrev pub CountsMoved : Bool → Element → ℕ → ℕ → List Counts → List Counts → Type 0
+CountsMoved own x index word old new = (s : ℕ) → counts_at new s ≡ counts_moved own x index word old s

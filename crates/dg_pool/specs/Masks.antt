@@ -1,5 +1,6 @@
 -- Masks over the 256 bits of a cell, which tell of all slots at once.
-use Rattle.std.specs.Prelude.{◌≡◌, ℕ, ◌+◌, ◌*◌, ◌<◌, Bool, false, List, length}
+use Rattle.std.specs.Prelude.{◌≡◌, ℕ, ◌+◌, ◌*◌, ◌%◌, ◌<◌, ◌==◌, Bool, false, List, length}
+use Rattle.std.specs.Int.{bit_at}
 use Rattle.dg_graph.specs.declared.element.Column.{Column}
 use Rattle.dg_graph.specs.declared.element.Column.TheVariants as column
 use Rattle.dg_graph.specs.Elements.{asks}
@@ -9,6 +10,14 @@ use Rattle.dg_pool.specs.declared.slots.SlotState.{SlotState}
 use Rattle.dg_pool.specs.declared.slots.SlotState.TheVariants as state
 use Rattle.dg_pool.specs.Graphs.{slot_at}
 use Rattle.dg_pool.specs.Sweeps.{is_swept}
+
+-- the word, which has the bits of 32 slots, has the explicit bit of this one
+abbrev pub explicit_in : ℕ → ℕ → Bool
+explicit_in word s = bit_at word (2 * (s % 32)) == 1
+
+-- the word has the slot's own bit
+abbrev pub own_in : ℕ → ℕ → Bool
+own_in word s = bit_at word (2 * (s % 32) + 1) == 1
 
 -- the slot is live, and asks for the column
 abbrev pub is_asking : Column → SlotState → Bool

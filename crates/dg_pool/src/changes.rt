@@ -1,137 +1,72 @@
 //! How a delta is written for several slots at once: each cell is found once, and written once for all of them.
-ghost use Rattle.std.specs.Prelude.{◌≡◌, ◌≤◌, true, false, [], ◌∷◌, Some, IsSome, length};
-ghost use Rattle.dg_graph.specs.declared.element.Element.{Element};
-ghost use Rattle.dg_cells.specs.Rows.{Row, cell_at, pair, Holds, AreNumbers, CellsAreApart, Writes};
-ghost use Rattle.dg_cells.specs.Order.{cell_element};
-ghost use Rattle.dg_graph.specs.declared.element.Columns.{Columns};
-ghost use Rattle.dg_graph.specs.Elements.{column_of};
-ghost use Rattle.dg_pool.specs.declared.slots.Base.TheVariants as bases;
-ghost use Rattle.dg_pool.specs.declared.slots.Slot.{Slot};
-ghost use Rattle.dg_pool.specs.declared.slots.SlotState.TheVariants as states;
-ghost use Rattle.dg_pool.specs.Masks.{is_asking};
-ghost use Rattle.dg_pool.specs.Changes.{moves, base_has, numbers_of, AreChangeable, AreTargets, AreGraphCounts, CanRecountAll, RecountsAll, WritesDelta, one_sided, SetsPairs};
+ghost use Rattle.std.specs.Prelude.{◌≡◌, ℕ, ◌/◌, ◌<◌, true, false, [], ◌∷◌, Some, IsSome, length};
+ghost use Rattle.dg_cells.specs.Rows.{Row, cell_at, Holds, AreNumbers, CellsAreApart, Writes};
+ghost use Rattle.dg_pool.specs.Counts.{counts_at};
+ghost use Rattle.dg_pool.specs.Masks.{explicit_in, own_in};
+ghost use Rattle.dg_pool.specs.Changes.{numbers_of, AreChangeable, AreTargets, AreGraphCounts, CanRecountAll, RecountsAll, CanCount, CountsMoved, WritesDelta, one_sided, SetsPairs};
 
 use crate::counts::with_change;
-use crate::masks::mask_has;
-use crate::members::in_base;
+use crate::masks::split_lowest;
 use crate::slots::{Slot, SlotState};
-use crate::targets::{Targets, moved_mask, targets_of};
-use dg_cells::{Cells, Cursor, Row};
+use crate::targets::{Targets, moved_in, pair_word, targets_of};
+use dg_cells::{Cells, Cursor};
 use dg_delta::Delta;
-use dg_event::{asks, column_of};
 use dg_graph::Element;
 use dg_query::Counts;
 
-// Keeps the counts of the slots whose graphs gain or lose the cell's element by a write of their own bits. `row` is
-// what stands in the cell before.
-#[inline(never)]
-fn recount(counts: &mut [Counts; 128], targets: &Targets, row: &Row, own: bool)
-    requires targets { AreTargets targets.now }
-    requires fit { CanRecountAll targets.now.states.now (numbers_of targets.now.slots.now) own row.now counts.old }
+// Counts one more or one less for each slot of which the word has the explicit bit.
+#[inline(always)]
+fn count_moved(counts: &mut [Counts; 128], moved: u64, word: u8, element: &Element, own: bool)
+    requires word { word < 4 }
+    requires even { (s : ℕ) → own_in moved s ≡ false }
+    requires fit { (s : ℕ) → s / 32 ≡ word → explicit_in moved s ≡ true → CanCount own element.now (counts_at counts.old s) }
     ensures len { length counts.new ≡ 128 }
-    ensures counts { RecountsAll targets.now.states.now (numbers_of targets.now.slots.now) own row.now counts.old counts.new }
+    ensures counts { CountsMoved own element.now word moved counts.old counts.new }
 {
-    let moved = moved_mask(targets, row, own);
-    for slot in targets.slots {
-        if mask_has(&moved, 2 * slot.0) {
-            let at = slot.0 as usize;
-            counts[at] = with_change(counts[at], &row.element, own);
-        }
+    let mut left = moved;
+    while left != 0 {
+        let (bit, rest) = split_lowest(left);
+        let slot = 32 * word as usize + bit as usize / 2;
+        counts[slot] = with_change(counts[slot], element, own);
+        left = rest;
     }
 }
 
-// Sets the explicit bits of the slots in an occupied cell, and their own bits or puts them off: one write.
+// Keeps the counts of the slots whose graphs gain or lose the element by a write of their own bits in its cell. Of the cell
+// the words are read that have bits of the slots, and those that tell of their bases.
+#[inline(always)]
+fn recount(
+    cells: &Cells,
+    counts: &mut [Counts; 128],
+    targets: &Targets,
+    n: usize,
+    element: &Element,
+    own: bool,
+)
+    requires holds { Holds cells.now element.now n }
+    requires targets { AreTargets targets.now }
+    requires fit { (r : Row) → cell_at cells.now n ≡ Some r → CanRecountAll targets.now.states.now (numbers_of targets.now.slots.now) own r counts.old }
+    ensures len { length counts.new ≡ 128 }
+    ensures counts { (r : Row) → cell_at cells.now n ≡ Some r → RecountsAll targets.now.states.now (numbers_of targets.now.slots.now) own r counts.old counts.new }
+{
+    for word in targets.first_word..targets.end_word {
+        let moved = moved_in(targets, cells, n, element, word, own);
+        count_moved(counts, moved, word, element, own);
+    }
+}
+
+// Sets the explicit bits of the slots in an occupied cell, and their own bits or puts them off: one write for each word that
+// has some of them.
+#[inline(always)]
 fn set_pairs(cells: &mut Cells, targets: &Targets, n: usize, own: bool)
     requires there { IsSome (cell_at cells.old n) }
     requires targets { AreTargets targets.now }
     ensures { Writes cells.old cells.new n (SetsPairs (numbers_of targets.now.slots.now) (true, own)) }
 {
-    if own {
-        cells.write_masks(n, &targets.both, &targets.both);
-    } else {
-        cells.write_masks(n, &targets.explicit, &targets.both);
-    }
-}
-
-// Whether the slot's graph gains or loses the element of the cell by a write of its own bit. Of the cell the bits of the slot
-// are read, and those of its base.
-#[inline(always)]
-fn moves_one(
-    cells: &Cells,
-    n: usize,
-    element: &Element,
-    state: SlotState,
-    slot: u8,
-    own: bool,
-) -> bool
-    requires element { cell_element (cell_at cells.now n) ≡ Some element.now }
-    requires slot { slot ≤ 127 }
-    requires base { (b : Slot) (cols : Columns) → state ≡ states.Live (bases.Slot b) cols → b.0 ≤ 127 }
-    ensures { (r : Row) → cell_at cells.now n ≡ Some r → result ≡ moves own (pair slot r).0 (pair slot r).1 (base_has r state) (is_asking (column_of r.element) state) }
-{
-    let SlotState::Live { base, cols } = state else {
-        return false;
-    };
-    if !asks(cols, column_of(element)) {
-        return false;
-    }
-    let (explicit, says) = cells.pair_at(n, slot);
-    let had = if explicit {
-        says
-    } else {
-        in_base(cells, n, base)
-    };
-    had != own
-}
-
-// Keeps the counts where one slot changes alone.
-#[inline(always)]
-fn recount_one(
-    cells: &Cells,
-    counts: &mut [Counts; 128],
-    targets: &Targets,
-    n: usize,
-    element: &Element,
-    own: bool,
-)
-    requires one { length targets.now.slots.now ≡ 1 }
-    requires holds { Holds cells.now element.now n }
-    requires targets { AreTargets targets.now }
-    requires fit { (r : Row) → cell_at cells.now n ≡ Some r → CanRecountAll targets.now.states.now (numbers_of targets.now.slots.now) own r counts.old }
-    ensures len { length counts.new ≡ 128 }
-    ensures counts { (r : Row) → cell_at cells.now n ≡ Some r → RecountsAll targets.now.states.now (numbers_of targets.now.slots.now) own r counts.old counts.new }
-{
-    let slot = targets.slots[0].0;
-    let state = targets.states[slot as usize];
-    if moves_one(cells, n, element, state, slot, own) {
-        let at = slot as usize;
-        counts[at] = with_change(counts[at], element, own);
-    }
-}
-
-// Keeps the counts of the slots: by the words of all of them, or by the bits of one alone.
-#[inline(always)]
-fn keep_counts(
-    cells: &Cells,
-    counts: &mut [Counts; 128],
-    targets: &Targets,
-    n: usize,
-    element: &Element,
-    own: bool,
-)
-    requires holds { Holds cells.now element.now n }
-    requires targets { AreTargets targets.now }
-    requires fit { (r : Row) → cell_at cells.now n ≡ Some r → CanRecountAll targets.now.states.now (numbers_of targets.now.slots.now) own r counts.old }
-    ensures len { length counts.new ≡ 128 }
-    ensures counts { (r : Row) → cell_at cells.now n ≡ Some r → RecountsAll targets.now.states.now (numbers_of targets.now.slots.now) own r counts.old counts.new }
-{
-    if targets.slots.len() == 1 {
-        recount_one(cells, counts, targets, n, element, own);
-        return;
-    }
-    match cells.row(n) {
-        Some(row) => recount(counts, targets, &row, own),
-        None => unreachable!(),
+    for word in targets.first_word..targets.end_word {
+        let on = pair_word(targets, word, own);
+        let off = pair_word(targets, word, true);
+        cells.write_word(n, word, on, off);
     }
 }
 
@@ -153,7 +88,7 @@ fn write_cell(
     cells.facts();
     // no graph has more elements than there are cells, so the counts fit
     let _most = cells.len();
-    keep_counts(cells, counts, targets, n, element, own);
+    recount(cells, counts, targets, n, element, own);
     set_pairs(cells, targets, n, own);
 }
 

@@ -27,6 +27,7 @@ pub(crate) fn no_counts() -> [Counts; 128]
 }
 
 /// One more of the element's kind.
+#[inline(always)]
 pub(crate) fn one_more(counts: Counts, element: &Element) -> Counts
     requires { kind_count counts element.now + 1 < 2 ^ 64 }
     ensures { result ≡ one_more counts element.now }
@@ -43,6 +44,7 @@ pub(crate) fn one_more(counts: Counts, element: &Element) -> Counts
 }
 
 /// One less of the element's kind.
+#[inline(always)]
 pub(crate) fn one_less(counts: Counts, element: &Element) -> Counts
     requires { 1 ≤ kind_count counts element.now }
     ensures { result ≡ one_less counts element.now }
@@ -59,6 +61,7 @@ pub(crate) fn one_less(counts: Counts, element: &Element) -> Counts
 }
 
 /// The counts of a graph after the element is put in or taken out.
+#[inline(always)]
 pub(crate) fn with_change(counts: Counts, element: &Element, on: bool) -> Counts
     requires more { on ≡ true → kind_count counts element.now + 1 < 2 ^ 64 }
     requires less { on ≡ false → 1 ≤ kind_count counts element.now }

@@ -1,5 +1,6 @@
 //! Masks over the 256 bits of a cell, which tell of all slots at once.
 ghost use Rattle.std.specs.Prelude.{◌≡◌, ℕ, ◌+◌, ◌*◌, ◌<◌, ◌==◌, true, false, ◌&&◌, ◌||◌, length};
+ghost use Rattle.std.specs.Int.{bit_at};
 ghost use Rattle.dg_cells.specs.Rows.{pair, word_bit};
 ghost use Rattle.dg_pool.specs.Masks.{is_asking, IsAskingMask, IsSweptMask, AreMasks};
 ghost use Rattle.dg_pool.specs.Sweeps.{is_swept};
@@ -48,11 +49,18 @@ pub(crate) fn put_bit(mask: &mut [u64; 4], bit: u8)
     mask[(bit / 64) as usize] |= 1 << (bit % 64);
 }
 
-/// Whether the mask has the bit.
-pub(crate) fn mask_has(mask: &[u64; 4], bit: u8) -> bool
-    ensures { result ≡ word_bit mask.now bit }
+/// The place of the lowest bit of a word that has some, and the word without it.
+#[inline(always)]
+pub(crate) fn split_lowest(word: u64) -> (u32, u64)
+    requires { 0 < word }
+    ensures place { result.0 < 64 }
+    ensures set { bit_at word result.0 ≡ 1 }
+    ensures off { bit_at result.1 result.0 ≡ 0 }
+    ensures others { (i : ℕ) → i < 64 → (i ≡ result.0 → ⊥) → bit_at result.1 i ≡ bit_at word i }
+    ensures less { result.1 < word }
 {
-    (mask[(bit / 64) as usize] >> (bit % 64)) & 1 == 1
+    let lowest = word.trailing_zeros();
+    (lowest, word & !(1 << lowest))
 }
 
 // The explicit bits of the live slots that ask for the column.

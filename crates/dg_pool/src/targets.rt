@@ -1,20 +1,21 @@
 //! The slots whose graphs change together, and which of them gain or lose an element: words of arithmetic for all.
-ghost use Rattle.std.specs.Prelude.{◌≡◌, ℕ, ◌+◌, ◌*◌, ◌<◌, ◌≤◌, ◌==◌, true, false};
+ghost use Rattle.std.specs.Prelude.{◌≡◌, ℕ, ◌+◌, ◌<◌, ◌≤◌, ◌==◌, true, false, Some, IsSome};
 ghost use Rattle.std.specs.Int.{bit_at};
 ghost use Rattle.dg_graph.specs.declared.element.Columns.{Columns};
+ghost use Rattle.dg_cells.specs.Rows.{Row, cell_at, Holds};
 ghost use Rattle.dg_pool.specs.declared.slots.Base.TheVariants as bases;
 ghost use Rattle.dg_pool.specs.declared.slots.Slot.{Slot};
 ghost use Rattle.dg_pool.specs.declared.slots.SlotState.TheVariants as states;
-ghost use Rattle.dg_graph.specs.Elements.{column_of};
-ghost use Rattle.dg_pool.specs.Graphs.{is_listed, in_base, is_on_now, slot_at};
+ghost use Rattle.dg_pool.specs.Graphs.{is_listed, is_on_now, slot_at};
 ghost use Rattle.dg_pool.specs.Masks.{is_asking};
-ghost use Rattle.dg_pool.specs.Changes.{numbers_of, AreChangeable, AreTargets, AreMarks, IsMarked, AreMoved, moves, base_has, is_on_slot};
+ghost use Rattle.dg_pool.specs.Changes.{numbers_of, AreChangeable, AreTargets, AreMarks, AreWithin, IsMarked, IsMarkedWord, IsPairWord, IsMovedWord, moves, base_has, is_on_slot};
 
 use crate::masks::{is_asking, put_bit};
+use crate::members::in_base;
 use crate::slots::{Base, Slot, SlotState, is_on_now};
-use dg_cells::{Row, is_current, pair};
+use dg_cells::Cells;
 use dg_event::column_of;
-use dg_graph::Column;
+use dg_graph::{Column, Element};
 
 /// The slots whose graphs change, and masks that tell of them all at once.
 #[derive(Drop)]
@@ -34,6 +35,10 @@ pub(crate) struct Targets<'a> {
     on_now: [u64; 4],
     // whether one rests on another slot
     on_slot: bool,
+    // the bits of the slots are in the words from this one on
+    pub(crate) first_word: u8,
+    // and in none from this one on
+    pub(crate) end_word: u8,
 }
 
 // The explicit bits of the slots that ask for the column.
@@ -105,6 +110,22 @@ fn marks_of(states: &[SlotState; 128], slots: &[Slot]) -> ([u64; 4], [u64; 4])
     (explicit, both)
 }
 
+// The first of the words that have bits of the slots, and one past the last.
+fn words_of(states: &[SlotState; 128], slots: &[Slot]) -> (u8, u8)
+    requires { AreChangeable states.now (numbers_of slots.now) }
+    ensures { AreWithin (numbers_of slots.now) result.0 result.1 }
+{
+    let _count = states.len();
+    let mut first = 4;
+    let mut end = 0;
+    for slot in slots {
+        let word = slot.0 / 32;
+        first = word.min(first);
+        end = (word + 1).max(end);
+    }
+    (first, end)
+}
+
 /// The slots, with their masks.
 pub(crate) fn targets_of<'a>(states: &'a [SlotState; 128], slots: &'a [Slot]) -> Targets<'a>
     requires { AreChangeable states.now (numbers_of slots.now) }
@@ -113,6 +134,7 @@ pub(crate) fn targets_of<'a>(states: &'a [SlotState; 128], slots: &'a [Slot]) ->
     ensures targets { AreTargets result }
 {
     let (explicit, both) = marks_of(states, slots);
+    let (first_word, end_word) = words_of(states, slots);
     Targets {
         states,
         slots,
@@ -124,96 +146,112 @@ pub(crate) fn targets_of<'a>(states: &'a [SlotState; 128], slots: &'a [Slot]) ->
         transient: asking_of(states, slots, Column::Transient),
         on_now: on_now_of(states, slots),
         on_slot: any_on_slot(states, slots),
+        first_word,
+        end_word,
     }
 }
 
-// The explicit bits of the slots that ask for the column.
-fn asking(targets: &Targets, column: Column) -> [u64; 4]
-    requires { AreTargets targets.now }
-    ensures { IsMarked (is_asking column) targets.now.states.now (numbers_of targets.now.slots.now) result }
+/// One word of the bits that a write sets: the explicit bits of the slots, and their own bits where these are to be on.
+#[inline(always)]
+pub(crate) fn pair_word(targets: &Targets, word: u8, own: bool) -> u64
+    requires targets { AreTargets targets.now }
+    requires word { word < 4 }
+    ensures { IsPairWord (numbers_of targets.now.slots.now) own word result }
+{
+    if own {
+        targets.both[word as usize]
+    } else {
+        targets.explicit[word as usize]
+    }
+}
+
+// One word of the explicit bits of the slots that ask for the column.
+#[inline(always)]
+fn asking_word(targets: &Targets, word: u8, column: Column) -> u64
+    requires targets { AreTargets targets.now }
+    requires word { word < 4 }
+    ensures { IsMarkedWord (is_asking column) targets.now.states.now (numbers_of targets.now.slots.now) word result }
 {
     match column {
-        Column::Structure => targets.structure,
-        Column::NodeAttr => targets.node_attr,
-        Column::EdgeAttr => targets.edge_attr,
-        Column::Transient => targets.transient,
+        Column::Structure => targets.structure[word as usize],
+        Column::NodeAttr => targets.node_attr[word as usize],
+        Column::EdgeAttr => targets.edge_attr[word as usize],
+        Column::Transient => targets.transient[word as usize],
     }
 }
 
-// Whether the base has the cell's element, by the bits alone.
-fn in_base(row: &Row, base: Base) -> bool
-    requires { (b : Slot) → base ≡ bases.Slot b → b.0 ≤ 127 }
-    ensures { result ≡ in_base base row.now }
-{
-    match base {
-        Base::Nothing => false,
-        Base::Now => is_current(row),
-        Base::Slot(b) => {
-            let (explicit, own) = pair(row, b.0);
-            explicit && own
-        }
-    }
-}
-
-// Whether the base of the slot has the cell's element.
-fn base_has(row: &Row, state: SlotState) -> bool
-    requires { (b : Slot) (cols : Columns) → state ≡ states.Live (bases.Slot b) cols → b.0 ≤ 127 }
-    ensures { result ≡ base_has row.now state }
+// Whether the base of the slot has the element of the cell.
+fn base_has(cells: &Cells, n: usize, state: SlotState) -> bool
+    requires there { IsSome (cell_at cells.now n) }
+    requires base { (b : Slot) (cols : Columns) → state ≡ states.Live (bases.Slot b) cols → b.0 ≤ 127 }
+    ensures { (r : Row) → cell_at cells.now n ≡ Some r → result ≡ base_has r state }
 {
     match state {
-        SlotState::Live { base, .. } => in_base(row, base),
+        SlotState::Live { base, .. } => in_base(cells, n, base),
         _ => false,
     }
 }
 
 // The explicit bits of the slots whose base has the cell's element, one slot after another.
-fn bases_each(states: &[SlotState; 128], slots: &[Slot], row: &Row) -> [u64; 4]
-    requires { AreChangeable states.now (numbers_of slots.now) }
-    ensures { IsMarked (base_has row.now) states.now (numbers_of slots.now) result }
+fn bases_each(cells: &Cells, n: usize, states: &[SlotState; 128], slots: &[Slot]) -> [u64; 4]
+    requires there { IsSome (cell_at cells.now n) }
+    requires can { AreChangeable states.now (numbers_of slots.now) }
+    ensures { (r : Row) → cell_at cells.now n ≡ Some r → IsMarked (base_has r) states.now (numbers_of slots.now) result }
 {
     let mut mask = [0; 4];
     for slot in slots {
-        if base_has(row, states[slot.0 as usize]) {
+        if base_has(cells, n, states[slot.0 as usize]) {
             put_bit(&mut mask, 2 * slot.0);
         }
     }
     mask
 }
 
-// The explicit bits of the slots whose base has the cell's element.
-fn bases_mask(targets: &Targets, row: &Row) -> [u64; 4]
-    requires { AreTargets targets.now }
-    ensures { IsMarked (base_has row.now) targets.now.states.now (numbers_of targets.now.slots.now) result }
+// One word of the explicit bits of the slots whose base has the cell's element. The cell is read only where one of the
+// slots in the word rests on the current graph, or one of all on another slot.
+#[inline(always)]
+fn base_word(targets: &Targets, cells: &Cells, n: usize, word: u8) -> u64
+    requires targets { AreTargets targets.now }
+    requires there { IsSome (cell_at cells.now n) }
+    requires word { word < 4 }
+    ensures { (r : Row) → cell_at cells.now n ≡ Some r → IsMarkedWord (base_has r) targets.now.states.now (numbers_of targets.now.slots.now) word result }
 {
     if targets.on_slot {
-        return bases_each(targets.states, targets.slots, row);
+        return bases_each(cells, n, targets.states, targets.slots)[word as usize];
     }
-    if is_current(row) {
-        targets.on_now
-    } else {
-        [0; 4]
+    let on_now = targets.on_now[word as usize];
+    if on_now == 0 {
+        return 0;
     }
+    if cells.is_current_at(n) { on_now } else { 0 }
 }
 
 // Of one word: the slots that ask, and had the element and lose it, or had it not and get it. Their explicit bits stand at even places.
+#[inline(always)]
 fn moved_word(bits: u64, base: u64, asking: u64, own: bool) -> u64
-    ensures { (i : ℕ) → i < 63 → (bit_at result i == 1) ≡ moves own (bit_at bits i == 1) (bit_at bits (i + 1) == 1) (bit_at base i == 1) (bit_at asking i == 1) }
+    ensures { (i : ℕ) → i < 64 → (bit_at result i == 1) ≡ moves own (bit_at bits i == 1) (bit_at bits (i + 1) == 1) (bit_at base i == 1) (bit_at asking i == 1) }
 {
     let had = (bits & (bits >> 1)) | (!bits & base);
     if own { asking & !had } else { asking & had }
 }
 
-/// The explicit bits of the slots whose graphs gain or lose the cell's element once their own bits are written there.
-pub(crate) fn moved_mask(targets: &Targets, row: &Row, own: bool) -> [u64; 4]
-    requires { AreTargets targets.now }
-    ensures { AreMoved targets.now.states.now (numbers_of targets.now.slots.now) own row.now result }
+/// One word of the explicit bits of the slots whose graphs gain or lose the cell's element once their own bits are written
+/// there.
+#[inline(always)]
+pub(crate) fn moved_in(
+    targets: &Targets,
+    cells: &Cells,
+    n: usize,
+    element: &Element,
+    word: u8,
+    own: bool,
+) -> u64
+    requires targets { AreTargets targets.now }
+    requires holds { Holds cells.now element.now n }
+    requires word { word < 4 }
+    ensures { (r : Row) → cell_at cells.now n ≡ Some r → IsMovedWord targets.now.states.now (numbers_of targets.now.slots.now) own r word result }
 {
-    let base = bases_mask(targets, row);
-    let asking = asking(targets, column_of(&row.element));
-    [
-        moved_word(row.bits[0], base[0], asking[0], own),
-        moved_word(row.bits[1], base[1], asking[1], own),
-        moved_word(row.bits[2], base[2], asking[2], own),
-        moved_word(row.bits[3], base[3], asking[3], own),
-    ]
+    let base = base_word(targets, cells, n, word);
+    let asking = asking_word(targets, word, column_of(element));
+    moved_word(cells.word(n, word), base, asking, own)
 }

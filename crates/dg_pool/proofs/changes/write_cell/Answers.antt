@@ -6,8 +6,8 @@ use Rattle.dg_pool.proofs.CurrentGraph.{one_row}
 use Rattle.dg_pool.proofs.ChangeCells.{writes_one, counted_one, fits_cell}
 use Rattle.dg_pool.proofs.changes.write_cell.Goals as goal
 
-pub keep_counts-requires-clause-fit : goal.keep_counts-requires-clause-fit
-keep_counts-requires-clause-fit c = λ r e.
+pub recount-requires-clause-fit : goal.recount-requires-clause-fit
+recount-requires-clause-fit c = λ r e.
     fits_cell c.args.targets.now.states.now (numbers_of c.args.targets.now.slots.now) c.args.own c.args.cells.now c.args.n r c.args.counts.now
     c.requires.targets.can c.requires.counted c.facts.ensures e (omega arith)
 
@@ -28,4 +28,4 @@ returns-clause-counted c =
     let numbers = numbers_of t.slots.now in
     let w = c.set_pairs.ensures in
     counted_one t.states.now numbers c.requires.targets.can c.args.own c.args.cells.now c.set_pairs.new.cells c.args.n (SetsPairs numbers (true, c.args.own)) w w.how c.facts.ensures
-    c.args.counts.now c.keep_counts.new.counts c.requires.counted c.keep_counts.ensures.len (c.keep_counts.ensures.counts w.before w.was)
+    c.args.counts.now c.recount.new.counts c.requires.counted c.recount.ensures.len (c.recount.ensures.counts w.before w.was)
