@@ -293,6 +293,7 @@ impl Cells {
 
     /// The number of the element's cell, and the cursor from which to look for a later element. It takes the fewer steps
     /// the less the cell is behind `near`, which may be any cursor, and the fewest where it is the next one.
+    #[inline(always)]
     pub fn find_near(&self, near: Cursor, element: &Element) -> (Option<usize>, Cursor)
         ensures found { IfSome result.0 (Holds self.now element.now) }
         ensures lacks { IfNone result.0 (Lacks self.now element.now) }

@@ -71,6 +71,7 @@ fn set_pairs(cells: &mut Cells, targets: &Targets, n: usize, own: bool)
 }
 
 // Puts the element, which has this cell, into the graphs of the slots, or takes it out.
+#[inline(always)]
 fn write_cell(
     cells: &mut Cells,
     counts: &mut [Counts; 128],
@@ -93,6 +94,7 @@ fn write_cell(
 }
 
 // Takes the element out of the graphs of the slots. Answers from where to look for a later element.
+#[inline(always)]
 fn take_out(
     cells: &mut Cells,
     counts: &mut [Counts; 128],
