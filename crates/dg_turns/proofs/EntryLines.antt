@@ -1,6 +1,6 @@
 -- What was taken of a script, by the line that was cut.
 use Rattle.std.proofs.Common.{◌≡◌, ℕ, List, [], ◌∷◌, Option, None, Some, IfSome, refl, ap, subst}
-use Rattle.std.specs.Prelude.{IsTrue}
+use Rattle.std.specs.Prelude.{Bool, true, false, IsTrue, if◌then◌else◌}
 use Rattle.std.specs.Option.{option_map}
 use Rattle.dg_cuts.specs.TakenLines.{CutsBy, CutsWithin, GaveBy, TakesBehind}
 use Rattle.dg_cuts.proofs.TakenEntries.{cut_behind, cut_command, took_behind, took_command}
@@ -9,7 +9,7 @@ use Rattle.dg_io.specs.LinesState.{Comes, GaveLines, LinesState, NoneLeft, told}
 use Rattle.dg_machine.specs.CommandGrammar.{Grammar}
 use Rattle.dg_machine.specs.declared.command.Command.{Command}
 use Rattle.dg_machine.specs.Needs.{following}
-use Rattle.dg_machine.specs.Script.{Asked, Long_line, No_command, Other, Skipped, entries_of_by}
+use Rattle.dg_machine.specs.Script.{Asked, Command_is, Long_line, No_command, Other, Skipped, entries_of_by, is_skipped, meaning_by, read_as}
 use Rattle.dg_machine.proofs.ScriptEntries.{told_asked, told_other, told_skip}
 use Rattle.dg_text.specs.Lines.{Long, ScriptLine, Text}
 use Rattle.dg_turns.specs.declared.entry.Taken.{Taken}
@@ -59,6 +59,17 @@ text_taken read old new left then_left text t same comes gave means =
     line_taken read old new left then_left new.text t comes gave (subst (λ (l : List ℕ). Means read t l) same means)
 
 -- ---- a command and the lines that follow it
+
+read_so : (line : List ℕ) (b : Bool) (r : Option Command) (c : Command) → (if b then Skipped else read_as line r) ≡ Command_is c → r ≡ Some c
+read_so line true r c is = absurd (cc)
+read_so line false None c is = absurd (cc)
+read_so line false (Some d) c is = cc
+
+-- a line that is a command has what each command of the grammar has
+pub of_grammar : (read : Grammar) (P : Command → Type 0) → ((text : List ℕ) (c : Command) → read text ≡ Some c → P c) → (line : ScriptLine) (c : Command)
+    → meaning_by read line ≡ Command_is c → P c
+of_grammar read P all (Text line) c is = all line c (read_so line (is_skipped line) (read line) c is)
+of_grammar read P all Long c is = absurd (cc)
 
 pub asks_behind : (read : Grammar) (c : Command) (old mid new : LinesState) (left mid_left then_left : Option (List ℕ)) (got : List ScriptLine) → CommandComes read c old left mid mid_left
     → TakesBehind (following c) mid mid_left new then_left got → asked_by read old left ≡ option_map (λ more. Asked c got ∷ more) (asked_by read new then_left)

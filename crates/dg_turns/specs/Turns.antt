@@ -1,5 +1,5 @@
 -- What one turn over the script comes to, over the ghost members of the machine and of the source.
-use Rattle.std.specs.Prelude.{◌≡◌, List, [], ◌∷◌, IfSome, IsTrue}
+use Rattle.std.specs.Prelude.{◌≡◌, ℕ, List, [], ◌∷◌, IfSome, IsTrue, Some}
 use Rattle.std.specs.Option.{option_map}
 use Rattle.dg_cuts.specs.TakenLines.{CutsBy, GaveBy}
 use Rattle.dg_io.specs.declared.source.Source as source
@@ -13,6 +13,10 @@ use Rattle.dg_turns.specs.declared.turn.Turn.{Turn}
 use Rattle.dg_turns.specs.declared.turn.Turn.TheVariants as turn
 use Rattle.dg_turns.specs.Entries.{asked_by}
 use Rattle.dg_turns.specs.Runs.{Answers}
+
+-- the machine carries out each command of the grammar
+abbrev pub TakesAll : {M W : Type 0} → machine.Ghosts M W → Grammar → Type 0
+TakesAll g read = (line : List ℕ) (c : Command) → read line ≡ Some c → g.takes c
 
 -- The first of the entries to come was taken, and no line more; and of it the fact holds.
 abbrev pub TakesOne : {S : Type 0} → source.Ghosts S → Grammar → LinesState → S → LinesState → S → (Entry → Type 0) → Type 0

@@ -19,6 +19,9 @@ pub trait Machine<W> {
     // What holds of it and of its world between two commands.
     ghost holds: { Self → W → Type 0 };
 
+    // The commands that it carries out.
+    ghost takes: { Command → Type 0 };
+
     // The texts of the names by whose numbers a reply speaks.
     ghost texts: { Self → List (List ℕ) };
 
@@ -48,6 +51,7 @@ pub trait Machine<W> {
         world: &mut W,
     ) -> Result<Reply, Stop>
         requires holds { holds self.old world.old }
+        requires takes { takes command.now }
         requires range { CountIsInRange command.now }
         ensures answered { IfOk result (λ reply. Behind (following command.now) lines.old (S.left source.old) lines.new (S.left source.new)
             (λ got. answers command.now got self.old world.old self.new world.new reply)) }

@@ -2,6 +2,7 @@
 ghost use Rattle.std.specs.Prelude.{◌≡◌};
 ghost use Rattle.dg_turns.specs.Ends.{Ran, streams};
 ghost use Rattle.dg_turns.specs.Grammars.{grammar_of};
+ghost use Rattle.dg_turns.specs.Turns.{TakesAll};
 
 use crate::commands::Commands;
 use crate::end::End;
@@ -13,8 +14,8 @@ use dg_reply::write_reply;
 use std::alloc::Global;
 use std::thread::Threads;
 
-/// Answers a script that may have these commands by the machine over its world. Of the script at most `limit` bytes are
-/// taken.
+/// Answers a script that may have these commands, all of which the machine carries out, by the machine over its world. Of
+/// the script at most `limit` bytes are taken.
 // Its frame is large, and stands on the stack only while it runs.
 #[inline(never)]
 pub fn answer_script<R: Threads + Sync, S: Source, K: Sink, W, M: Machine<W>>(
@@ -27,7 +28,8 @@ pub fn answer_script<R: Threads + Sync, S: Source, K: Sink, W, M: Machine<W>>(
     source: &mut S,
     sink: &mut K,
 ) -> End
-    requires { M.holds machine.old world.old }
+    requires holds { M.holds machine.old world.old }
+    requires takes { TakesAll M.Machine (grammar_of commands) }
     ensures ran { Ran M.Machine (grammar_of commands) limit (streams S.Source K.Sink source.old sink.old) machine.old world.old
         result (streams S.Source K.Sink source.new sink.new) machine.new world.new }
     ensures done { result ≡ End.Done → M.holds machine.new world.new }

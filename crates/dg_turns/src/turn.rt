@@ -4,7 +4,7 @@ ghost use Rattle.dg_io.specs.Calls.{FailsToRead, TakesFrom};
 ghost use Rattle.dg_io.specs.LinesState.{to_come};
 ghost use Rattle.dg_machine.specs.Answer.{headed};
 ghost use Rattle.dg_turns.specs.Grammars.{grammar_of};
-ghost use Rattle.dg_turns.specs.Turns.{BreaksTurn, CutsTurn, MakesTurn};
+ghost use Rattle.dg_turns.specs.Turns.{BreaksTurn, CutsTurn, MakesTurn, TakesAll};
 
 use crate::commands::Commands;
 use crate::entry::{Taken, next_entry};
@@ -37,7 +37,8 @@ pub(crate) fn next_turn<R: Threads + Sync, S: Source, W, M: Machine<W>>(
     lines: &mut Lines,
     source: &mut S,
 ) -> Result<Turn, Stop>
-    requires { M.holds machine.old world.old }
+    requires holds { M.holds machine.old world.old }
+    requires takes { TakesAll M.Machine (grammar_of commands) }
     ensures turn { IfOk result (MakesTurn M.Machine S.Source (grammar_of commands) machine.old world.old lines.old source.old
         machine.new world.new lines.new source.new) }
     ensures holds { IfOk result (λ turn. M.holds machine.new world.new) }

@@ -14,7 +14,7 @@ loop-reply-init g c = record {
   so_far = so_far_first g.M.Machine (grammar_of c.args.commands) c.new-lines.result (g.S.Source.left c.args.source.now) (g.K.Sink.written c.args.sink.now) c.args.machine.now c.args.world.now
       (asked_first (grammar_of c.args.commands) c.new-lines.result c.args.limit (g.S.Source.left c.args.source.now) c.new-lines.ensures)
       (took_none (grammar_of c.args.commands) c.new-lines.result (g.S.Source.left c.args.source.now));
-  holds = c.requires;
+  holds = c.requires.holds;
   lines = advances_none c.new-lines.result _ _;
   sink_counted = omega arith;
 }

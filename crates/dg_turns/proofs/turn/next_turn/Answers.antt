@@ -3,8 +3,13 @@ use Rattle.dg_io.proofs.FrameLemmas.{advances_both}
 use Rattle.dg_machine.specs.Script.{Asked}
 use Rattle.dg_turns.specs.declared.stop.Stop.TheVariants as stop
 use Rattle.dg_turns.specs.Grammars.{grammar_of}
-use Rattle.dg_turns.proofs.EntryLines.{asks_behind, cuts_behind, gave_behind}
+use Rattle.dg_turns.proofs.EntryLines.{asks_behind, cuts_behind, gave_behind, of_grammar}
 use Rattle.dg_turns.proofs.turn.next_turn.Goals as goal
+
+pub carry-requires-clause-takes : goal.carry-requires-clause-takes
+carry-requires-clause-takes g c =
+    let came = rw c.in-Ok-Command.field-0-is at c.in-Ok-Command.ensures.taken in
+    of_grammar (grammar_of c.args.commands) g.M.Machine.takes c.requires.takes came.0.line c.in-Ok-Command.command came.0.means
 
 pub returns-in-Ok-clause-turn : goal.returns-in-Ok-clause-turn
 returns-in-Ok-clause-turn g c =
