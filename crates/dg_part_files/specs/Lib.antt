@@ -1,0 +1,3 @@
+pub mod WrittenParts
+pub mod PartFaults
+pub mod Faults
