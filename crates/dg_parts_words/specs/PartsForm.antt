@@ -14,6 +14,11 @@ abbrev pub said_of : PartsWords → Said
 said_of (words.Split index out parts) = Splits (string_bytes index) (string_bytes out) parts
 said_of (words.Read out parts) = Reads (string_bytes out) parts
 
+-- how many parts there are by what the words say
+abbrev pub parts_said : PartsWords → ℕ
+parts_said (words.Split index out parts) = parts
+parts_said (words.Read out parts) = parts
+
 -- a word that is not empty
 abbrev pub full : List ℕ → Option (List ℕ)
 full [] = None

@@ -1,10 +1,10 @@
 //! The words of a command line of `dg_parts split INDEX OUT P` and `dg_parts read OUT P`.
 #![tactic(auto)]
 
-ghost use Rattle.std.specs.Prelude.{◌≡◌, ◌∷◌, [], map, string_bytes, IfOk};
+ghost use Rattle.std.specs.Prelude.{◌≡◌, ◌∷◌, [], map, string_bytes, ◌≤◌, IfOk, IfSome};
 ghost use Rattle.std.specs.Option.{option_map};
 ghost use Rattle.dg_text.specs.Words.{number};
-ghost use Rattle.dg_parts_words.specs.PartsForm.{full, parts_form, parts_of, said_of};
+ghost use Rattle.dg_parts_words.specs.PartsForm.{full, parts_form, parts_of, parts_said, said_of};
 
 use dg_grammar::{is, number};
 use std::alloc::{AllocError, Global};
@@ -36,7 +36,8 @@ pub enum PartsWords {
 /// What the words after the program's name say, and none exactly where they have neither form. `AllocError` for want of
 /// memory.
 pub fn parts_words(alloc: Global, words: &[String]) -> Result<Option<PartsWords>, AllocError>
-    ensures { IfOk result (λ read. option_map said_of read ≡ parts_form (map string_bytes words.now)) }
+    ensures form { IfOk result (λ read. option_map said_of read ≡ parts_form (map string_bytes words.now)) }
+    ensures range { IfOk result (λ read. IfSome read (λ said. (1 ≤ parts_said said) × (parts_said said ≤ 16))) }
 {
     match words {
         [verb, index, out, parts] => split_words(alloc, verb, index, out, parts),
@@ -53,7 +54,8 @@ fn split_words(
     out: &String,
     parts: &String,
 ) -> Result<Option<PartsWords>, AllocError>
-    ensures { IfOk result (λ read. option_map said_of read ≡ parts_form (string_bytes verb.now ∷ string_bytes index.now ∷ string_bytes out.now ∷ string_bytes parts.now ∷ [])) }
+    ensures form { IfOk result (λ read. option_map said_of read ≡ parts_form (string_bytes verb.now ∷ string_bytes index.now ∷ string_bytes out.now ∷ string_bytes parts.now ∷ [])) }
+    ensures range { IfOk result (λ read. IfSome read (λ said. (1 ≤ parts_said said) × (parts_said said ≤ 16))) }
 {
     if !is(verb.as_bytes(), b"split") || index.is_empty() || out.is_empty() {
         return Ok(None);
@@ -75,7 +77,8 @@ fn read_words(
     out: &String,
     parts: &String,
 ) -> Result<Option<PartsWords>, AllocError>
-    ensures { IfOk result (λ read. option_map said_of read ≡ parts_form (string_bytes verb.now ∷ string_bytes out.now ∷ string_bytes parts.now ∷ [])) }
+    ensures form { IfOk result (λ read. option_map said_of read ≡ parts_form (string_bytes verb.now ∷ string_bytes out.now ∷ string_bytes parts.now ∷ [])) }
+    ensures range { IfOk result (λ read. IfSome read (λ said. (1 ≤ parts_said said) × (parts_said said ≤ 16))) }
 {
     if !is(verb.as_bytes(), b"read") || out.is_empty() {
         return Ok(None);

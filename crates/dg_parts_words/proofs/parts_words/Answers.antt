@@ -4,8 +4,8 @@ use Rattle.dg_parts_words.proofs.OtherLines.{few, many}
 use Rattle.dg_parts_words.proofs.parts_words.Goals as goal
 use Rattle.dg_parts_words.proofs.parts_words.Goals.{in_default-via-then-words-lt3, in_default-via-else-words-lt3+else-words-lt4+else-words-lt5}
 
-pub returns-in_default : goal.returns-in_default
-returns-in_default c =
+pub returns-in_default-clause-form : goal.returns-in_default-clause-form
+returns-in_default-clause-form c =
     elim c.in_default.branch [
       | in_default-via-then-words-lt3 w ↦
           let short : length c.args.words.now < 3 = search rules in
