@@ -5,7 +5,7 @@ ghost use Rattle.dg_pool.specs.Counts.{counts_at};
 ghost use Rattle.dg_pool.specs.Masks.{explicit_in, own_in};
 ghost use Rattle.dg_pool.specs.Changes.{numbers_of, AreChangeable, AreTargets, AreGraphCounts, CanRecountAll, RecountsAll, CanCount, CountsMoved, WritesDelta, one_sided, SetsPairs};
 
-use crate::counts::with_change;
+use crate::counts::change_count;
 use crate::masks::split_lowest;
 use crate::slots::{Slot, SlotState};
 use crate::targets::{Targets, moved_in, pair_word, targets_of};
@@ -27,8 +27,30 @@ fn count_moved(counts: &mut [Counts; 128], moved: u64, word: u8, element: &Eleme
     while left != 0 {
         let (bit, rest) = split_lowest(left);
         let slot = 32 * word as usize + bit as usize / 2;
-        counts[slot] = with_change(counts[slot], element, own);
+        change_count(&mut counts[slot], element, own);
         left = rest;
+    }
+}
+
+// Keeps the counts of the slots, one word of their bits after another.
+#[inline(never)]
+fn recount_words(
+    cells: &Cells,
+    counts: &mut [Counts; 128],
+    targets: &Targets,
+    n: usize,
+    element: &Element,
+    own: bool,
+)
+    requires holds { Holds cells.now element.now n }
+    requires targets { AreTargets targets.now }
+    requires fit { (r : Row) → cell_at cells.now n ≡ Some r → CanRecountAll targets.now.states.now (numbers_of targets.now.slots.now) own r counts.old }
+    ensures len { length counts.new ≡ 128 }
+    ensures counts { (r : Row) → cell_at cells.now n ≡ Some r → RecountsAll targets.now.states.now (numbers_of targets.now.slots.now) own r counts.old counts.new }
+{
+    for word in targets.first_word..targets.end_word {
+        let moved = moved_in(targets, cells, n, element, word, own);
+        count_moved(counts, moved, word, element, own);
     }
 }
 
@@ -49,9 +71,26 @@ fn recount(
     ensures len { length counts.new ≡ 128 }
     ensures counts { (r : Row) → cell_at cells.now n ≡ Some r → RecountsAll targets.now.states.now (numbers_of targets.now.slots.now) own r counts.old counts.new }
 {
-    for word in targets.first_word..targets.end_word {
+    if targets.is_one_word() {
+        let word = targets.first_word;
         let moved = moved_in(targets, cells, n, element, word, own);
         count_moved(counts, moved, word, element, own);
+        return;
+    }
+    recount_words(cells, counts, targets, n, element, own);
+}
+
+// Sets the bits of the slots, one word after another.
+#[inline(never)]
+fn set_words(cells: &mut Cells, targets: &Targets, n: usize, own: bool)
+    requires there { IsSome (cell_at cells.old n) }
+    requires targets { AreTargets targets.now }
+    ensures { Writes cells.old cells.new n (SetsPairs (numbers_of targets.now.slots.now) (true, own)) }
+{
+    for word in targets.first_word..targets.end_word {
+        let on = pair_word(targets, word, own);
+        let off = pair_word(targets, word, true);
+        cells.write_word(n, word, on, off);
     }
 }
 
@@ -63,11 +102,14 @@ fn set_pairs(cells: &mut Cells, targets: &Targets, n: usize, own: bool)
     requires targets { AreTargets targets.now }
     ensures { Writes cells.old cells.new n (SetsPairs (numbers_of targets.now.slots.now) (true, own)) }
 {
-    for word in targets.first_word..targets.end_word {
+    if targets.is_one_word() {
+        let word = targets.first_word;
         let on = pair_word(targets, word, own);
         let off = pair_word(targets, word, true);
         cells.write_word(n, word, on, off);
+        return;
     }
+    set_words(cells, targets, n, own);
 }
 
 // Puts the element, which has this cell, into the graphs of the slots, or takes it out.

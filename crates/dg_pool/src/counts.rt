@@ -74,6 +74,50 @@ pub(crate) fn with_change(counts: Counts, element: &Element, on: bool) -> Counts
     }
 }
 
+// Counts one more of the element's kind.
+#[inline(always)]
+fn add_one(counts: &mut Counts, element: &Element)
+    requires { kind_count counts.old element.now + 1 < 2 ^ 64 }
+    ensures { counts.new ≡ one_more counts.old element.now }
+{
+    match element {
+        Element::Node { .. } => counts.nodes += 1,
+        Element::Edge { .. } => counts.edges += 1,
+        Element::NodeAttr { .. } => counts.node_attrs += 1,
+        Element::EdgeAttr { .. } => counts.edge_attrs += 1,
+        Element::Message { .. } => counts.messages += 1,
+    }
+}
+
+// Counts one less of the element's kind.
+#[inline(always)]
+fn take_one(counts: &mut Counts, element: &Element)
+    requires { 1 ≤ kind_count counts.old element.now }
+    ensures { counts.new ≡ one_less counts.old element.now }
+{
+    match element {
+        Element::Node { .. } => counts.nodes -= 1,
+        Element::Edge { .. } => counts.edges -= 1,
+        Element::NodeAttr { .. } => counts.node_attrs -= 1,
+        Element::EdgeAttr { .. } => counts.edge_attrs -= 1,
+        Element::Message { .. } => counts.messages -= 1,
+    }
+}
+
+/// Counts the element where it is put in, or no longer where it is taken out.
+#[inline(always)]
+pub(crate) fn change_count(counts: &mut Counts, element: &Element, on: bool)
+    requires more { on ≡ true → kind_count counts.old element.now + 1 < 2 ^ 64 }
+    requires less { on ≡ false → 1 ≤ kind_count counts.old element.now }
+    ensures { counts.new ≡ (if on then one_more counts.old element.now else one_less counts.old element.now) }
+{
+    if on {
+        add_one(counts, element);
+    } else {
+        take_one(counts, element);
+    }
+}
+
 // The count, where its column is asked for.
 fn if_asked(asked: bool, count: u64) -> u64
     ensures { result ≡ (if asked then count else 0) }

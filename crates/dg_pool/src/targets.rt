@@ -41,6 +41,16 @@ pub(crate) struct Targets<'a> {
     pub(crate) end_word: u8,
 }
 
+impl Targets<'_> {
+    /// Whether all the bits of the slots are in one word.
+    #[inline(always)]
+    pub(crate) fn is_one_word(&self) -> bool
+        ensures { result ≡ (self.now.first_word + 1 == self.now.end_word) }
+    {
+        self.first_word as usize + 1 == self.end_word as usize
+    }
+}
+
 // The explicit bits of the slots that ask for the column.
 fn asking_of(states: &[SlotState; 128], slots: &[Slot], column: Column) -> [u64; 4]
     requires { AreChangeable states.now (numbers_of slots.now) }

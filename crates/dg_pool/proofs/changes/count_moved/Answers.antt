@@ -9,15 +9,15 @@ use Rattle.dg_pool.specs.Changes.{counted}
 use Rattle.dg_pool.proofs.WordCounts.{slot_of, set_here, even_next, fits_next, moved_next, nothing_moved}
 use Rattle.dg_pool.proofs.changes.count_moved.Goals as goal
 
-pub with_change-requires-clause-more : goal.with_change-requires-clause-more
-with_change-requires-clause-more c =
+pub change_count-requires-clause-more : goal.change_count-requires-clause-more
+change_count-requires-clause-more c =
     let e = c.split_lowest-bit.ensures in
     let v = c.loop-left.invariant in
     (v.fit (slot_of c.args.own c.args.element.now c.args.word c.loop-left.left c.split_lowest-bit.result.0 e.place e.set v.even) (omega arith)
     (set_here c.args.own c.args.element.now c.args.word c.loop-left.left c.split_lowest-bit.result.0 e.place e.set v.even)).more
 
-pub with_change-requires-clause-less : goal.with_change-requires-clause-less
-with_change-requires-clause-less c =
+pub change_count-requires-clause-less : goal.change_count-requires-clause-less
+change_count-requires-clause-less c =
     let e = c.split_lowest-bit.ensures in
     let v = c.loop-left.invariant in
     (v.fit (slot_of c.args.own c.args.element.now c.args.word c.loop-left.left c.split_lowest-bit.result.0 e.place e.set v.even) (omega arith)
@@ -36,11 +36,11 @@ loop-left-preserved c =
     let before = c.loop-left.counts in
     let len = v.len in
     let slot = slot_of own x index left k e.place e.set v.even in
-    let after : List Counts = slice_set before slot c.with_change.result in
-    let now : counts_at after slot ≡ counted own x (counts_at before slot) = get_or-set_same before slot c.with_change.result no_elements (omega arith) ∙ c.with_change.ensures in
-    let past : (s : ℕ) → (s ≡ slot → ⊥) → counts_at after s ≡ counts_at before s = λ s d. get_or-set_other before slot s c.with_change.result no_elements d in
+    let after : List Counts = slice_set before slot c.change_count.new.counts in
+    let now : counts_at after slot ≡ counted own x (counts_at before slot) = get_or-set_same before slot c.change_count.new.counts no_elements (omega arith) ∙ c.change_count.ensures in
+    let past : (s : ℕ) → (s ≡ slot → ⊥) → counts_at after s ≡ counts_at before s = λ s d. get_or-set_other before slot s c.change_count.new.counts no_elements d in
     record {
-      len = length-set before slot c.with_change.result ∙ len;
+      len = length-set before slot c.change_count.new.counts ∙ len;
       even = even_next own x index left k e.place e.set v.even rest e.off e.others;
       fit = fits_next own x index left k e.place e.set v.even rest e.off e.others before after now past v.fit;
       counts = λ s. moved_next own x index left k e.place e.set v.even rest e.off e.others before after now past s ∙ v.counts s;

@@ -2,7 +2,7 @@ use Rattle.std.proofs.Common.{◌≡◌, Some, length}
 use Rattle.dg_cells.specs.Rows.{Row, cell_at}
 use Rattle.dg_pool.specs.Changes.{numbers_of}
 use Rattle.dg_pool.proofs.WordCounts.{RecountsBelow}
-use Rattle.dg_pool.proofs.changes.recount.Given as goal
+use Rattle.dg_pool.proofs.changes.recount_words.Given as goal
 
 abbrev pub invariant-loop-word : goal.invariant-loop-word
 invariant-loop-word l = record {
