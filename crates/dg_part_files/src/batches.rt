@@ -46,8 +46,8 @@ fn fault_of(fault: BatchFault) -> PartFault
     }
 }
 
-// Writes the next batch, behind so many events of the part: it has the most events with which it may end. It gives how many
-// events are written then.
+// Writes the next batch, where so many events of the part are written: it has the most events with which it may end. The
+// answer is how many events are written then.
 fn add_next<R: Threads, D: Disk>(
     rt: &R,
     alloc: Global,
@@ -88,7 +88,7 @@ fn add_next<R: Threads, D: Disk>(
     }
 }
 
-/// Writes all batches of the part behind its new index, of which this is kept.
+/// Writes all batches of the part behind its new index, beside which this is kept.
 pub(crate) fn write_batches<R: Threads, D: Disk>(
     rt: &R,
     alloc: Global,

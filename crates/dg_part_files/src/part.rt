@@ -30,15 +30,15 @@ use dg_stored::StoredHistory;
 use std::alloc::Global;
 use std::thread::Threads;
 
-/// Writes the events as an index file of their own, on a disk that has no index: with these parameters, in the second form,
-/// in batches that are cut greedily, of which the first brings all names. With a batch the file may have `limit` bytes in
-/// use. All is on the device once it is written.
+/// Writes the events as an index file of their own, on a disk that has no index. The index has these parameters and the
+/// second form. The batches are cut greedily, and the first brings all names. A batch with which the file would need more
+/// than `limit` bytes is not written. Once all is written, it is on the device.
 ///
-/// `PartFault::Name` for the first text that may not be a name, with nothing written; `PartFault::Crowded` where more
-/// events than a batch may have are of one time; `PartFault::Full` with the bytes that would be in use with the next
-/// batch, where they are more than `limit`; `PartFault::Damaged` where what was written before is read back otherwise;
-/// `PartFault::Disk` where the disk failed; `PartFault::Memory` for want of memory. Then the disk holds the batches
-/// before, but where it failed while the index was made.
+/// `PartFault::Name` for the first text that may not be a name: nothing was written. `PartFault::Crowded` where more events
+/// than a batch may have are of one time. `PartFault::Full` with the bytes that the file would need with the next batch,
+/// where they are more than `limit`. `PartFault::Damaged` where what was written before is read back otherwise.
+/// `PartFault::Disk` where the disk failed. `PartFault::Memory` for want of memory. After a fault the disk has no index, or
+/// one with the batches before. Only where the disk failed while the index was made may it hold a part of one.
 pub fn write_part<R: Threads, D: Disk>(
     rt: &R,
     alloc: Global,
