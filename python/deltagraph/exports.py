@@ -1,12 +1,13 @@
-"""Graphs for networkx, igraph and pandas."""
+"""Graphs in dictionaries, and for networkx, igraph and pandas."""
 from __future__ import annotations
 
 import importlib.util
 import re
 from typing import TYPE_CHECKING, Any, Optional
 
+from . import replies
 from .calendar import NOTE_KEY, noted
-from .replies import Edge, EdgeAttribute, Message, NodeAttribute
+from .replies import Edge, EdgeAttribute, Graph, Message, NodeAttribute
 from .snapshot import NAME
 from .tables import uncollected
 
@@ -47,6 +48,27 @@ def labels_of(nodes: AllValues, label: Optional[str]) -> dict[int, Any]:
         twice = next(name for name in names.values() if name in seen or seen.add(name))  # type: ignore[func-returns-value]
         raise ValueError(f"several nodes have {twice!r} for {label!r}, so that it names none of them")
     return names
+
+
+def dicts_of(snapshot: "Snapshot") -> Graph:
+    """As `Snapshot.to_dicts`."""
+    graph = Graph({}, {}, {}, [])
+    with uncollected():  # it makes many dictionaries and no cycles
+        for kind, section in snapshot.sections():
+            if kind == b"node":
+                graph.nodes.update((node, {}) for node in replies.nodes_in(section))
+            elif kind == b"edge":
+                for edge in replies.edges_in(section):
+                    graph.edges[edge.id], graph.edge_values[edge.id] = edge, {}
+            elif kind == b"nattr":
+                for node, key, value in replies.node_attributes_in(section):
+                    graph.nodes.setdefault(node, {})[key] = value
+            elif kind == b"eattr":
+                for number, key, value in replies.edge_attributes_in(section):
+                    graph.edge_values.setdefault(number, {})[key] = value
+            else:
+                graph.messages.extend(replies.messages_in(section))
+    return graph
 
 
 def networkx_of(snapshot: "Snapshot", label: Optional[str], numbers: bool) -> Any:

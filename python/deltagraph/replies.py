@@ -94,6 +94,25 @@ class Message(NamedTuple):
     value: str
 
 
+class Graph(NamedTuple):
+    """A graph in dictionaries by ids: the values of each node by their keys, the edges, and the values of each edge; and
+    the messages, where its columns have them."""
+
+    nodes: dict[int, dict[str, str]]
+    edges: dict[int, Edge]
+    edge_values: dict[int, dict[str, str]]
+    messages: list[Message]
+
+    def name(self, node: int, key: str = "name") -> str:
+        """The node's value for a key, or its id where it has none."""
+        return self.nodes.get(node, {}).get(key, str(node))
+
+    def gone(self) -> list[int]:
+        """The ends of messages that are no nodes of the graph: they were removed at its instant, behind the message."""
+        ends = {end for source, target, _ in self.messages for end in (source, target)}
+        return sorted(ends - self.nodes.keys())
+
+
 class Pool(NamedTuple):
     """How many handles live, and how many elements their graphs and the current one have together."""
 

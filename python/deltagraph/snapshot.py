@@ -7,7 +7,7 @@ from itertools import chain
 from typing import TYPE_CHECKING, Any, Callable, Iterator, NamedTuple, Optional, Sequence, TypeVar, Union
 
 from . import replies
-from .replies import Counts, Edge, EdgeAttribute, Message, Neighbour, Node, NodeAttribute
+from .replies import Counts, Edge, EdgeAttribute, Graph, Message, Neighbour, Node, NodeAttribute
 
 if TYPE_CHECKING:
     from .arrays import Arrays
@@ -241,6 +241,17 @@ class Snapshot:
                 for column, more in zip(table, replies.edge_columns(section)):
                     column.extend(more)
         return table
+
+    def to_dicts(self) -> Graph:
+        """All elements in dictionaries by ids, by one listing, which needs no other package; values are texts.
+
+        What an expression or an interval has may be no graph: then the ends of an edge need not be among the nodes, a node
+        that is not there is among them where it has a value, and an edge that is not there is among `edge_values` alone.
+        Of several edges with one id, or several values for one key, it is the last one.
+        """
+        from .exports import dicts_of
+
+        return dicts_of(self)
 
     def to_arrays(self) -> "Arrays":
         """Nodes, edges and values as arrays of numpy. Raises ImportError where it is not there.

@@ -86,7 +86,6 @@ class Store:
     ) -> None:
         self.path = os.fspath(index)
         self.report: Any = None  # of the table that the index was made of, by `from_pandas` or `from_csv`
-        self._beside = read_calendar(self.path)
         self._note: Optional[Calendar] = None  # what the index itself tells
         self._note_read = False  # whether it was asked
         self._forgotten: deque[tuple[int, bool]] = deque()  # handles of snapshots that nobody has any more
@@ -184,6 +183,15 @@ class Store:
         if self._process is not None:
             self._process.close()
 
+    def kill(self) -> None:
+        """Ends the session at once, whatever the program is doing, and nothing where it has ended.
+
+        The file holds the history before the command without an answer, or after it. What is asked later raises `Killed`.
+        """
+        self._closed = True
+        if self._process is not None:
+            self._process.kill()
+
     def __enter__(self) -> "Store":
         return self
 
@@ -205,11 +213,11 @@ class Store:
 
         The first call reads the first graph, so that the next handle has a higher number.
         """
-        note = self._noted()
-        return settled(self.path, note, self._beside)
+        note = self.noted_calendar()
+        return settled(self.path, note, read_calendar(self.path))
 
-    def _noted(self) -> Optional[Calendar]:
-        """What the index itself tells."""
+    def noted_calendar(self) -> Optional[Calendar]:
+        """What the index itself tells of its instants, by its own note, or None without one; asked as `told_calendar`."""
         if self._note_read or not os.path.exists(self.path):
             return self._note
         span = self.span()
@@ -241,11 +249,10 @@ class Store:
 
         Raises `NoDate` where the index itself tells otherwise.
         """
-        calendar, note = calendar_of(zero, unit), self._noted()
+        calendar, note = calendar_of(zero, unit), self.noted_calendar()
         if note is not None and not note.same(calendar):
             raise NoDate(f"the index itself tells that instant 0 is {note.text(0)} and that instants are {note.unit}")
         write_calendar(self.path, zero, unit)
-        self._beside = calendar
         return calendar
 
     def span(self) -> Optional[Span]:

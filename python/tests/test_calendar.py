@@ -184,6 +184,12 @@ class Kept(Case):
             file.write_text(text)
             with self.subTest(text), self.assertRaises(NoDate):
                 read_calendar(str(self.index))
+        with self.open() as store:  # which goes on by instants
+            store.create()
+            store.load(["10 +node 1"])
+            self.assertEqual(store.at(10).counts().nodes, 1)
+            with self.assertRaises(NoDate):
+                store.at("1970-01-01")
 
 
 class OneTruth(Case):

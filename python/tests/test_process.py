@@ -196,6 +196,35 @@ class Ends(Case):
             other.load(["1 +node 1"])
             self.assertEqual(store.span(), (1, 1))
 
+    def test_a_store_that_is_killed(self) -> None:
+        store = self.open()
+        store.create()
+        store.load(["1 +node 1"])
+        kept = store.at(1)
+        store.send("list 1")
+        store.kill()
+        self.assertTrue(store.ended)
+        kept.__exit__()
+        store.kill()
+        store.close()
+        with self.assertRaises(deltagraph.Killed):
+            store.pool()
+        with self.open() as store:
+            self.assertEqual(store.span(), (1, 1))
+        never = self.open(self.folder / "none")
+        never.kill()
+        with self.assertRaises(deltagraph.Closed):
+            never.create()
+
+    def test_a_program_that_does_not_answer_is_killed(self) -> None:
+        self.index.touch()
+        store = deltagraph.open(self.index, ["sh", "-c", "read line; printf 'ok pool 0 0\\nend\\n'; exec sleep 1000"])
+        store.send("verify")
+        store.kill()
+        with self.assertRaises(deltagraph.Killed) as raised:
+            store.tree()
+        self.assertEqual(raised.exception.command, "verify")
+
     def test_an_error_of_the_caller_stays(self) -> None:
         with self.assertRaises(ZeroDivisionError), self.open() as store:
             store.create()

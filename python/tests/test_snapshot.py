@@ -40,6 +40,25 @@ class Snapshots(Case):
         self.assertEqual(found[5], deltagraph.EdgeAttribute(5, "source", "here"))
         self.assertEqual(list(self.store.at(30, "sne").lines())[2:4], [b"edge 5 1 2 dir", b"edge 6 1 1 undir"])
 
+    def test_dictionaries(self) -> None:
+        self.store.append(["40 +node 3", "40 nset 3 name Bo  b ", "40 msg 3 1 hello", "40 msg 3 2 ", "40 ndel 3 name", "40 -node 3"])
+        graph = self.store.at(40, "snet").to_dicts()
+        self.assertEqual((graph.nodes, graph.edges[6]), ({1: {"name": "Ada"}, 2: {}}, deltagraph.Edge(6, 1, 1, False)))
+        self.assertEqual(graph.edge_values, {5: {"source": "here"}, 6: {"key": "of networkx"}})
+        self.assertEqual((graph.messages, graph.gone()), ([(3, 1, "hello"), (3, 2, "")], [3]))
+        self.assertEqual([graph.name(1), graph.name(1, "kind"), graph.name(2), graph.name(3)], ["Ada", "1", "2", "3"])
+        plain = self.store.at(30, "s").to_dicts()
+        self.assertEqual((plain.nodes, list(plain.edges), plain.edge_values), ({1: {}, 2: {}}, [5, 6], {5: {}, 6: {}}))
+        self.assertEqual((plain.messages, plain.gone()), ([], []))
+
+    def test_dictionaries_of_what_is_no_graph(self) -> None:
+        with self.store.interval(20, 31, "sne") as added:
+            graph = added.to_dicts()
+        self.assertEqual((graph.nodes, list(graph.edges)), ({1: {"name": "Ada"}}, [5, 6]))
+        with self.store.interval(30, 31, "sne") as added:
+            graph = added.to_dicts()
+        self.assertEqual((graph.edges, graph.edge_values), ({}, {5: {"source": "here"}, 6: {"key": "of networkx"}}))
+
     def test_a_loop_is_one_edge_at_its_node(self) -> None:
         with self.store.at(30, "s") as snapshot:
             self.assertEqual(snapshot.node(1), (1, 2, {}))
