@@ -31,10 +31,13 @@ from typing import Any, Callable, Iterator, NamedTuple, Optional, Sequence, Unio
 from urllib.parse import unquote
 
 ROOT = Path(__file__).resolve().parent.parent
-sys.path.insert(0, str(ROOT / "tools"))
+sys.path[:0] = [str(ROOT / "tools"), str(ROOT / "python")]
 sys.dont_write_bytecode = True
-import program
+import deltagraph.changes
 import tutorial
+from deltagraph import Calendar, Counts, Graph, Store
+from deltagraph.words import bytes_of, text_of
+from history import History
 
 LONGEST_DETAIL = 2000  # letters
 SVG = "{http://www.w3.org/2000/svg}"
@@ -58,12 +61,12 @@ class Tests:
 
     def file(self, name: str, text: Union[str, bytes]) -> str:
         path = self.folder / name
-        path.write_bytes(program.bytes_of(text) if isinstance(text, str) else text)
+        path.write_bytes(bytes_of(text) if isinstance(text, str) else text)
         return str(path)
 
     def one_line(self, name: str, ran: subprocess.CompletedProcess[bytes], status: int, *parts: str) -> None:
         """A tool ended with a status and one line on standard error that has these parts."""
-        told = program.text_of(ran.stderr)
+        told = text_of(ran.stderr)
         fits = told.count("\n") == 1 and "Traceback" not in told and all(part in told for part in parts)
         self.check(name, ran.returncode == status and fits, (ran.returncode, told))
 
@@ -90,8 +93,8 @@ class Tests:
     def replies(self, index: str, script: bytes) -> bytes:
         return subprocess.run([self.built, index], input=script, capture_output=True, cwd=self.folder).stdout
 
-    def reader(self, index: str) -> program.Reader:
-        return program.Reader([self.built], str(self.folder / index))
+    def store(self, index: str) -> Store:
+        return Store(self.folder / index, self.built)
 
 
 # Edges, and the graph that their rows make at an instant.
@@ -142,23 +145,23 @@ def due_nodes(rows: Sequence[Row], time: int) -> set[str]:
     return {end for row in rows if row.begin <= time for end in (row.source, row.target)}
 
 
-def read_edges(graph: program.Graph) -> Counter[Any]:
+def read_edges(graph: Graph) -> Counter[Any]:
     return Counter(
-        (graph.name(edge.source, "name"), graph.name(edge.target, "name"), frozenset(edge.values.items()))
+        (graph.name(edge.source), graph.name(edge.target), frozenset(graph.edge_values[edge.id].items()))
         for edge in graph.edges.values()
     )
 
 
-def due_queries(graph: program.Graph, node: int) -> tuple[program.Counts, list[tuple[str, int, int]]]:
+def due_queries(graph: Graph, node: int) -> tuple[Counts, list[tuple[str, int, int]]]:
     """The counts of a listed graph, and the edges at a node."""
     values = [sum(len(of_node) for of_node in graph.nodes.values())]
-    values.append(sum(len(edge.values) for edge in graph.edges.values()))
+    values.append(sum(len(of_edge) for of_edge in graph.edge_values.values()))
     found = []
     for number, edge in graph.edges.items():
         if node in (edge.source, edge.target):
             side = "both" if not edge.directed else "out" if edge.source == node else "in"
             found.append((side, number, edge.target if edge.source == node else edge.source))
-    return program.Counts(len(graph.nodes), len(graph.edges), *values), found
+    return Counts(len(graph.nodes), len(graph.edges), *values), found
 
 
 def random_rows(rng: random.Random, ends: bool, weights: bool) -> list[Row]:
@@ -207,15 +210,15 @@ def convert_random(tests: Tests, seed: int) -> None:
     replies = tests.load("index", ran.stdout)
     name = f"random edges, seed {seed}"
     tests.check(name, ran.returncode == 0 and b"refused" not in replies, (ran.stderr, replies))
-    with tests.reader("index") as reader:
-        first, last = reader.range()
+    with tests.store("index") as store:
+        first, last = History(store).span()
         for time in range(first, last + 1):
-            handle = reader.at(time, "sne")
-            graph = reader.graph(handle)
+            snapshot = store.at(time, "sne")
+            graph = snapshot.to_dicts()
             asked = rng.choice(sorted(graph.nodes))
-            found = read_edges(graph), {graph.name(node, "name") for node in graph.nodes}
+            found = read_edges(graph), {graph.name(node) for node in graph.nodes}
             due = due_edges(rows, time, repeat, undirected), due_nodes(rows, time)
-            queried = reader.counts(handle), reader.neighbours(handle, asked)
+            queried = snapshot.counts(), snapshot.neighbours(asked)
             if (found, queried) != (due, due_queries(graph, asked)):
                 tests.same(f"{name}, instant {time}", (found, queried), (due, due_queries(graph, asked)))
                 return
@@ -662,7 +665,7 @@ def convert_forms(tests: Tests) -> None:
     for name, words, text, reason in WRONG:
         tests.file("edges", text)
         ran = tests.run("tools/edges2script", *words, "edges")
-        found = ran.returncode, ran.stdout, program.text_of(ran.stderr)
+        found = ran.returncode, ran.stdout, text_of(ran.stderr)
         tests.check(name, found[:2] == (2, b"") and reason in found[2], found)
     for words in ([], ["--messages"]):
         ran = tests.run("tools/edges2script", *words)
@@ -681,21 +684,21 @@ def convert_forms(tests: Tests) -> None:
 def changes_of(ran: subprocess.CompletedProcess[bytes]) -> list[str]:
     """The changes of a script, or what went wrong."""
     if ran.returncode:
-        return [program.text_of(ran.stderr)]
-    lines = program.text_of(ran.stdout).split("\n")[:-1]
+        return [text_of(ran.stderr)]
+    lines = text_of(ran.stdout).split("\n")[:-1]
     return [line for line in lines if re.match("[0-9]", line)]
 
 
 def convert_batches(tests: Tests) -> None:
-    cut = [len(batch) for batch in program.batches(((t, "x") for t in [1, 1, 2, 2, 2, 3, 4, 4]), 3)]
+    cut = [len(batch) for batch in deltagraph.changes.batches((f"{t} x" for t in [1, 1, 2, 2, 2, 3, 4, 4]), 3)]
     tests.same("batches end between instants", cut, [2, 3, 3])
-    longest, program.LARGEST_BATCH = program.LARGEST_BATCH, 2
+    longest, deltagraph.changes.LARGEST_BATCH = deltagraph.changes.LARGEST_BATCH, 2
     try:
-        list(program.batches([(1, "x")] * 3))
+        list(deltagraph.changes.batches(["1 x"] * 3, 2))
         tests.check("an instant that fits in no batch", False)
     except ValueError:
         tests.check("an instant that fits in no batch", True)
-    program.LARGEST_BATCH = longest
+    deltagraph.changes.LARGEST_BATCH = longest
     rng = random.Random(1)
     lines = [f"n{rng.randrange(30)} n{rng.randrange(30)} {i // 3}\n" for i in range(300)]
     whole = tests.run("tools/edges2script", "--batch", "50", tests.file("edges", "".join(lines)))
@@ -705,9 +708,9 @@ def convert_batches(tests: Tests) -> None:
     rest = tests.run("tools/edges2script", "--after", "49", str(tests.folder / "edges"))
     tests.load("parts", front.stdout)
     tests.replies("parts", rest.stdout)
-    with tests.reader("index") as one, tests.reader("parts") as other:
-        last = one.range()[1]
-        tests.same("what is later is appended", other.graph(other.at(last, "sne")), one.graph(one.at(last, "sne")))
+    with tests.store("index") as one, tests.store("parts") as other:
+        _, last = History(one).span()
+        tests.same("what is later is appended", other.at(last, "sne").to_dicts(), one.at(last, "sne").to_dicts())
 
 
 # Snapshots.
@@ -753,7 +756,7 @@ def snapshots(tests: Tests) -> None:
         if not mixed:
             read_by_networkx(tests, names, edges)
         dot = tests.run("tools/snapshot", "index", "5", "--format", "dot").stdout
-        found = dot_of(program.text_of(dot))
+        found = dot_of(text_of(dot))
         tests.same(f"DOT, {kind}: nodes", found[0], {str(node): text for node, text in names.items()})
         tests.same(f"DOT, {kind}: edges", found[1], due_edges_of)
         tests.same(f"DOT, {kind}: directions", dot.count(b'dir="none"'), apart)
@@ -868,9 +871,10 @@ def growth(tests: Tests) -> None:
     told = [tests.run("tools/growth", "dated.dg", *words).stdout.decode() for words in ([], ["--text"])]
     tests.same("a table counts the note of dates", told[0].split("\n")[1].split(",")[1:], ["2", "1", "3", "0"])
     tests.same("a chart does not", told[1].split("\n")[1], "n nodes = node values  e edges  * both")
-    with tests.reader("index") as reader:
-        handles = [reader.at(100, "s") for _ in range(130)]
-        tests.same("handles are given up", (handles[-1], reader.session.ask("pool").head[2]), (130, "1"))
+    with tests.store("index") as store:
+        for _ in range(130):
+            snapshot = store.at(100, "s")
+        tests.same("handles are given up", (snapshot.handle, store.pool().live), (130, 1))
     at_two = tests.run("tools/growth", "index", "--at", "first", "400").stdout.decode().split("\n")[1:3]
     tests.same("instants that are named", [line.split(",")[0] for line in at_two], ["100", "400"])
     many = tests.run("tools/growth", "index", "--columns", "s", "--at", *map(str, range(100, 400))).stdout.decode()
@@ -968,8 +972,8 @@ def due_messages(rows: Sequence[Row], time: int) -> list[tuple[str, str, str]]:
     return sorted({(row.source, row.target, row.values["subject"]) for row in rows if row.begin == time})
 
 
-def read_messages(graph: program.Graph) -> list[tuple[str, str, str]]:
-    return sorted((graph.name(source, "name"), graph.name(target, "name"), v) for source, target, v in graph.messages)
+def read_messages(graph: Graph) -> list[tuple[str, str, str]]:
+    return sorted((graph.name(source), graph.name(target), value) for source, target, value in graph.messages)
 
 
 def random_messages(tests: Tests, seed: int, count: int) -> list[Row]:
@@ -993,14 +997,14 @@ def random_messages(tests: Tests, seed: int, count: int) -> list[Row]:
 def messages_of_instants(tests: Tests, seed: int) -> None:
     """At each instant those of exactly it are listed and counted, and only where they are asked for."""
     rows = random_messages(tests, seed, [1, 6, 60][seed % 3])
-    with tests.reader("index") as reader:
-        first, last = reader.range()
+    with tests.store("index") as store:
+        first, last = History(store).span()
         for time in range(first, last + 1):
             due = due_messages(rows, time)
-            handles = [*reader.several([time, time], "snt"), int(reader.session.ask(f"at {time} sn").head[2])]
-            graphs = [reader.graph(handle) for handle in handles]
-            nodes = {graphs[0].name(node, "name") for node in graphs[0].nodes}
-            counts = [reader.counts(handle).messages for handle in handles]
+            snapshots = [*store.several([time, time], "snt"), store.at(time, "sn")]
+            graphs = [snapshot.to_dicts() for snapshot in snapshots]
+            nodes = {graphs[0].name(node) for node in graphs[0].nodes}
+            counts = [snapshot.counts().messages for snapshot in snapshots]
             found = [read_messages(graph) for graph in graphs], counts, nodes, graphs[0].edges
             due_found = [due, due, []], [len(due), len(due), None], due_nodes(rows, time), {}
             if found != due_found:
@@ -1056,7 +1060,7 @@ def messages_beside_edges(tests: Tests, kind: str) -> None:
         tests.same(f"{form} without messages, {kind}", alone, {"e10": ("1", "2", direction, {"message": "own"})})
         kinds = Counter(link[2] for link in links_of(taken(tests, 6, "st", form, "--as", "undirected")).values())
         tests.same(f"{form} with edges alone undirected, {kind}", kinds, {"undirected": 1, "directed": len(due)})
-    dot = program.text_of(taken(tests, 6, "set", "dot"))
+    dot = text_of(taken(tests, 6, "set", "dot"))
     drawn = {values.pop("id"): (*head, values) for head, values in statements_of(dot) if len(head) > 1}
     of_edge = {"dir": "none", "message": "own"} if kind == "undir" else {"message": "own"}
     due_drawn: dict[str, Any] = {"10": ("1", "->", "2", of_edge)}
@@ -1144,8 +1148,8 @@ def messages_of_page(tests: Tests, rows: Sequence[Row], times: Sequence[int]) ->
 
 def messages_in_pictures(tests: Tests) -> None:
     rows = random_messages(tests, 3, 40)
-    with tests.reader("index") as reader:
-        first, last = reader.range()
+    with tests.store("index") as store:
+        first, last = History(store).span()
     times = list(range(first, last + 1))
     messages_that_grow(tests, rows, times)
     messages_of_page(tests, rows, times)
@@ -1324,7 +1328,7 @@ def spread_in_parts(tests: Tests) -> None:
     tool: Any = importlib.util.module_from_spec(spec)
     sys.modules["edges2script"] = tool
     loader.exec_module(tool)
-    longest, program.LARGEST_BATCH = program.LARGEST_BATCH, 4
+    tool.LARGEST_BATCH = 4
     rows = [f"n{i} m{i} 7\n" for i in range(5)] + ["n0 m1 8\n"]
     words, sys.argv = sys.argv, ["edges2script", "--spread", "10", tests.file("edges", "".join(rows))]
     written = io.BytesIO()
@@ -1333,19 +1337,18 @@ def spread_in_parts(tests: Tests) -> None:
         tool.write_script(tool.words())
         script = written.getvalue()
     finally:
-        sys.argv, sys.stdout, program.LARGEST_BATCH = words, out, longest
+        sys.argv, sys.stdout = words, out
     replies = tests.load("index", script)
-    heads = [line for line in program.text_of(replies).split("\n") if line.startswith(("ok load", "ok append"))]
+    heads = [line for line in text_of(replies).split("\n") if line.startswith(("ok load", "ok append"))]
     # Five edges with two nodes each, and their texts, and a note, are 26 changes; the last two are in a batch with the
     # one of the next time.
     due = ["ok load 4 4 70"] + [f"ok append 4 {4 * i + 4} {70 + i}" for i in range(1, 6)]
     tests.same("parts of an instant", heads, due + ["ok append 3 27 80"])
-    with tests.reader("index") as reader:
-        tests.same("a time of the file", (reader.instant("@7"), reader.instant("@8")), (79, 89))
-        graph = reader.graph(reader.at(79, "sne"))
-        found = sorted(
-            (graph.name(edge.source, "name"), graph.name(edge.target, "name")) for edge in graph.edges.values()
-        )
+    with tests.store("index") as store:
+        asked = History(store)
+        tests.same("a time of the file", (asked.instant("@7"), asked.instant("@8")), (79, 89))
+        graph = store.at(79, "sne").to_dicts()
+        found = sorted((graph.name(edge.source), graph.name(edge.target)) for edge in graph.edges.values())
         tests.same("the graph behind all parts", found, [(f"n{i}", f"m{i}") for i in range(5)])
 
 
@@ -1363,10 +1366,10 @@ def dates(tests: Tests) -> None:
     texts = [text.text or "" for text in drawing.iter(f"{SVG}text")]
     years = [int(text) for text in texts if re.fullmatch("19[0-9]{2}", text)]
     tests.check("years before 1970", len(years) > 2 and 1960 <= min(years) <= max(years) <= 1975, texts)
-    with tests.reader("index") as reader:
-        clock, ends = reader.clock(), reader.range()
+    with tests.store("index") as store:
+        calendar, ends = store.told_calendar() or Calendar(), History(store).span()
         due_days = [datetime(1955, 3, 1, tzinfo=timezone.utc), datetime(1975, 6, 1, tzinfo=timezone.utc)]
-        tests.same("the index tells what instants are", [clock.moment(end) for end in ends], due_days)
+        tests.same("the index tells what instants are", [calendar.moment(end) for end in ends], due_days)
     for text in ("1975-13-01", "yesterday", "1975/06/01", "-5"):
         tests.one_line(f"no date: {text}", tests.run("tools/snapshot", "index", "--", text), 2, repr(text))
     late = tests.run("tools/snapshot", "index", "1990-01-01")
@@ -1522,8 +1525,8 @@ def written_by_networkx(tests: Tests) -> None:
     for form in ("graphml", "gexf"):
         script = tests.run("tools/edges2script", f"given.{form}")
         tests.load("index", script.stdout)
-        with tests.reader("index") as reader:
-            first, last = reader.range()
+        with tests.store("index") as store:
+            first, last = History(store).span()
         for instant in range(first, last + 1, 3):
             due = sorted((s, t, w) for s, t, begin, end, w in rows if begin <= instant < end)
             words = [str(instant), "--numbers", "--ids", "name", "--output", "then." + form, "--format", form]
@@ -1815,7 +1818,7 @@ def spells(tests: Tests) -> None:
 def spells_as_gexf(tests: Tests) -> None:
     """Nodes and edges with the spells that the changes tell, without pandas."""
     lines = ["10 +node 1", "10 +node 2", "10 nset 1 name Ana", "20 +edge 7 1 2 dir", "30 -edge 7", "40 +edge 7 2 1 undir", "50 nset 1 name A&B"]
-    tests.load("index", program.bytes_of("".join(f"{line}\n" for line in ["create 4 2 union", f"load {len(lines)}", *lines])))
+    tests.load("index", bytes_of("".join(f"{line}\n" for line in ["create 4 2 union", f"load {len(lines)}", *lines])))
     ran = tests.run("tools/spells", "index", "--output", "history.gexf")
     graph = xml.parse(tests.folder / "history.gexf").getroot()
     space = "{http://www.gexf.net/1.2draft}"
@@ -1842,7 +1845,7 @@ def rebuild(tests: Tests) -> None:
     """A rebuilt index is the one that all changes make in the order of their times."""
 
     def script(lines: Sequence[str]) -> bytes:
-        return program.bytes_of("".join(f"{line}\n" for line in ["create 4 2 union", f"load {len(lines)}", *lines]))
+        return bytes_of("".join(f"{line}\n" for line in ["create 4 2 union", f"load {len(lines)}", *lines]))
 
     tests.load("old", script(OLD_LINES))
     before = (tests.folder / "old").read_bytes()
@@ -1858,7 +1861,7 @@ def rebuild(tests: Tests) -> None:
     tests.one_line("a late change that cannot hold", tests.run("tools/rebuild", "old", wrong), 2, "late change 2", "5 frob", "form")
     tests.same("the old file is as it was", (tests.folder / "old").read_bytes(), before)
     ran = tests.run("tools/rebuild", "old", wrong, "--skip-refused", "--keep")
-    told = program.text_of(ran.stderr).split("\n")
+    told = text_of(ran.stderr).split("\n")
     tests.same("what is left out is listed", [line.count("left out") for line in told], [1, 1, 1, 0])
     tests.same("nothing held", (tests.folder / "old").read_bytes(), before)
     tests.same("the old file is kept", (tests.folder / "old.old").read_bytes(), before)
@@ -1949,7 +1952,7 @@ def bench_of_a_liar(tests: Tests, word: str) -> None:
         "deltagraph,log",
     ]
     ran = tests.run("bench/run", *words, "--folder", ".")
-    told = re.search(rf"{word}.* at instant [0-9]+: deltagraph has", program.text_of(ran.stderr))
+    told = re.search(rf"{word}.* at instant [0-9]+: deltagraph has", text_of(ran.stderr))
     tests.check(f"a difference of {word} ends the benchmark", ran.returncode == 1 and told is not None, ran)
 
 

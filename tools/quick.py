@@ -14,8 +14,9 @@ import re
 from itertools import chain, islice
 from typing import Any, Callable, Iterator, NamedTuple, Optional, Sequence
 
-import program
-from clock import Clock
+import command_line
+
+from deltagraph.calendar import Calendar
 from deltagraph.changes import LargeInstant
 from deltagraph.tables import (
     END,
@@ -52,9 +53,9 @@ class Plain(NamedTuple):
     end: Callable[[str], Optional[int]]
     directed: bool
     name: str  # the key of the nodes' texts
-    clock: Callable[[int], Clock]  # by the first time
+    clock: Callable[[int], Calendar]  # by the first time
     noted: bool
-    head: Callable[[Clock], str]  # of the script
+    head: Callable[[Calendar], str]  # of the script
     batch: int
 
 
@@ -125,7 +126,7 @@ def keys_of(plain: Plain, separator: str) -> list[str]:
         return plain.columns(next(row for row in lines if row))[1]
 
 
-def write(plain: Plain, separator: str, out: str, progress: program.Progress) -> Made:
+def write(plain: Plain, separator: str, out: str, progress: command_line.Progress) -> Made:
     """Writes the script into a file. Raises `NotPlain`, or what the long way will tell."""
     keys = keys_of(plain, separator)
     try:
@@ -177,7 +178,7 @@ def written(plain: Plain, keys: list[str], names: Names, blocks: Iterator[Column
     return Made(ties.nodes, ties.ties, changes, batches, first, last, ties.empty + empty)
 
 
-def script(plain: Callable[[], Plain], options: argparse.Namespace, out: str, progress: program.Progress) -> Optional[Made]:
+def script(plain: Callable[[], Plain], options: argparse.Namespace, out: str, progress: command_line.Progress) -> Optional[Made]:
     """Writes the script of a plain table into a file and says what is in it; nothing for the long way."""
     if not may_be_plain(options):
         return None

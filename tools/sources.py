@@ -20,7 +20,7 @@ from dataclasses import dataclass
 from itertools import chain
 from typing import IO, Callable, Iterator, NamedTuple, Optional, Sequence, cast
 
-import program
+import command_line
 
 Record = dict[str, Optional[str]]
 Numbered = Iterator[tuple[int, Record]]
@@ -45,7 +45,7 @@ class Place(NamedTuple):
         return f"{self.file}:{self.unit}{self.number}"
 
 
-class BadInput(program.WrongInput):
+class BadInput(command_line.WrongInput):
     """A file, a line of one or a column is not as it has to be."""
 
     def __init__(self, place: object, reason: object) -> None:
