@@ -7,7 +7,7 @@ facts is told. Each is a node from her first event on, with her name.
 
 The first run makes the index and loads the history, the second asks for several days, with and without an event. The
 replies are made here, from plain sets, and never by the program. What the cheapest way to a day weighs, and the sizes
-of the records, come from the model of the index in `.ci/model.py`, which knows nothing of the program either.
+of the records, come from the model of the index in `tests/lib`, which knows nothing of the program either.
 """
 import csv
 import os
@@ -16,8 +16,9 @@ import sys
 HERE = os.path.dirname(os.path.abspath(__file__))
 WOMEN = os.path.join(HERE, "..", "southern_women")
 sys.dont_write_bytecode = True
-sys.path[:0] = [WOMEN, os.path.join(HERE, "..", "..", ".ci")]
-import model
+sys.path[:0] = [WOMEN, os.path.join(HERE, "..", "..")]
+from tests.lib.history import History, NODE, NODE_ATTR, key_order
+from tests.lib.plans import IndexGraph, point
 from make import DATES, day  # of the women
 
 SIZE, ARITY, FUNCTION = 16, 4, "balanced"
@@ -41,7 +42,7 @@ class Facts:
             for a, b in pairs:
                 self.messages.add((day(event), a, b, f"event {event}"))
                 self.add(day(event), f"msg {a} {b} event {event}", "msg", a, b, self.number(f"event {event}"))
-        self.index = model.History(SIZE, ARITY, FUNCTION)
+        self.index = History(SIZE, ARITY, FUNCTION)
         self.index.add(self.events, self.new)
 
     def add(self, time, line, *event):
@@ -58,10 +59,10 @@ class Facts:
     def add_women(self, women, time):
         for woman in women:
             self.first[woman] = time
-            self.add(time, f"+node {woman}", "+", (model.NODE, woman))
+            self.add(time, f"+node {woman}", "+", (NODE, woman))
             key = self.number("name")
             value = self.number(self.names[woman])
-            self.add(time, f"nset {woman} name {self.names[woman]}", model.NODE_ATTR, woman, key, None, value)
+            self.add(time, f"nset {woman} name {self.names[woman]}", NODE_ATTR, woman, key, None, value)
 
     def span(self):
         return self.events[0][0], self.events[-1][0]
@@ -86,8 +87,8 @@ class Facts:
 
     def weight(self, times, columns):
         """What the tree of these days weighs, and what each of them weighs alone, with the messages asked for."""
-        graph = model.Graph(self.index, columns)
-        targets = [model.point(self.index, time) for time in times]
+        graph = IndexGraph(self.index, columns)
+        targets = [point(self.index, time) for time in times]
         heard = [self.index.heard([time])[1] if "t" in columns else 0 for time in times]
         singles = [graph.costs[target][0] + more for target, more in zip(targets, heard)]
         return graph.tree_weight(targets) + ("t" in columns) * self.index.heard(times)[1], singles
@@ -135,7 +136,7 @@ def second_run(facts):
         else:
             values = [f"attr name {facts.names[woman]}"] if "n" in columns else []
             ask(f"node {handle} {woman}", f"ok node {handle} {woman} yes 0", *values)
-    sizes = sorted(facts.index.sizes.items(), key=model.key_order)
+    sizes = sorted(facts.index.sizes.items(), key=key_order)
     count = len(facts.events)
     records = [f"record {key} {' '.join(map(str, of_key))}" for key, of_key in sizes]
     ask("tree", f"ok tree {SIZE} {ARITY} {FUNCTION} {count} {count // SIZE} {len(sizes)}", *records)

@@ -6,15 +6,16 @@ time, its version. A dependency is an edge to the package that it is on, from th
 installed version was made, or at which the other package was first there.
 
 The replies are made here, from plain dictionaries, and never by the program. What the cheapest way to an instant
-weighs comes from the model of the index in `.ci/model.py`, which knows nothing of the program either.
+weighs comes from the model of the index in `tests/lib`, which knows nothing of the program either.
 """
 import csv
 import os
 import sys
 from datetime import datetime, timezone
 
-sys.path.insert(0, os.path.join(os.path.dirname(os.path.abspath(__file__)), "..", "..", ".ci"))
-import model
+sys.path.insert(0, os.path.join(os.path.dirname(os.path.abspath(__file__)), "..", ".."))
+from tests.lib.history import EDGE, EDGE_ATTR, History, NODE, NODE_ATTR
+from tests.lib.plans import IndexGraph, point
 
 
 def seconds(year, month, day):
@@ -100,15 +101,15 @@ class Index:
     """The model's index of the batches so far."""
 
     def __init__(self, numbers):
-        self.numbers, self.values, self.history = numbers, {}, model.History(64, 4, "balanced")
+        self.numbers, self.values, self.history = numbers, {}, History(64, 4, "balanced")
         self.names = 0
 
     def event(self, time, what):
         if what[0] == "node":
-            return time, "+", (model.NODE, what[1])
+            return time, "+", (NODE, what[1])
         if what[0] == "edge":
-            return time, "+", (model.EDGE, *what[1:], 1)
-        kind = model.NODE_ATTR if what[0] == "nattr" else model.EDGE_ATTR
+            return time, "+", (EDGE, *what[1:], 1)
+        kind = NODE_ATTR if what[0] == "nattr" else EDGE_ATTR
         key, value = self.numbers[what[2]], self.numbers[what[3]]
         old = self.values.get((kind, what[1], key))
         self.values[kind, what[1], key] = value
@@ -123,7 +124,7 @@ class Index:
 
     def weight(self, time, columns):
         """What the cheapest way to the instant weighs."""
-        return model.Graph(self.history, columns).costs[model.point(self.history, time)][0]
+        return IndexGraph(self.history, columns).costs[point(self.history, time)][0]
 
 
 def write(name, lines):

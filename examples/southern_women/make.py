@@ -8,15 +8,16 @@ attendance (`davis_southern_women_graph`). The figure has no year; days are coun
 
 The first run makes the index and loads the history, the second asks for it as of several days. The
 replies are made here, from plain sets, and never by the program. What the cheapest way to a day weighs comes
-from the model of the index in `.ci/model.py`, which knows nothing of the program either.
+from the model of the index in `tests/lib`, which knows nothing of the program either.
 """
 import csv
 import os
 import sys
 from datetime import date
 
-sys.path.insert(0, os.path.join(os.path.dirname(os.path.abspath(__file__)), "..", "..", ".ci"))
-import model
+sys.path.insert(0, os.path.join(os.path.dirname(os.path.abspath(__file__)), "..", ".."))
+from tests.lib.history import EDGE, History, NODE
+from tests.lib.plans import IndexGraph, point
 
 DATES = {  # event: month, day
     1: (6, 27), 2: (3, 2), 3: (4, 12), 4: (9, 26), 5: (2, 25), 6: (5, 19), 7: (3, 15),
@@ -51,9 +52,9 @@ def changes(attendance, women):
 
 def index_of(batch):
     """The model's index of the batch."""
-    history, events = model.History(16, 4, "intersection"), []
+    history, events = History(16, 4, "intersection"), []
     for t, _, what in batch:
-        element = (model.NODE, what[1]) if what[0] == "node" else (model.EDGE, *what[1:], 0)
+        element = (NODE, what[1]) if what[0] == "node" else (EDGE, *what[1:], 0)
         events.append((t, "+", element))
     history.add(events, [])
     return history
@@ -61,8 +62,8 @@ def index_of(batch):
 
 def weight(history, times, columns):
     """What the tree of these days weighs, and what the single plan of each of them weighs."""
-    graph = model.Graph(history, columns)
-    targets = [model.point(history, t) for t in times]
+    graph = IndexGraph(history, columns)
+    targets = [point(history, t) for t in times]
     return graph.tree_weight(targets), [graph.costs[target][0] for target in targets]
 
 

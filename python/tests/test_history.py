@@ -13,7 +13,7 @@ from deltagraph.words import LARGEST_ID
 
 from .support import Case, Model
 
-EXAMPLES = Path(__file__).resolve().parents[2] / "examples"
+FIRST_FORM = Path(__file__).resolve().parents[2] / "tests" / "transcripts" / "first_form"
 
 BY_HAND = [
     "10 +node 1",
@@ -105,7 +105,7 @@ class HistoryTests(Case):
             with self.subTest(pick):
                 self.as_the_model(pick)
         first = self.folder / "first.dg"
-        example = next((EXAMPLES / "first_form").glob("*.dg"))
+        example = next(FIRST_FORM.glob("*.dg"))
         shutil.copy(example, first)
         with self.open(first) as store:
             before = list(store.history().lines())

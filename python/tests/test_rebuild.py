@@ -17,7 +17,7 @@ from deltagraph.words import bytes_of, text_of
 
 from .support import Case, Model, program
 
-EXAMPLES = Path(__file__).resolve().parents[2] / "examples"
+FIRST_FORM = Path(__file__).resolve().parents[2] / "tests" / "transcripts" / "first_form"
 
 BY_HAND = [
     "10 +node 1",
@@ -102,7 +102,7 @@ class ScriptTests(WithDump):
     def test_files_of_the_first_form(self) -> None:
         """They come back in the second form: the same batches, and the same graphs."""
         first, again = self.folder / "first.dg", self.folder / "again.dg"
-        shutil.copy(next((EXAMPLES / "first_form").glob("*.dg")), first)
+        shutil.copy(next(FIRST_FORM.glob("*.dg")), first)
         for upgraded in (False, True):
             with self.open(first) as store:
                 span = store.span()

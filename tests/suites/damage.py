@@ -1,10 +1,10 @@
 """Any bytes as an index file: which are refused at the start, which are blank, and what is answered over the others.
 
-  python3 .ci/damage.py PROGRAM FOLDER [SEED COUNT]
+  tests/run damage -- SEED COUNT
 
 The file of five changes is cut at each length, and each of its bytes is changed; and files in use are damaged in 2,000
 random ways, or in COUNT ways of another SEED, and their lists are made longer than their events. What is due of each is
-judged by .ci/judge.py, which knows nothing of the program: whether the file is no index, is refused by its header or a
+judged by lib/judge.py, which knows nothing of the program: whether the file is no index, is refused by its header or a
 directory, whether a start goes on with it, and whether its records are what its own events determine. A run over it ends with that refusal of the start, or answers each
 command, in the grammar of replies; `verify` says exactly what is due; a column that is named as damaged is in no spelling;
 and no byte in use is written but the last gate. With `--checked` a run is refused exactly where the file is not sound.
@@ -21,9 +21,11 @@ import random
 import re
 import sys
 
-import judge
-import model
-from runs import CREATE, FIVE, HEADER, Program, Tests, in_use, lines
+from tests.lib import judge
+from tests.lib.changes import Changes
+from tests.lib.history import COLUMNS, History, NODE, NODES, NODE_ATTR, added, additions, cut, effect, holding, key_order, listing as lines_of, messages_at, neighbours, nodes_with, replay
+from tests.lib.plans import IndexGraph, point
+from tests.lib.runs import CREATE, FIVE, HEADER, Program, Tests, in_use, lines
 
 SEED, DAMAGES = 20, 2000
 ADDED = 24  # changes of the last batch, which completes nodes of the small indexes
@@ -120,7 +122,7 @@ class Model:
         """The graph of the index, with the handles that serve for these columns."""
         usable = tuple((handle, node) for handle, (node, held) in sorted(self.bases.items()) if set(columns) - {"t"} <= set(held))
         if (columns, usable) not in self.graphs:
-            self.graphs[columns, usable] = model.Graph(self.history, columns, bases=usable)
+            self.graphs[columns, usable] = IndexGraph(self.history, columns, bases=usable)
         return self.graphs[columns, usable]
 
     def give(self, graph, columns):
@@ -138,8 +140,8 @@ class Model:
         return [f"refused 7 out-of-range {ends}"]
 
     def graph_at(self, time, columns):
-        graph = model.cut(model.replay(e for e in self.history.events if e[0] <= time), columns)
-        return graph | model.messages_at(self.history.events, time) if "t" in columns else graph
+        graph = cut(replay(e for e in self.history.events if e[0] <= time), columns)
+        return graph | messages_at(self.history.events, time) if "t" in columns else graph
 
     def reply(self, command):
         line, *changes = command.split("\n")
@@ -160,7 +162,7 @@ class Model:
 
     def tree(self):
         history, sizes = self.history, self.history.sizes
-        records = [f"record {key} {' '.join(map(str, four))}" for key, four in sorted(sizes.items(), key=model.key_order)]
+        records = [f"record {key} {' '.join(map(str, four))}" for key, four in sorted(sizes.items(), key=key_order)]
         events = len(history.events)
         head = f"{history.size} {history.arity} {history.function} {events} {events // history.size} {len(sizes)}"
         return [f"ok tree {head}", *records]
@@ -168,14 +170,14 @@ class Model:
     def at(self, time, columns):
         if not self.is_in_range(int(time)):
             return self.out_of_range()
-        weight = self.planned(columns).costs[model.point(self.history, int(time))][0] + self.heard(columns, [int(time)])
+        weight = self.planned(columns).costs[point(self.history, int(time))][0] + self.heard(columns, [int(time)])
         return [f"ok at {self.give(self.graph_at(int(time), columns), columns)} {weight}"]
 
     def several(self, columns, *times):
         times = [int(time) for time in times]
         if not all(map(self.is_in_range, times)):
             return self.out_of_range()
-        graph, targets = self.planned(columns), [model.point(self.history, time) for time in times]
+        graph, targets = self.planned(columns), [point(self.history, time) for time in times]
         singles = [graph.costs[target][0] + self.heard(columns, [time]) for target, time in zip(targets, times)]
         given = [self.give(self.graph_at(time, columns), columns) for time in times]
         rows = [f"handle {handle} {time} {single}" for handle, time, single in zip(given, times, singles)]
@@ -186,9 +188,9 @@ class Model:
         times = list(dict.fromkeys(word for word in words if isinstance(word, int)))
         if not all(map(self.is_in_range, times)):
             return self.out_of_range()
-        weight = self.planned(columns).tree_weight([model.point(self.history, time) for time in times])
+        weight = self.planned(columns).tree_weight([point(self.history, time) for time in times])
         graphs = {time: self.graph_at(time, columns) for time in times}
-        handle = self.give(model.holding(words, graphs), columns)
+        handle = self.give(holding(words, graphs), columns)
         self.chosen.add(handle)
         return [f"ok expression {handle} {weight}"]
 
@@ -196,7 +198,7 @@ class Model:
         begin, end, last = int(begin), int(end), self.history.events[-1][0] if self.history.events else None
         if not self.is_in_range(begin) or not (self.is_in_range(end) or end == last + 1):
             return self.out_of_range()
-        handle = self.give(model.added(self.history.events, begin, end, columns), columns)
+        handle = self.give(added(self.history.events, begin, end, columns), columns)
         self.chosen.add(handle)
         return [f"ok interval {handle} {self.history.bytes_of_lists(self.history.lists_between(begin, end), columns)}"]
 
@@ -209,16 +211,16 @@ class Model:
         if number is None:
             return ["refused 23 unknown-key"]
         self.keys.append(number)
-        weight = sum(self.history.sizes[name][model.NODES] for name in self.history.all_lists())
-        return [f"ok index {model.additions(self.history.events, number)} {weight}"]
+        weight = sum(self.history.sizes[name][NODES] for name in self.history.all_lists())
+        return [f"ok index {additions(self.history.events, number)} {weight}"]
 
     def find(self, time, key, value):
         if self.first is None or not self.first <= int(time) <= self.last:
             return [f"refused 7 out-of-range {'empty' if self.first is None else f'{self.first} {self.last}'}"]
         if self.number(key) is None or self.number(key) not in self.keys:
             return ["refused 24 not-indexed"]
-        graph = model.replay(event for event in self.history.events if event[0] <= int(time))
-        found = model.nodes_with(graph, self.number(key), self.number(value))
+        graph = replay(event for event in self.history.events if event[0] <= int(time))
+        found = nodes_with(graph, self.number(key), self.number(value))
         return [f"ok find {len(found)}", *(f"node {node}" for node in found)]
 
     def heard(self, columns, times):
@@ -228,7 +230,7 @@ class Model:
     def plan(self, time, columns):
         if not self.is_in_range(int(time)):
             return self.out_of_range()
-        rows, weight, steps = self.planned(columns).plan(model.point(self.history, int(time)))
+        rows, weight, steps = self.planned(columns).plan(point(self.history, int(time)))
         return [f"ok plan {weight} {steps}", *rows]
 
     def materialise(self, kind, *words):
@@ -237,9 +239,9 @@ class Model:
         if not 1 <= index * self.history.arity**height <= len(self.history.events) // self.history.size or index == 0:
             return ["refused 11 unknown-node"]
         node = f"inner {height} {index}" if height else f"leaf {index}"
-        weight = model.Graph(self.history, columns, memory=False).costs[node][0]
+        weight = IndexGraph(self.history, columns, memory=False).costs[node][0]
         self.bases[self.next] = node, columns
-        return [f"ok materialise {self.give(model.cut(self.history.node(height, index, {}), columns), columns)} {weight}"]
+        return [f"ok materialise {self.give(cut(self.history.node(height, index, {}), columns), columns)} {weight}"]
 
     def list(self, handle):
         graph = self.handles.get(int(handle))
@@ -260,11 +262,11 @@ class Model:
             return [f"refused 8 unknown-handle {handle}"]
         if int(handle) in self.chosen:
             return [f"refused 17 not-an-overlay {handle}"]
-        if (model.NODE, number) not in graph:
+        if (NODE, number) not in graph:
             return [f"ok node {handle} {node} no"]
-        found = sorted(x for x in graph if x[:2] == (model.NODE_ATTR, number))
+        found = sorted(x for x in graph if x[:2] == (NODE_ATTR, number))
         values = [f"attr {text(self.names[key])} {text(self.names[value])}" for _, _, key, value in found]
-        return [f"ok node {handle} {node} yes {len(model.neighbours(graph, number))}", *values]
+        return [f"ok node {handle} {node} yes {len(neighbours(graph, number))}", *values]
 
     def neighbours(self, handle, node):
         graph = self.handles.get(int(handle))
@@ -272,11 +274,11 @@ class Model:
             return [f"refused 8 unknown-handle {handle}"]
         if int(handle) in self.chosen:
             return [f"refused 17 not-an-overlay {handle}"]
-        rows = model.neighbours(graph, int(node))
+        rows = neighbours(graph, int(node))
         return [f"ok neighbours {handle} {node} {len(rows)}", *rows]
 
     def held(self):
-        return len(set.union(model.replay(self.history.events), *self.handles.values()))
+        return len(set.union(replay(self.history.events), *self.handles.values()))
 
     def pool(self):
         return [f"ok pool {len(self.handles)} {self.held()}"]
@@ -326,14 +328,14 @@ class Lists:
         for number in self.lists:
             row = self.opened.rows[f"list {number}"]
             if begin < end and row.ends[0] < end and begin <= row.ends[1]:
-                for column in (column for column in model.COLUMNS if judge.LETTERS[column] in columns):
+                for column in (column for column in COLUMNS if judge.LETTERS[column] in columns):
                     events = self.events_of(number, column)
                     if events is None:
                         return [f"refused 15 damaged list {number} {judge.LETTERS[column]}"]
                     found += events
                     weight += row.sizes[column]
         handle = reply[0].split(" ")[2]
-        elements = model.added(found, begin, end, columns)
+        elements = added(found, begin, end, columns)
         self.handles[handle] = [f"ok list {handle} {len(elements)}", *listing(elements, self.names)]
         return [f"ok interval {handle} {weight}"]
 
@@ -343,13 +345,13 @@ class Lists:
             return ["refused 23 unknown-key"]
         found = []
         for at in self.lists:
-            events, (first, last) = self.events_of(at, model.NODES), self.opened.rows[f"list {at}"].ends
+            events, (first, last) = self.events_of(at, NODES), self.opened.rows[f"list {at}"].ends
             if events is None or not all(first <= event[0] <= last for event in events):
                 return [f"refused 15 damaged list {at} n"]
             found += events
-        weight = sum(self.opened.rows[f"list {at}"].sizes[model.NODES] for at in self.lists)
+        weight = sum(self.opened.rows[f"list {at}"].sizes[NODES] for at in self.lists)
         self.indexes[key] = found + self.recent
-        return [f"ok index {model.additions(self.indexes[key], number)} {weight}"]
+        return [f"ok index {additions(self.indexes[key], number)} {weight}"]
 
     def find(self, time, key, value, reply):
         if not self.ends or not self.ends[0] <= int(time) <= self.ends[1]:
@@ -359,11 +361,11 @@ class Lists:
         graph = set()
         for event in self.indexes[key]:
             if event[0] <= int(time):
-                out, into = model.effect(event)
+                out, into = effect(event)
                 graph.discard(out)
                 graph.add(into)
         number, of = (self.names.index(name.encode()) if name.encode() in self.names else None for name in (key, value))
-        found = model.nodes_with(graph - {None}, number, of)
+        found = nodes_with(graph - {None}, number, of)
         return [f"ok find {len(found)}", *(f"node {node}" for node in found)]
 
 
@@ -383,7 +385,7 @@ def text(name):
 
 def listing(graph, names):
     """The lines of a graph's elements, where a name may be any bytes."""
-    return model.listing(graph, {number: Name(name) for number, name in enumerate(names)})
+    return lines_of(graph, {number: Name(name) for number, name in enumerate(names)})
 
 
 class Name:
@@ -515,7 +517,7 @@ class File:
     def __init__(self, seed, parameters, batches, behind=b"", upgrade=None):
         """With `upgrade` a marker stands before the batch of that number."""
         rng = random.Random(seed)
-        history, changes, at = model.History(*parameters), model.Changes(rng), []
+        history, changes, at = History(*parameters), Changes(rng), []
         for batch, size in enumerate(batches):
             changes.time += 1 if batch else 0
             names = []

@@ -1,11 +1,8 @@
-# What the tests over real files share: the program, a folder of their own, and what is counted. Each of them reads this
-# file, and ends with `tell NAME`.
-cd "$(dirname "$0")/.." || exit 2
-top=$PWD
-program=${DELTAGRAPH:-$PWD/crates/deltagraph/out/deltagraph}
-files=$(mktemp -d) || exit 2
-trap 'rm -rf "$files"' EXIT
-cd "$files" || exit 2
+# What the suites in bash share: the program, a folder, and what is counted. Each of them reads this file, and ends with
+# `tell NAME`. They are run as tests/run runs them, with a program and a folder of their own.
+top=$(cd "$(dirname "${BASH_SOURCE[0]}")/../.." && pwd)
+program=$1
+files=$2
 
 passed=0
 failed=0

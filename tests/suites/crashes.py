@@ -1,7 +1,5 @@
 """What a crash may leave of an index file, and what the program makes of it.
 
-  python3 .ci/crashes.py PROGRAM FOLDER
-
 A run of the program is traced by strace. Its writes and syncs are replayed, and for each moment of the run images are
 made that a crash then may leave: since the last sync each written range may hold any bytes, all else is as it was, and
 the length lies between the length at that sync and the greatest length since. Each image is opened by the program. It
@@ -22,8 +20,9 @@ import subprocess
 import sys
 import time
 
-import model
-from runs import CREATE, FIRST_FORM, FIVE, HEADER, Program, Tests, content, in_use, is_blank, lines, put
+from tests.lib.changes import Changes
+from tests.lib.history import FUNCTIONS, History
+from tests.lib.runs import CREATE, FIRST_FORM, FIVE, HEADER, Program, Tests, content, in_use, is_blank, lines, put
 
 CALL = re.compile(rb"^(?:\d+ +)?(\w+)\((.*)\) += (-?\d+)")
 HEX = re.compile(rb'"((?:\\x[0-9a-f]{2})*)"')
@@ -276,8 +275,8 @@ class Crashes:
 def histories(seed, sizes):
     """A random history in batches of these sizes: the commands that make it, and the file after each of them."""
     rng = random.Random(seed)
-    parameters = rng.choice([2, 3, 4]), rng.choice([2, 3]), rng.choice(model.FUNCTIONS)
-    history, changes = model.History(*parameters), model.Changes(rng)
+    parameters = rng.choice([2, 3, 4]), rng.choice([2, 3]), rng.choice(FUNCTIONS)
+    history, changes = History(*parameters), Changes(rng)
     commands, states = [f"create {' '.join(map(str, parameters))}"], [b"", in_use(history.file())]
     for batch, size in enumerate(sizes):
         changes.time += 1 if batch else 0

@@ -1,7 +1,5 @@
 """One file and several programs: one of them writes at a time, any number read, and what was acknowledged is there. And a
 file that may not be written, that fails, or that is changed under a run: which status it is, and which reason is said.
-
-  python3 .ci/sharing.py PROGRAM FOLDER
 """
 
 import os
@@ -18,7 +16,7 @@ from pathlib import Path
 
 NOBODY = 65534
 # A file of the first form with five changes, which an earlier program made.
-FIRST_FORM = Path(__file__).resolve().parent.parent / "examples" / "first_form" / "five.dg"
+FIRST_FORM = Path(__file__).resolve().parent.parent / "transcripts" / "first_form" / "five.dg"
 FIVE = "create 2 2 intersection\nload 5\n10 +node 1\n20 +node 2\n30 +edge 5 1 2 dir\n40 nset 1 name A\n50 -edge 5\n"
 HISTORY = "create 2 2 intersection\nload 3\n10 +node 1\n20 +node 2\n30 +edge 5 1 2 dir\n"
 FAILED = "the index file failed"

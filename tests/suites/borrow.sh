@@ -2,10 +2,10 @@
 # While a view of the pool is held, no call that changes the pool compiles: a crate that sweeps under a view is refused
 # at that call.
 set -u
-cd "$(dirname "$0")/.." || exit 2
+. "$(dirname "$0")/../lib/checks.sh"
+cd "$top" || exit 2
 
-copy=$(mktemp -d) || exit 2
-trap 'rm -rf "$copy"' EXIT
+copy=$files
 below='dg_text dg_graph dg_query dg_event dg_set dg_delta dg_arena dg_cells dg_pool dg_view'
 mkdir -p "$copy/crates/view_held/src"
 for crate in $below; do
@@ -42,9 +42,9 @@ END
 
 said=$(cd "$copy/crates/view_held" && rt check --jobs 1 2>&1)
 if [ $? -ne 0 ] && grep -q '^src/lib.rt:14:5: error\[borrow-e0502\]' <<< "$said"; then
-    echo 'borrow: 1 passed, 0 failed'
+    passed=1
 else
     printf '%s\n' "$said" | tail -20
-    echo 'borrow: 0 passed, 1 failed'
-    exit 1
+    failed=1
 fi
+tell borrow

@@ -15,7 +15,7 @@ CREATE = "create 2 2 intersection"
 FIVE = "load 5\n10 +node 1\n20 +node 2\n30 +edge 5 1 2 dir\n40 nset 1 name A\n50 -edge 5"
 
 # A file of the first form with the same changes, which an earlier program made: 496 bytes.
-FIRST_FORM = os.path.join(os.path.dirname(__file__), "..", "examples", "first_form", "five.dg")
+FIRST_FORM = os.path.join(os.path.dirname(os.path.dirname(__file__)), "transcripts", "first_form", "five.dg")
 
 
 class Tests:

@@ -1,5 +1,5 @@
 #!/usr/bin/env bash
-# Runs the cases of examples/rules: in each, what a script is and what is written, line by line.
+# Runs the cases of tests/transcripts/rules: in each, what a script is and what is written, line by line.
 #
 #   == TITLE      a case begins, over no index file
 #   -- TITLE      another run over the same file
@@ -10,13 +10,8 @@
 #
 # All other lines are replies, without the line `end` of each. `#` begins a comment.
 set -u
-cd "$(dirname "$0")/.." || exit 2
-program=${DELTAGRAPH:-$PWD/crates/deltagraph/out/deltagraph}
-files=$(mktemp -d) || exit 2
-trap 'rm -rf "$files"' EXIT
-
-passed=0
-failed=0
+. "$(dirname "$0")/../lib/checks.sh"
+cd "$top" || exit 2
 title=
 
 begin() {
@@ -42,7 +37,7 @@ finish() {
     title=
 }
 
-for transcript in examples/rules/*.transcript; do
+for transcript in tests/transcripts/rules/*.transcript; do
     while IFS= read -r line; do
         case $line in
             '== '*)
@@ -71,5 +66,4 @@ for transcript in examples/rules/*.transcript; do
     finish
 done
 
-echo "transcripts: $passed passed, $failed failed"
-[ "$failed" -eq 0 ]
+tell transcripts

@@ -1,7 +1,8 @@
 #!/usr/bin/env bash
 # The program over real files: which it takes, which it refuses, and what a stop leaves.
 set -u
-. "$(dirname "$0")/checks"
+. "$(dirname "$0")/../lib/checks.sh"
+cd "$files" || exit 2
 
 history='create 2 2 intersection\nload 3\n10 +node 1\n20 +node 2\n30 +edge 5 1 2 dir\n'
 made='ok create\nok load 3 3 30'

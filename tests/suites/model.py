@@ -2,7 +2,7 @@
 as docs/FORMATS.md has it, in its two forms, with upgrades between them. Every run's replies and file are compared with the
 model's, byte for byte. And files with one damaged column: which start is refused, which command names the damage, and which one does not meet it.
 
-  python3 .ci/model.py PROGRAM FOLDER FIRST LAST     histories with the seeds from FIRST to before LAST
+  tests/run model -- FIRST LAST     histories with the seeds from FIRST to before LAST
 """
 
 import os
@@ -10,418 +10,40 @@ import random
 import subprocess
 import sys
 
-NODE, EDGE, NODE_ATTR, EDGE_ATTR, MESSAGE = range(5)
-STRUCTURE, NODES, EDGES, MESSAGES = range(4)
-COLUMNS = range(4)
-LETTERS = "snet"
-COLUMN_OF = {NODE: STRUCTURE, EDGE: STRUCTURE, NODE_ATTR: NODES, EDGE_ATTR: EDGES, MESSAGE: MESSAGES}
+from tests.lib.changes import Changes
+from tests.lib.history import (
+    COLUMNS,
+    EDGE,
+    EDGE_ATTR,
+    FUNCTIONS,
+    History,
+    LETTERS,
+    MESSAGE,
+    MESSAGES,
+    NODE,
+    NODES,
+    NODE_ATTR,
+    added,
+    additions,
+    attributes,
+    cut,
+    holding,
+    is_key,
+    key_order,
+    listing,
+    messages_at,
+    neighbours,
+    nodes_with,
+    number,
+    replay,
+)
+from tests.lib.plans import IndexGraph, older_children, point
+
 ASKED = ["s", "sn", "se", "sne"]  # the columns of graphs that a command may ask for
-FUNCTIONS = ["intersection", "union", "balanced"]
 SHARES = [0, 1, 64, 128, 200, 255, 256]  # of 256, of a skewed function
 MOST_INDEXES = 16
 UNKNOWN = b"hello"  # a text that no batch brings, but for batches that are refused
-
-
-def number(n, size):
-    return n.to_bytes(size, "big")
-
-
-# Elements are tuples in element order: a kind, and then the fields.
-
-
-def fields(element):
-    kind, *rest = element
-    if kind == NODE:
-        return number(rest[0], 8)
-    if kind == EDGE:
-        return b"".join(number(n, 8) for n in rest[:3]) + number(rest[3], 1)
-    return number(rest[0], 8) + number(rest[1], 4) + number(rest[2], 4)
-
-
-def share_of(function):
-    """So many of 256 come from the last child."""
-    return 128 if function == "balanced" else int(function.split(" ")[1])
-
-
-def is_of_last(element, share):
-    """Whether a skewed node takes the element from its last child."""
-    value = 14695981039346656037
-    for byte in bytes([element[0] + 1]) + fields(element):
-        value = ((value ^ byte) * 1099511628211) % 2**64
-    return value >> 56 < share
-
-
-def combined(function, sets):
-    if function == "intersection":
-        return set.intersection(*sets)
-    if function == "union":
-        return set.union(*sets)
-    first, last, share = sets[0], sets[-1], share_of(function)
-    return {x for x in first | last if x in (last if is_of_last(x, share) else first)}
-
-
-# Events are (time, sign, element) for nodes and edges, (time, kind, id, key, old, new) for values, and (time, "msg", source,
-# target, value) for messages.
-
-
-def effect(event):
-    """The element that goes out and the one that comes in."""
-    if event[1] == "+":
-        return None, event[2]
-    if event[1] == "-":
-        return event[2], None
-    if event[1] == "msg":
-        return None, None
-    _, kind, owner, key, old, new = event
-    if old == new:
-        return None, None
-    out = None if old is None else (kind, owner, key, old)
-    return out, None if new is None else (kind, owner, key, new)
-
-
-def replay(events):
-    graph = set()
-    for event in events:
-        out, into = effect(event)
-        if out is not None:
-            graph.remove(out)
-        if into is not None:
-            assert into not in graph
-            graph.add(into)
-    return graph
-
-
-def put_in(event):
-    """The element that comes in, or the message that is sent."""
-    return (MESSAGE, *event[2:]) if event[1] == "msg" else effect(event)[1]
-
-
-def added(events, begin, end, columns):
-    """What the events from an instant on and before another put in, in these columns."""
-    found = (put_in(event) for event in events if begin <= event[0] < end)
-    return {x for x in found if x is not None and LETTERS[COLUMN_OF[x[0]]] in columns}
-
-
-def nodes_with(graph, key, value):
-    """The nodes of a graph that have this value."""
-    return sorted(x[1] for x in graph if x[0] == NODE_ATTR and x[2:] == (key, value))
-
-
-def additions(events, key):
-    """How many events put in a value of a key at a node."""
-    return sum(x is not None and x[0] == NODE_ATTR and x[2] == key for x in map(put_in, events))
-
-
-def messages_at(events, time):
-    """The messages of exactly an instant."""
-    return {(MESSAGE, *event[2:]) for event in events if event[0] == time and event[1] == "msg"}
-
-
-def column_of(event):
-    if event[1] == "msg":
-        return MESSAGES
-    return COLUMN_OF[event[2][0] if event[1] in ("+", "-") else event[1]]
-
-
-def event_column(events, column):
-    parts = []
-    for at, event in enumerate(events):
-        if column_of(event) != column:
-            continue
-        head = number(at, 2) + number(event[0], 8)
-        if event[1] == "msg":
-            parts.append(head + number(event[2], 8) + number(event[3], 8) + number(event[4], 4))
-        elif event[1] in ("+", "-"):
-            kind = event[2][0]
-            code = 1 + 2 * kind + (event[1] == "-")
-            parts.append(head + bytes([code]) + fields(event[2]))
-        else:
-            _, _, owner, key, old, new = event
-            values = [0 if value is None else value + 1 for value in (old, new)]
-            parts.append(head + number(owner, 8) + b"".join(number(n, 4) for n in [key] + values))
-    return number(len(parts), 4) + b"".join(parts) if parts else b""
-
-
-def delta_column(before, after, column):
-    def spelled(elements):
-        chosen = sorted(x for x in elements if COLUMN_OF[x[0]] == column)
-        code = column == STRUCTURE
-        return len(chosen), b"".join((bytes([x[0] + 1]) if code else b"") + fields(x) for x in chosen)
-
-    out, out_bytes = spelled(before - after)
-    into, into_bytes = spelled(after - before)
-    return number(out, 4) + out_bytes + number(into, 4) + into_bytes if out + into else b""
-
-
-class History:
-    def __init__(self, size, arity, function, is_wide=True):
-        self.size, self.arity, self.function = size, arity, function
-        self.is_wide = is_wide  # whether the next segment has the second form
-        self.events, self.segments = [], 0
-        self.sizes = {}  # the bytes of the columns of each list, top and down, by its key
-        self.places = {}  # where the columns of each record stand in the file, by its key
-        self.recent = []  # the keys of the recent pieces
-        is_skewed = function not in FUNCTIONS
-        code = bytes([4 if is_skewed else FUNCTIONS.index(function) + 1])
-        if is_wide:
-            share = share_of(function) if is_skewed else 0
-            self.text = b"\1DGRAPH2" + number(size, 4) + number(share, 2) + number(arity, 2) + code
-        else:
-            self.text = b"\1DGRAPH1" + number(size, 4) + number(arity, 4) + code
-
-    def file(self):
-        return self.text + b"\0"
-
-    def upgrade(self):
-        """Adds the marker behind which segments have the second form."""
-        self.text += b"\1" + number(8, 8) + number(0, 8) + number(0, 8)
-        self.is_wide = True
-
-    def heard(self, times):
-        """The lists between whose times one of the instants lies, and the bytes of their columns of messages."""
-        keys = []
-        for i in range(len(self.events) // self.size):
-            of_list = self.events[i * self.size : (i + 1) * self.size]
-            if any(of_list[0][0] <= time <= of_list[-1][0] for time in times):
-                keys.append(f"list {i}")
-        return keys, sum(self.sizes[key][MESSAGES] for key in keys)
-
-    def lists_between(self, begin, end):
-        """The lists that begin before the end and do not end before the beginning, where the end is the later one."""
-        times = [event[0] for event in self.events]
-        ends = [(times[i * self.size], times[(i + 1) * self.size - 1]) for i in range(len(times) // self.size)]
-        return [f"list {i}" for i, (first, last) in enumerate(ends) if begin < end and first < end and begin <= last]
-
-    def bytes_of_lists(self, keys, columns):
-        """The bytes of the asked columns of these lists."""
-        return sum(self.sizes[key][column] for key in keys for column in COLUMNS if LETTERS[column] in columns)
-
-    def all_lists(self):
-        return [f"list {i}" for i in range(len(self.events) // self.size)]
-
-    def node(self, height, index, made):
-        """The set of a leaf, of height 0, or of an interior node."""
-        if (height, index) not in made:
-            if height == 0:
-                made[0, index] = replay(self.events[: index * self.size])
-            else:
-                children = [self.node(height - 1, c, made) for c in self.children(index)]
-                made[height, index] = combined(self.function, children)
-        return made[height, index]
-
-    def children(self, index):
-        return range((index - 1) * self.arity + 1, index * self.arity + 1)
-
-    def add(self, events, names):
-        """Adds the segment of a batch."""
-        before = len(self.events)
-        self.events += events
-        after = len(self.events)
-        leaves, leaves_after = before // self.size, after // self.size
-        columns, made, keys = [], {}, []
-
-        def row(four, key):
-            assert self.is_wide or not four[MESSAGES]
-            columns.extend(four)
-            keys.append(key)
-            if not key.startswith("piece"):
-                self.sizes[key] = [len(c) for c in four]
-            return b"".join(number(len(c), 8) for c in (four if self.is_wide else four[:MESSAGES]))
-
-        lists = []
-        for i in range(leaves, leaves_after):
-            of_list = self.events[i * self.size : (i + 1) * self.size]
-            ends = number(of_list[0][0], 8) + number(of_list[-1][0], 8)
-            lists.append(ends + row([event_column(of_list, c) for c in COLUMNS], f"list {i}"))
-        deltas = []
-        height = 1
-        while self.arity**height <= leaves_after:
-            for index in range(leaves // self.arity**height + 1, leaves_after // self.arity**height + 1):
-                graph = self.node(height, index, made)
-                steps = [(f"top {height}", set(), graph)] if index == 1 else []
-                steps += [(f"down {height} {c}", graph, self.node(height - 1, c, made)) for c in self.children(index)]
-                deltas += [row([delta_column(a, b, c) for c in COLUMNS], key) for key, a, b in steps]
-            height += 1
-        behind = self.events[max(before, leaves_after * self.size) :]
-        segment = f"piece {self.segments}"
-        piece = row([event_column(behind, c) for c in COLUMNS], segment)
-        directory = number(len(events), 8) + number(events[0][0], 8) + number(events[-1][0], 8)
-        directory += number(len(names), 4) + b"".join(number(len(n), 2) + n for n in names)
-        directory += number(len(lists), 4) + b"".join(lists)
-        directory += number(len(deltas), 4) + b"".join(deltas) + piece
-        blobs = b"".join(columns)
-        offset = len(self.text) + 17 + len(directory)
-        for i, column in enumerate(columns):
-            self.places.setdefault(keys[i // len(COLUMNS)], []).append((offset, len(column)))
-            offset += len(column)
-        self.recent = ([] if leaves_after > leaves else self.recent) + [segment]
-        self.segments += 1
-        self.text += b"\1" + number(len(directory), 8) + number(len(blobs), 8) + directory + blobs
-
-
-def is_number(word, most):
-    return word.isdigit() and word == str(int(word)) and int(word) <= most
-
-
-class Graph:
-    """The graph of an index, for the asked columns: nodes in their order, and edges (from, to, weight). The bases are
-    nodes that handles hold, each with its handle."""
-
-    def __init__(self, history, columns, memory=True, bases=()):
-        leaves, arity = len(history.events) // history.size, history.arity
-
-        def leaf(j):
-            return f"leaf {j}" if j else "root"
-
-        def weight(key):
-            structure, nodes, edges, _ = history.sizes[key]
-            return structure + ("n" in columns) * nodes + ("e" in columns) * edges
-
-        heights = [h for h in range(1, 40) if arity**h <= leaves]
-        memory = memory and bool(history.events)
-        self.nodes = ["root"] + (["now", "recent"] if memory else [])
-        self.nodes += [f"leaf {j + 1}" for j in range(leaves)] + [f"list {i}" for i in range(leaves)]
-        self.nodes += [f"inner {h} {j + 1}" for h in heights for j in range(leaves // arity**h)]
-        # Each edge with the record that it enters, or None.
-        edges = [("root", "now", 0, None)] if memory else []
-        self.handles = {len(edges) + i: handle for i, (handle, node) in enumerate(bases)}
-        edges += [("root", node, 0, None) for handle, node in bases]
-        edges += [("root", f"inner {h} 1", weight(f"top {h}"), f"top {h}") for h in heights]
-        for i in range(leaves):
-            record = f"list {i}"
-            edges += [(leaf(j), record, weight(record), record) for j in (i, i + 1)]
-            edges += [(record, leaf(j), 0, None) for j in (i, i + 1)]
-        for h in heights:
-            for j in range(1, leaves // arity**h + 1):
-                for c in history.children(j):
-                    child = f"inner {h - 1} {c}" if h > 1 else f"leaf {c}"
-                    record = f"down {h} {c}"
-                    edges += [(f"inner {h} {j}", child, weight(record), record), (child, f"inner {h} {j}", weight(record), record)]
-        if memory:
-            edges += [("now", "recent", 0, None), ("recent", "now", 0, None)]
-            edges += [("recent", leaf(leaves), 0, None), (leaf(leaves), "recent", 0, None)]
-        edges = [edge for edge in edges if edge[1] != "root"]
-        self.edges = [edge[:3] for edge in edges]
-        self.records = [edge[3] for edge in edges]
-        self.costs = self.costs_from(["root"])
-
-    def costs_from(self, starts):
-        """The least cost of each node from these, by rounds over all edges until none changes."""
-        costs, changed = {node: (0, 0) for node in starts}, True
-        while changed:
-            changed = False
-            for tail, head, weight in self.edges:
-                if tail in costs:
-                    cost = (costs[tail][0] + weight, costs[tail][1] + 1)
-                    if head not in costs or cost < costs[head]:
-                        costs[head], changed = cost, True
-        return costs
-
-    def walk(self, target, starts, costs):
-        """The numbers of the steps of the least walk to a node from one of these."""
-        steps, node = [], target
-        while node not in starts:
-            for i, (tail, head, weight) in enumerate(self.edges):
-                cost = costs[tail]
-                if head == node and (cost[0] + weight, cost[1] + 1) == costs[node]:
-                    break
-            steps.append(i)
-            node = tail
-        return steps[::-1]
-
-    def plan(self, target):
-        """The lines of the least plan of a node, and its weight and number of steps."""
-        steps = [f"step {i} {self.edges[i][1]} {self.edges[i][2]}" for i in self.walk(target, ["root"], self.costs)]
-        weight = self.costs[target][0]
-        potentials = [f"potential {n} {self.costs[n][0]}" for n in self.nodes if self.costs[n][0] < weight]
-        return steps + potentials, weight, len(steps)
-
-    def tree(self, targets):
-        """The steps of the tree of these targets: for each the least walk from the tree so far is added."""
-        tree, steps = ["root"], []
-        for target in targets:
-            walk = self.walk(target, tree, self.costs_from(tree))
-            tree += [self.edges[i][1] for i in walk]
-            steps += walk
-        return steps
-
-    def rests(self, targets):
-        """For each target the handle with whose node its path within the tree begins, or None."""
-        on = {"root": None}
-        for i in self.tree(targets):
-            tail, head, _ = self.edges[i]
-            on[head] = self.handles.get(i) if tail == "root" else on[tail]
-        return [on[target] for target in targets]
-
-    def tree_weight(self, targets):
-        return sum(self.edges[i][2] for i in self.tree(targets))
-
-    def entered(self, targets):
-        """The records that the tree of these targets enters."""
-        return [self.records[i] for i in self.tree(targets) if self.records[i] is not None]
-
-    def judged(self, target, lines):
-        """What is said of the lines of a certificate."""
-        steps, potentials, weight, place = [], {}, 0, -1
-        for n, line in enumerate(lines, 1):
-            read = plan_line(line)
-            if read is None:
-                return f"line {n}"
-            kind, edge, node, value = read
-            if kind == "step":
-                if potentials or weight + value > 2**63 - 1:
-                    return f"line {n}"
-                steps.append((edge, node, value))
-                weight += value
-            else:
-                if node not in self.nodes or self.nodes.index(node) <= place or value >= weight:
-                    return f"line {n}"
-                place = self.nodes.index(node)
-                potentials[node] = value
-        reached = "root"
-        for n, (edge, head, value) in enumerate(steps, 1):
-            if edge >= len(self.edges) or self.edges[edge] != (reached, head, value):
-                return f"step {n}"
-            reached = head
-        if reached != target:
-            return f"step {len(steps) + 1}"
-        of = {node: potentials.get(node, weight) for node in self.nodes}
-        if of["root"] != 0:
-            return "potential root"
-        for tail, head, value in self.edges:
-            if of[head] > of[tail] + value:
-                return f"potential {head}"
-        return "valid" if of[target] == weight else "not-tight"
-
-
-def plan_line(line):
-    """A plan line as its kind, edge, node and last number, or None where it is none."""
-    words = line.split(" ")
-    kind, edge = words[0], 0
-    if kind == "step" and len(words) > 1 and is_number(words[1], 2**32 - 1):
-        edge, words = int(words[1]), words[2:]
-    elif kind == "potential":
-        words = words[1:]
-    else:
-        return None
-    if not words or not is_number(words[-1], 2**63 - 1):
-        return None
-    node, value = words[:-1], int(words[-1])
-    numbers = {"root": 0, "now": 0, "recent": 0, "leaf": 1, "list": 1, "inner": 2}
-    if not node or numbers.get(node[0]) != len(node) - 1 or not all(is_number(w, 2**32 - 1) for w in node[1:]):
-        return None
-    return kind, edge, " ".join(node), value
-
-
-def point(history, time):
-    """The node from which the graph as of an instant is reached."""
-    count = sum(event[0] <= time for event in history.events)
-    leaves = len(history.events) // history.size
-    if count == len(history.events):
-        return "now"
-    if count % history.size == 0:
-        return f"leaf {count // history.size}"
-    return "recent" if count > leaves * history.size else f"list {count // history.size}"
+HISTORIES = 300
 
 
 def altered(rng, lines):
@@ -447,133 +69,6 @@ def altered(rng, lines):
                 words[i] = str(int(words[i]) + rng.choice([-1, 1]))
                 lines[at] = " ".join(words)
     return lines
-
-
-class Changes:
-    """Random changes, each allowed by the graph before it."""
-
-    def __init__(self, rng):
-        self.rng, self.time, self.names = rng, 0, []
-        self.nodes, self.edges = set(), {}
-        self.has_messages = True
-        self.values = {NODE_ATTR: {}, EDGE_ATTR: {}}
-        self.ids, self.keys, self.texts = 30, [b"a", b"bb", b"c"], [b"x", b"y y", b"", b"zz"]
-        self.kinds = ["+node"] * 3 + ["-node", "+edge", "+edge", "-edge", "nset", "ndel", "eset", "edel"]
-
-    def are_of_values(self, keys):
-        """From now on values come and go at few nodes, of which some are made again, under so many keys more."""
-        self.ids, self.kinds = 5, ["+node", "-node"] * 3 + ["nset"] * 6 + ["ndel"] * 5 + ["+edge"]
-        self.keys = [b"a", b"k" * 64, *(b"k%d" % number for number in range(keys))]
-        self.texts = [b"x", b"y y", b"", b" z ", b"v" * 1024]
-
-    def name(self, text, new):
-        if text not in self.names:
-            self.names.append(text)
-            new.append(text)
-        return self.names.index(text)
-
-    def next(self, new):
-        """A line and its event; the names that it brings are added to `new`."""
-        while True:
-            made = self.attempt(new)
-            if made:
-                self.time, line, event = made
-                return f"{self.time} {line}", event
-
-    def attempt(self, new):
-        rng = self.rng
-        time = self.time + rng.choice([0, 0, 1, 1, 2])
-        kind = rng.choice(self.kinds + ["msg", "msg"] * self.has_messages)
-        if kind == "+node":
-            node = rng.randrange(self.ids)
-            if node in self.nodes:
-                return None
-            self.nodes.add(node)
-            return time, f"+node {node}", (time, "+", (NODE, node))
-        if kind == "-node" and self.nodes:
-            node = rng.choice(sorted(self.nodes))
-            if any(node in ends[:2] for ends in self.edges.values()) or self.has_value(NODE_ATTR, node):
-                return None
-            self.nodes.remove(node)
-            return time, f"-node {node}", (time, "-", (NODE, node))
-        if kind == "+edge" and self.nodes:
-            edge, nodes = rng.randrange(40), sorted(self.nodes)
-            if edge in self.edges:
-                return None
-            self.edges[edge] = (rng.choice(nodes), rng.choice(nodes), rng.randrange(2))
-            source, target, directed = self.edges[edge]
-            word = "dir" if directed else "undir"
-            return time, f"+edge {edge} {source} {target} {word}", (time, "+", (EDGE, edge) + self.edges[edge])
-        if kind == "-edge" and self.edges:
-            edge = rng.choice(sorted(self.edges))
-            if self.has_value(EDGE_ATTR, edge):
-                return None
-            return time, f"-edge {edge}", (time, "-", (EDGE, edge) + self.edges.pop(edge))
-        if kind == "msg":
-            return self.message(time, new)
-        return self.value_change(time, kind, new)
-
-    def message(self, time, new):
-        if not self.nodes:
-            return None
-        source, target = (self.rng.choice(sorted(self.nodes)) for _ in range(2))
-        text = self.rng.choice([b"x", b"hi", b"", b"a b  "])
-        return time, f"msg {source} {target} {text.decode()}", (time, "msg", source, target, self.name(text, new))
-
-    def has_value(self, kind, owner):
-        return any(key[0] == owner for key in self.values[kind])
-
-    def value_change(self, time, word, new):
-        kind = NODE_ATTR if word[0] == "n" else EDGE_ATTR
-        owners, values = (self.nodes if word[0] == "n" else self.edges), self.values[kind]
-        if word.endswith("set") and owners:
-            owner = self.rng.choice(sorted(owners))
-            key_text, text = self.rng.choice(self.keys), self.rng.choice(self.texts)
-            key, value = self.name(key_text, new), self.name(text, new)
-            old = values.get((owner, key))
-            values[owner, key] = value
-            return time, f"{word} {owner} {key_text.decode()} {text.decode()}", (time, kind, owner, key, old, value)
-        if word.endswith("del") and values:
-            owner, key = self.rng.choice(sorted(values))
-            old = values.pop((owner, key))
-            return time, f"{word} {owner} {self.names[key].decode()}", (time, kind, owner, key, old, None)
-        return None
-
-
-def cut(graph, columns):
-    """The elements of a graph in these columns."""
-    return {x for x in graph if x[0] in (NODE, EDGE) or ("n" if x[0] == NODE_ATTR else "e") in columns}
-
-
-def listing(graph, names):
-    lines = []
-    for x in sorted(graph):
-        if x[0] == NODE:
-            lines.append(f"node {x[1]}")
-        elif x[0] == EDGE:
-            lines.append(f"edge {x[1]} {x[2]} {x[3]} {'dir' if x[4] else 'undir'}")
-        elif x[0] == MESSAGE:
-            lines.append(f"msg {x[1]} {x[2]} {names[x[3]].decode()}")
-        else:
-            word = "nattr" if x[0] == NODE_ATTR else "eattr"
-            lines.append(f"{word} {x[1]} {names[x[2]].decode()} {names[x[3]].decode()}")
-    return lines
-
-
-def neighbours(graph, node):
-    """The lines of the edges at a node, by their ids."""
-    lines = []
-    for _, edge, source, target, directed in sorted(x for x in graph if x[0] == EDGE):
-        if node in (source, target):
-            side = ("out" if node == source else "in") if directed else "both"
-            lines.append(f"{side} {edge} {target if node == source else source}")
-    return lines
-
-
-def attributes(graph, node, names):
-    """The lines of a node's attributes, by the number of their key."""
-    found = sorted(x for x in graph if x[:2] == (NODE_ATTR, node))
-    return [f"attr {names[key].decode()} {names[value].decode()}" for _, _, key, value in found]
 
 
 # The runs of a history keep so many ranges of its file, one after another, and owe the same replies.
@@ -622,7 +117,7 @@ class Case:
 
     def graph(self, history, columns):
         """The graph of the index with the handles that can serve."""
-        return Graph(history, columns, bases=self.usable(columns))
+        return IndexGraph(history, columns, bases=self.usable(columns))
 
     def held(self, history):
         """The elements that the current graph and the live handles have together."""
@@ -668,17 +163,6 @@ def any_expression(rng, times, depth=0):
     if kind == "time":
         return [rng.choice(times)]
     return [kind, *(word for _ in range(1 if kind == "not" else 2) for word in any_expression(rng, times, depth + 1))]
-
-
-def holding(words, graphs):
-    """Which elements an expression holds for, among those that any of its graphs has. The words are taken off."""
-    word = words.pop(0)
-    if word == "not":
-        return set.union(*graphs.values()) - holding(words, graphs)
-    if word in ("and", "or"):
-        one, other = holding(words, graphs), holding(words, graphs)
-        return one & other if word == "and" else one | other
-    return graphs[word]
 
 
 def ask_expressions(rng, history, case):
@@ -757,10 +241,6 @@ def beside_a_value(rng, history, names, keys):
     return max(time + rng.choice([-1, 0, 0, 0, 1]), 0), names[key], names[value]
 
 
-def is_key(text):
-    return 1 <= len(text) <= 64 and all(byte > 32 for byte in text)
-
-
 def ask_index(history, names, case, key, damaged=None):
     """Makes an index of a key. `damaged` is a record and a column that is damaged."""
     case.script.append(f"index {key.decode()}")
@@ -806,7 +286,7 @@ def hold_nodes(rng, history, case):
         elif len(case.handles) == 127:
             case.reply("refused 9 pool-full 127 1")
         else:
-            case.reply(f"ok materialise {handle} {Graph(history, columns, memory=False).costs[node][0]}")
+            case.reply(f"ok materialise {handle} {IndexGraph(history, columns, memory=False).costs[node][0]}")
             case.bases[handle] = node, columns
             case.give([cut(history.node(height, index, {}), columns)], [None])
 
@@ -907,11 +387,6 @@ def any_history(rng, size, arity):
     return History(size, arity, rng.choice([*FUNCTIONS, f"skewed {rng.choice(SHARES)}"]))
 
 
-def key_order(sized):
-    kind, *numbers = sized[0].split(" ")
-    return ["list", "top", "down"].index(kind), [int(n) for n in numbers]
-
-
 def check(program, index, seed):
     if os.path.exists(index):
         os.remove(index)
@@ -969,19 +444,6 @@ def check(program, index, seed):
 MET_BY_A_BATCH = [1424, 3167]
 
 
-def older_children(history, count):
-    """The children, there now, of the interior nodes that so many more events complete."""
-    leaves, after = (n // history.size for n in (len(history.events), len(history.events) + count))
-    found, height = [], 1
-    while history.arity**height <= after:
-        done = leaves // history.arity**height
-        if after // history.arity**height > done:
-            last = leaves // history.arity ** (height - 1)
-            found += [f"inner {height - 1} {c}" if height > 1 else f"leaf {c}" for c in range(done * history.arity + 1, last + 1)]
-        height += 1
-    return found
-
-
 def check_damage(program, index, seed):
     """A file with one damaged column: what meets it names it, and nothing else does."""
     rng = random.Random(seed)
@@ -1000,7 +462,7 @@ def check_damage(program, index, seed):
         changes.has_messages = history.is_wide
         names, _, events = batch(rng.choice([1, 2, 5, 9, rng.randrange(1, 60)]))
         history.add(events, names)
-    records, leaves = Graph(history, "sne", memory=False), len(history.events) // size
+    records, leaves = IndexGraph(history, "sne", memory=False), len(history.events) // size
     entered = records.entered([f"leaf {leaves}"] if leaves else [])
     # No plan enters a column of messages.
     starts = {(key, c) for key in history.recent for c in COLUMNS} | {(key, c) for key in entered for c in COLUMNS if c != MESSAGES}
@@ -1035,7 +497,7 @@ def check_damage(program, index, seed):
         met_by_lists(rng, history, known, case, (damaged, column))
         columns, leaves = rng.choice(ASKED), len(history.events) // history.size
         if leaves and rng.random() < 0.3:
-            node, graph = f"leaf {rng.randrange(1, leaves + 1)}", Graph(history, columns, memory=False)
+            node, graph = f"leaf {rng.randrange(1, leaves + 1)}", IndexGraph(history, columns, memory=False)
             case.script.append(f"materialise {node} {columns}")
             if damaged in graph.entered([node]) and LETTERS[column] in columns:
                 case.reply(said)
@@ -1110,7 +572,7 @@ def check_first_damage(program, index, seed):
     history.is_wide or history.upgrade()
     changes.time, changes.has_messages = changes.time + 1, True
     history.add([changes.next(more)[1] for _ in range(rng.randrange(1, 20))], more)
-    records, graph = Graph(history, "sne", memory=False), Graph(history, "sne")
+    records, graph = IndexGraph(history, "sne", memory=False), IndexGraph(history, "sne")
     start = records.entered([f"leaf {len(history.events) // 2}"])
 
     def with_damage(pair):
@@ -1163,7 +625,8 @@ def check_first_damage(program, index, seed):
 
 
 if __name__ == "__main__":
-    program, folder, first, last = *sys.argv[1:3], *map(int, sys.argv[3:5])
+    program, folder, *words = sys.argv[1:]
+    first, last = map(int, words) if words else (0, HISTORIES)
     for seed in range(first, last):
         check(program, os.path.join(folder, "index"), seed)
     for seed in [*range(first, last), *MET_BY_A_BATCH]:
@@ -1172,3 +635,4 @@ if __name__ == "__main__":
     for what, tried in zip(("plans of an instant", "plans of a start", "plans with messages", "intervals"), zip(*found)):
         if sum(tried) < (last - first) // 4:
             sys.exit(f"only {sum(tried)} {what} have two records that can be damaged")
+    print(f"model: {last - first} passed, 0 failed")

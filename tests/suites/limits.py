@@ -1,8 +1,6 @@
 """A disk that is full, a file that may not grow or be written any more, and memory that lacks: what a run says, and that
 nothing is lost. And what must not cost more: two kinds of batches, values that are found, and an instant that is named again.
 
-  python3 .ci/limits.py PROGRAM FOLDER
-
 Each run ends with the status that docs/SCRIPT.md names, and its replies are a front of those that are due, with want of
 memory in place of a command's that is then as if it were not in the script. The file holds the batches that were answered,
 byte for byte as a model of the file has them, and the next run, with room, adds the others.
@@ -17,8 +15,9 @@ import subprocess
 import sys
 import tempfile
 
-import model
-from runs import CREATE, FIVE, Program, Ran, Tests, content, in_use, lines, put
+from tests.lib.changes import Changes
+from tests.lib.history import History, NODE, NODE_ATTR
+from tests.lib.runs import CREATE, FIVE, Program, Ran, Tests, content, in_use, lines, put
 
 FAILED = "the index file failed"
 TOO_LARGE = "{}: File too large (os error 27)"
@@ -38,7 +37,7 @@ def batches(seed, sizes, value=""):
     """Commands that make a history in batches of these sizes, and what is in use of the file after each. With a value each
     batch sets it at a node of its own, so that it takes more room."""
     rng = random.Random(seed)
-    history, changes = model.History(4, 2, "balanced"), model.Changes(rng)
+    history, changes = History(4, 2, "balanced"), Changes(rng)
     commands, states = ["create 4 2 balanced"], [b"", in_use(history.file())]
     for batch, size in enumerate(sizes):
         changes.time += 1 if batch else 0
@@ -47,9 +46,9 @@ def batches(seed, sizes, value=""):
         if value:
             node, text = 1000 + batch, (value + str(batch)).encode()
             key = changes.name(b"long", names)
-            made.append((f"{changes.time} +node {node}", (changes.time, "+", (model.NODE, node))))
+            made.append((f"{changes.time} +node {node}", (changes.time, "+", (NODE, node))))
             number = changes.name(text, names)
-            event = changes.time, model.NODE_ATTR, node, key, None, number
+            event = changes.time, NODE_ATTR, node, key, None, number
             made.append((f"{changes.time} nset {node} long {text.decode()}", event))
         history.add([event for _, event in made], names)
         commands.append("\n".join([f"{'append' if batch else 'load'} {len(made)}", *(line for line, _ in made)]))

@@ -1,8 +1,9 @@
 """What an index file is opened as, whether a start goes on with it, and whether it is what its own events determine, after
-docs/FORMATS.md and docs/SCRIPT.md alone: of any bytes. The records that are due are those of .ci/model.py."""
+docs/FORMATS.md and docs/SCRIPT.md alone: of any bytes. The records that are due are those of history.py."""
 
-import model
-from runs import HEADER, OPEN, is_blank
+from tests.lib.history import COLUMNS, EDGE, EDGE_ATTR, FUNCTIONS, History, MESSAGES, NODE, NODES, NODE_ATTR, STRUCTURE, effect, event_column
+from tests.lib.plans import IndexGraph
+from tests.lib.runs import HEADER, OPEN, is_blank
 
 NAME_MOST, KEY_MOST = 1024, 64  # bytes
 BATCH_MOST, EVENTS_MOST = 2**20, 2**28
@@ -55,7 +56,7 @@ class Opened:
         in_range = 2 <= self.size <= 65536 and 2 <= self.arity <= 64 and has_function
         if image[0] != OPEN or image[1:8] not in (b"DGRAPH1", b"DGRAPH2") or not in_range:
             raise Refused("foreign: it is no index of this program")
-        self.function = f"skewed {share}" if code == 4 else model.FUNCTIONS[code - 1]
+        self.function = f"skewed {share}" if code == 4 else FUNCTIONS[code - 1]
         self.batches, self.rows, self.names, self.used = [], {}, [], HEADER
         self.known, self.total = set(), 0
         while image[self.used - 1] == OPEN:
@@ -101,7 +102,7 @@ class Opened:
         def row(key, where, ends):
             nonlocal offset
             sizes = [big(text, where + 8 * i, 8) for i in range(lengths)] + [0] * (4 - lengths)
-            if key.split(" ")[0] in ("top", "down") and sizes[model.MESSAGES]:
+            if key.split(" ")[0] in ("top", "down") and sizes[MESSAGES]:
                 raise Unread
             self.rows[key] = Row(offset, sizes, ends, start + where, lengths)
             offset += sum(sizes)
@@ -165,7 +166,7 @@ class Opened:
             position, time = big(text, at, 2), big(text, at + 2, 8)
             if position < low or not earliest <= time <= TIME_MOST:
                 raise Unread
-            if column == model.STRUCTURE:
+            if column == STRUCTURE:
                 kind = big(text, at + 10, 1)
                 if not 1 <= kind <= 4:
                     raise Unread
@@ -176,9 +177,9 @@ class Opened:
                     size = 36
                     if fields[-1] > 1:
                         raise Unread
-                element = (model.NODE if kind < 3 else model.EDGE, *fields)
+                element = (NODE if kind < 3 else EDGE, *fields)
                 found[position] = time, "+" if kind % 2 else "-", element
-            elif column == model.MESSAGES:
+            elif column == MESSAGES:
                 source, target, value = big(text, at + 10, 8), big(text, at + 18, 8), big(text, at + 26, 4)
                 if value >= len(self.names):
                     raise Unread
@@ -188,7 +189,7 @@ class Opened:
                 owner, key_number, old, new = big(text, at + 10, 8), *(big(text, at + 18 + 4 * i, 4) for i in range(3))
                 if key_number >= len(self.names) or max(old, new) > len(self.names) or old == new == 0:
                     raise Unread
-                kind = model.NODE_ATTR if column == model.NODES else model.EDGE_ATTR
+                kind = NODE_ATTR if column == NODES else EDGE_ATTR
                 values = [number - 1 if number else None for number in (old, new)]
                 found[position] = time, kind, owner, key_number, *values
                 size = 30
@@ -199,7 +200,7 @@ class Opened:
 
     def events_of(self, key, count):
         found, total = {}, 0
-        for column in model.COLUMNS:
+        for column in COLUMNS:
             try:
                 placed = self.placed(key, column)
             except Unread:
@@ -208,7 +209,7 @@ class Opened:
             total += len(placed)
         events = [found.get(position) for position in range(count)] if total == len(found) == count else [None]
         if None in events or any(a[0] > b[0] for a, b in zip(events, events[1:])):
-            raise Wrong(key, model.STRUCTURE)
+            raise Wrong(key, STRUCTURE)
         return events
 
     def recent_pieces(self):
@@ -227,7 +228,7 @@ class Opened:
 
         def add(key, more, ends):
             if ends != (more[0][0], more[-1][0]) or (events and more[0][0] < events[-1][0]) or not all(map(graph.take, more)):
-                raise Wrong(key, model.STRUCTURE)
+                raise Wrong(key, STRUCTURE)
             events.extend(more)
 
         lists = self.total // self.size
@@ -242,14 +243,14 @@ class Opened:
                 more = self.events_of(key, behind - start)
                 whole = [*events, *more][before:behind]
                 if (batch.first, batch.last) != (whole[0][0], whole[-1][0]):
-                    raise Wrong(key, model.STRUCTURE)
+                    raise Wrong(key, STRUCTURE)
                 if more:
                     add(key, more, (more[0][0], more[-1][0]))
             else:
                 of_batch = events[before:behind]
-                for column in model.COLUMNS:
-                    ends_differ = column == model.STRUCTURE and (batch.first, batch.last) != (of_batch[0][0], of_batch[-1][0])
-                    if ends_differ or self.column(key, column) != model.event_column(events[start:behind], column):
+                for column in COLUMNS:
+                    ends_differ = column == STRUCTURE and (batch.first, batch.last) != (of_batch[0][0], of_batch[-1][0])
+                    if ends_differ or self.column(key, column) != event_column(events[start:behind], column):
                         raise Wrong(key, column)
             before = behind
         return events
@@ -266,13 +267,13 @@ class Graph:
     def of(cls, elements, names):
         """The graph that these elements are; nothing where they are none."""
         graph = cls(names)
-        graph.nodes = {x[1] for x in elements if x[0] == model.NODE}
-        edges = [x for x in elements if x[0] == model.EDGE]
-        values = [x for x in elements if x[0] in (model.NODE_ATTR, model.EDGE_ATTR)]
+        graph.nodes = {x[1] for x in elements if x[0] == NODE}
+        edges = [x for x in elements if x[0] == EDGE]
+        values = [x for x in elements if x[0] in (NODE_ATTR, EDGE_ATTR)]
         graph.edges = {x[1]: x[2:] for x in edges}
         graph.values = {x[:3]: x[3] for x in values}
         has_ends = all(end in graph.nodes for x in edges for end in x[2:4])
-        has_owners = all(x[1] in (graph.nodes if x[0] == model.NODE_ATTR else graph.edges) for x in values)
+        has_owners = all(x[1] in (graph.nodes if x[0] == NODE_ATTR else graph.edges) for x in values)
         is_single = len(edges) == len(graph.edges) and len(values) == len(graph.values)
         return graph if has_ends and has_owners and is_single else None
 
@@ -287,7 +288,7 @@ class Graph:
             return event[2] in self.nodes and event[3] in self.nodes
         _, kind, owner, key, old, new = event
         name, place = self.names[key], (kind, owner, key)
-        there = owner in (self.nodes if kind == model.NODE_ATTR else self.edges)
+        there = owner in (self.nodes if kind == NODE_ATTR else self.edges)
         is_key = 1 <= len(name) <= KEY_MOST and all(byte > 32 for byte in name)
         if not there or not is_key or self.values.get(place) != old:
             return False
@@ -297,12 +298,12 @@ class Graph:
         return True
 
     def take_element(self, sign, kind, number, *fields):
-        if kind == model.NODE:
+        if kind == NODE:
             if sign == "+":
                 is_right = number not in self.nodes
                 self.nodes.add(number)
             else:
-                in_use = any(number in ends[:2] for ends in self.edges.values()) or self.is_held(model.NODE_ATTR, number)
+                in_use = any(number in ends[:2] for ends in self.edges.values()) or self.is_held(NODE_ATTR, number)
                 is_right = number in self.nodes and not in_use
                 self.nodes.discard(number)
             return is_right
@@ -310,7 +311,7 @@ class Graph:
             is_right = number not in self.edges and fields[0] in self.nodes and fields[1] in self.nodes
             self.edges[number] = tuple(fields)
         else:
-            is_right = self.edges.get(number) == tuple(fields) and not self.is_held(model.EDGE_ATTR, number)
+            is_right = self.edges.get(number) == tuple(fields) and not self.is_held(EDGE_ATTR, number)
             self.edges.pop(number, None)
         return is_right
 
@@ -351,7 +352,7 @@ class Judgement:
         if key not in cls.histories:
             if len(cls.histories) > 300:
                 cls.histories.clear()
-            history, at = model.History(opened.size, opened.arity, opened.function, opened.began_wide), 0
+            history, at = History(opened.size, opened.arity, opened.function, opened.began_wide), 0
             for number, batch in enumerate(opened.batches):
                 if number == opened.marker:
                     history.upgrade()
@@ -397,20 +398,20 @@ class Judgement:
 
     @staticmethod
     def element_at(text, at, column, names):
-        if column == model.STRUCTURE:
+        if column == STRUCTURE:
             kind = big(text, at, 1)
             if kind not in (1, 2):
                 raise Unread
             if kind == 1:
-                return (model.NODE, big(text, at + 1, 8)), at + 9
+                return (NODE, big(text, at + 1, 8)), at + 9
             fields = [big(text, at + 1 + 8 * i, 8) for i in range(3)] + [big(text, at + 25, 1)]
             if fields[-1] > 1:
                 raise Unread
-            return (model.EDGE, *fields), at + 26
+            return (EDGE, *fields), at + 26
         key, value = big(text, at + 8, 4), big(text, at + 12, 4)
         if max(key, value) >= names:
             raise Unread
-        return (model.NODE_ATTR if column == model.NODES else model.EDGE_ATTR, big(text, at, 8), key, value), at + 16
+        return (NODE_ATTR if column == NODES else EDGE_ATTR, big(text, at, 8), key, value), at + 16
 
     def is_damaged(self, key, column):
         """Whether a column is in no spelling."""
@@ -433,9 +434,9 @@ class Judgement:
         leaves = opened.total // opened.size
         key = opened.size, opened.arity, opened.total, tuple(tuple(row.sizes) for row in opened.rows.values())
         if leaves and key not in self.walks:
-            history = model.History(opened.size, opened.arity, opened.function)
+            history = History(opened.size, opened.arity, opened.function)
             history.events, history.sizes = range(opened.total), {name: row.sizes for name, row in opened.rows.items()}
-            graph = model.Graph(history, "sne", memory=False)
+            graph = IndexGraph(history, "sne", memory=False)
             steps = graph.walk(f"leaf {leaves}", ["root"], graph.costs)
             self.walks[key] = [(*graph.edges[i][:2], graph.records[i]) for i in steps]
         return self.walks[key] if leaves else []
@@ -477,7 +478,7 @@ class Judgement:
 
     @staticmethod
     def effect(event):
-        return tuple(set() if element is None else {element} for element in model.effect(event))
+        return tuple(set() if element is None else {element} for element in effect(event))
 
     def start_fault(self):
         """Why a start over the opened file is refused, or nothing."""

@@ -1,7 +1,7 @@
 """Refuses each growth of memory in turn, fails each read, write and sync in turn, cuts the script behind each byte, and
 gives standard output room for each number of bytes, over a few scripts.
 
-  python3 .ci/faults.py PROGRAM FOLDER LIBRARY     LIBRARY is .ci/fail.c, compiled
+Calls fail by lib/fail.c, which tests/run compiles.
 
 What is due comes from no run that met a failure. A command that meets one is answered `refused 16 out-of-memory`, or
 `refused 14 store-read` where a read failed, and all else, the file too, is as in a run over the script without that
@@ -18,7 +18,7 @@ import errno
 import os
 import sys
 
-from runs import CREATE, FIRST_FORM, FIVE, Program, Tests, content, in_use, lines, put
+from tests.lib.runs import CREATE, FIRST_FORM, FIVE, Program, Tests, content, in_use, lines, put
 
 KINDS = ["alloc", "read", "write", "sync"]
 # Each kind of failure, the calls that it is of, and what the library is told besides.

@@ -1,11 +1,11 @@
 """Runs the commands of docs/TUTORIAL.md, SCRIPT.md, RECIPES.md and R.md and compares what they print.
 
-  python3 .ci/tutorial.py PROGRAM FOLDER            says where they differ
-  python3 .ci/tutorial.py PROGRAM FOLDER --write    puts what they print into the documents
+  tests/run tutorial               says where they differ
+  tests/run tutorial -- --write    puts what they print into the documents
 
-A document is left out where a package that it needs is not there. In its blocks of ```console a line that begins with `$ ` is a command, and lines with `> ` go on with it; what follows
-is what it prints. All commands of a document run in one shell, in an empty folder that has the folders of the repository
-in it.
+A document is left out where a package that it needs is not there. In its blocks of ```console a line that begins with `$ `
+is a command, and lines with `> ` go on with it; what follows is what it prints. All commands of a document run in one shell,
+in an empty folder that has the folders of the repository in it.
 """
 from __future__ import annotations
 
@@ -17,7 +17,9 @@ import sys
 from pathlib import Path
 from typing import Iterator, NamedTuple, Union
 
-ROOT = Path(__file__).resolve().parent.parent
+from tests.lib.runs import Tests
+
+ROOT = Path(__file__).resolve().parents[2]
 DOCUMENTS = {"TUTORIAL": [], "SCRIPT": [], "RECIPES": ["numpy", "pandas", "igraph"], "R": ["numpy", "pandas", "Rscript"]}
 MARK = "-- end of a command --"
 
@@ -49,15 +51,16 @@ def parts(text: str) -> Iterator[Union[str, Command]]:
 
 def printed_by(commands: list[Command], program: str, folder: str) -> list[list[str]]:
     """What each command prints, on standard output and standard error."""
-    for name in ("tools", "examples", "docs", "python"):
+    for name in ("tools", "examples", "tests", "docs", "python"):
         (Path(folder) / name).symlink_to(ROOT / name)
+    own = Path(folder) / ".bin"
+    own.mkdir()
+    (own / "deltagraph").symlink_to(os.path.abspath(program))
     # The Python of this test, since another one may have other packages.
-    (Path(folder) / ".bin").mkdir()
-    python = Path(folder) / ".bin" / "python3"
-    python.write_text(f'#!/bin/sh\nexec "{sys.executable}" "$@"\n')
-    python.chmod(0o755)
+    (own / "python3").write_text(f'#!/bin/sh\nexec "{sys.executable}" "$@"\n')
+    (own / "python3").chmod(0o755)
     script = "exec 2>&1\n" + "".join("\n".join(c.lines) + f"\necho '{MARK}'\n" for c in commands)
-    path = os.pathsep.join([str(python.parent), os.path.dirname(os.path.abspath(program)), os.environ.get("PATH", "")])
+    path = os.pathsep.join([str(own), os.environ.get("PATH", "")])
     environment = {**os.environ, "PATH": path, "LC_ALL": "C.UTF-8", "TZ": "UTC", "PYTHONDONTWRITEBYTECODE": "1"}
     environment.pop("DELTAGRAPH", None)
     ran = subprocess.run(["bash"], input=script.encode(), stdout=subprocess.PIPE, cwd=folder, env=environment)
@@ -73,18 +76,8 @@ def is_there(package: str) -> bool:
     return shutil.which("Rscript") is not None and subprocess.run(asked, capture_output=True).returncode == 0
 
 
-def differences(program: str, folder: str, write: bool = False) -> list[str]:
-    """What is printed otherwise than the documents say; none where they are written anew."""
-    told = []
-    for name, needed in DOCUMENTS.items():
-        if all(map(is_there, needed)):
-            own = Path(folder).resolve() / f"of_{name}"
-            own.mkdir()
-            told += differences_of(ROOT / "docs" / f"{name}.md", program, str(own), write)
-    return told
-
-
-def differences_of(document: Path, program: str, folder: str, write: bool) -> list[str]:
+def look(tests: Tests, document: Path, program: str, folder: str, write: bool) -> None:
+    """A case for each command of a document, that it prints what stands there; none where they are written anew."""
     found = list(parts(document.read_text(encoding="utf-8")))
     commands = [part for part in found if isinstance(part, Command)]
     printed = dict(zip((command.line for command in commands), printed_by(commands, program, folder)))
@@ -97,15 +90,24 @@ def differences_of(document: Path, program: str, folder: str, write: bool) -> li
                 more = [("> " + line).rstrip() for line in part.lines[1:]]
                 lines += ["$ " + part.lines[0], *more, *printed.get(part.line, [])]
         document.write_text("\n".join(lines), encoding="utf-8")
-        return []
-    return [
-        f"docs/{document.name}:{c.line}: `{c.lines[0]}` prints {printed.get(c.line)}"
-        for c in commands
-        if printed.get(c.line) != c.printed
-    ]
+        return
+    for c in commands:
+        tests.same(f"docs/{document.name}:{c.line}: `{c.lines[0]}`", printed.get(c.line), c.printed)
+
+
+def main() -> bool:
+    program, folder, *words = sys.argv[1:]
+    tests = Tests("tutorial")
+    for name, needed in DOCUMENTS.items():
+        missing = [package for package in needed if not is_there(package)]
+        if missing:
+            print(f"no {' and no '.join(missing)} here: docs/{name}.md is left out")
+            continue
+        own = Path(folder).resolve() / f"of_{name}"
+        own.mkdir()
+        look(tests, ROOT / "docs" / f"{name}.md", program, str(own), "--write" in words)
+    return tests.end()
 
 
 if __name__ == "__main__":
-    told = differences(sys.argv[1], sys.argv[2], "--write" in sys.argv[3:])
-    print("\n".join(told) or "the documents are as written")
-    sys.exit(1 if told else 0)
+    sys.exit(main())

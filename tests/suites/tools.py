@@ -1,7 +1,5 @@
 """Tests of tools/ and bench/ over the program.
 
-  python3 .ci/tools.py PROGRAM FOLDER
-
 What graphs are due is computed here from the rows of the files, instant by instant, and not by the tools.
 """
 from __future__ import annotations
@@ -30,11 +28,10 @@ from pathlib import Path
 from typing import Any, Callable, Iterator, NamedTuple, Optional, Sequence, Union
 from urllib.parse import unquote
 
-ROOT = Path(__file__).resolve().parent.parent
+ROOT = Path(__file__).resolve().parents[2]
 sys.path[:0] = [str(ROOT / "tools"), str(ROOT / "python")]
 sys.dont_write_bytecode = True
 import deltagraph.changes
-import tutorial
 from deltagraph import Calendar, Counts, Graph, Store
 from deltagraph.words import bytes_of, text_of
 from history import History
@@ -1904,16 +1901,6 @@ def words_are_told(tests: Tests) -> None:
         tests.same(f"the manual page has what is in {part[3:]}", missing, [])
 
 
-# The tutorial.
-
-
-def tutorial_as_written(tests: Tests) -> None:
-    folder = tests.folder / "tutorial"
-    folder.mkdir()
-    told = tutorial.differences(tests.built, str(folder))
-    tests.check("the documents print what they say", not told, "\n".join(told))
-
-
 # The benchmark.
 
 LIAR = """#!/bin/sh
@@ -1959,7 +1946,7 @@ def bench_of_a_liar(tests: Tests, word: str) -> None:
 def main() -> int:
     tests = Tests(sys.argv[1], sys.argv[2])
     parts = [convert_many, convert_forms, convert_batches, other_forms, large, spread_in_parts, dates]
-    parts += [snapshots, growth, short_way, timeline, spells, spells_as_gexf, rebuild, messages, failures, words_are_told, tutorial_as_written, bench]
+    parts += [snapshots, growth, short_way, timeline, spells, spells_as_gexf, rebuild, messages, failures, words_are_told, bench]
     for part in parts:
         try:
             part(tests)

@@ -1,0 +1,1 @@
+"""The tests of deltagraph, which tests/run runs."""
