@@ -1,11 +1,10 @@
--- What a crash may leave of a run so far, and how each turn adds to it.
-use Rattle.std.proofs.Common.{◌≡◌, ◌⊎◌, inl, inr, ℕ, List, [], ◌∷◌, ◌++◌, Option, Some, None, IfSome, length, refl, sym, ◌∙◌, ap, subst, arith, length-append}
-use Rattle.std.specs.Prelude.{Bool, false, true, ◌||◌}
+-- What a crash may leave of a run, turn by turn.
+use Rattle.std.proofs.Common.{◌≡◌, ◌⊎◌, inl, inr, ℕ, suc, List, ◌∷◌, Option, Some, None, IfSome, length, refl, sym, ◌∙◌, ap, subst, arith}
+use Rattle.std.specs.Prelude.{Bool, true, ◌||◌}
 use Rattle.std.specs.List.{list_any}
 use Rattle.std.proofs.Math.Nat.{le_refl}
 use Rattle.std.proofs.Math.Bool.{or-true}
-use Rattle.std.proofs.lemmas.List.{take-append-le, take_all}
-use Rattle.std.proofs.lemmas.List.Folds.{list_any-append}
+use Rattle.std.proofs.lemmas.List.{take_all}
 use Rattle.dg_disk.specs.Calls.{IsOnDevice, LeftByCrash, ReadsDisk, StaysOnDevice, SyncsDisk}
 use Rattle.dg_disk.specs.Crash.{LeavesOnly}
 use Rattle.dg_disk.specs.declared.disk.Disk.{Ghosts}
@@ -16,7 +15,6 @@ use Rattle.dg_machine.specs.Answer.{Answered}
 use Rattle.dg_machine.specs.MachineState.{MachineState}
 use Rattle.dg_machine.specs.Run.{Step, last_state}
 use Rattle.dg_machine.specs.Script.{Asked, Entry, Long_line, No_command}
-use Rattle.dg_machine.proofs.Runs.{last_more}
 use Rattle.dg_session.specs.Crashes.{IsFirstByte}
 use Rattle.dg_session.specs.Parts.{Parts}
 use Rattle.dg_session.specs.Session.{StandsFor}
@@ -26,15 +24,11 @@ use Rattle.dg_run.proofs.StepIndexes.{one_index}
 
 -- ---- the states of a run
 
--- the states of a run are among those of a longer one
-in_longer : (m : MachineState) (answers : List Answered) (a : Answered) (c : List ℕ) → StandsInRun m answers c → StandsInRun m (answers ++ a ∷ []) c
-in_longer m answers a c s = (
-  s.0,
-  omega (arith, s.1, length-append answers (a ∷ [])),
-  subst (λ (l : List Answered). StandsAs (last_state m l).index c) (sym (take-append-le s.0 answers (a ∷ []) s.1)) s.2,
-)
+-- its first
+pub in_run_first : (m : MachineState) (answers : List Answered) (c : List ℕ) → StandsAs m.index c → StandsInRun m answers c
+in_run_first m answers c s = (0, omega arith, s)
 
--- and so is its last
+-- its last
 pub at_last : (m : MachineState) (answers : List Answered) (c : List ℕ) → StandsAs (last_state m answers).index c → StandsInRun m answers c
 at_last m answers c s = (
   length answers,
@@ -42,64 +36,50 @@ at_last m answers c s = (
   subst (λ (l : List Answered). StandsAs (last_state m l).index c) (sym (take_all (length answers) answers (le_refl (length answers)))) s,
 )
 
--- and its first
-pub in_run_first : (m : MachineState) (answers : List Answered) (c : List ℕ) → StandsAs m.index c → StandsInRun m answers c
-in_run_first m answers c s = (0, omega arith, s)
+-- those behind its first answer
+in_run_next : (m : MachineState) (a : Answered) (answers : List Answered) (c : List ℕ) → StandsInRun a.state answers c → StandsInRun m (a ∷ answers) c
+in_run_next m a answers c s = (suc s.0, omega (arith, s.1), s.2)
 
--- what a crash may leave of a run so far, which began over these bytes
+-- what a crash may leave of a run that began over these bytes, and ended by no failure of the disk
 abbrev pub LeftSoFar : MachineState → List Answered → List ℕ → List ℕ → Type 0
 LeftSoFar m answers first c = StandsInRun m answers c ⊎ ((list_any makes_index answers ≡ true) × (m.index ≡ None) × IsFirstByte first c)
 
--- what it may leave of the run so far it may leave of the longer one
-pub so_far_longer : (m : MachineState) (answers : List Answered) (a : Answered) (first c : List ℕ) → LeftSoFar m answers first c → LeftSoFar m (answers ++ a ∷ []) first c
-so_far_longer m answers a first c (inl s) = inl (in_longer m answers a c s)
-so_far_longer m answers a first c (inr byte) =
-    inr (list_any-append makes_index answers (a ∷ []) ∙ ap (λ (b : Bool). b || list_any makes_index (a ∷ [])) byte.0, byte.1, byte.2)
+-- the bytes at its start
+pub left_first : (m : MachineState) (answers : List Answered) (first c : List ℕ) → StandsAs m.index first → c ≡ first → LeftSoFar m answers first c
+left_first m answers first c stands same = inl (in_run_first m answers c (subst (StandsAs m.index) (sym same) stands))
 
--- the image that the session holds stands for the last state
-pub so_far_image : (m : MachineState) (answers : List Answered) (session : Parts) (first image c : List ℕ) → StandsFor session image (last_state m answers) → c ≡ image → LeftSoFar m answers first c
-so_far_image m answers session first image c stands same = inl (at_last m answers c (subst (StandsAs (last_state m answers).index) (sym same) stands.image_stands))
+-- what may be left of it behind its first answer
+pub left_next : (m : MachineState) (a : Answered) (answers : List Answered) (first image c : List ℕ) → (a.state.index ≡ None → (m.index ≡ None) × (image ≡ first))
+    → LeftSoFar a.state answers image c → LeftSoFar m (a ∷ answers) first c
+left_next m a answers first image c unmade (inl s) = inl (in_run_next m a answers c s)
+left_next m a answers first image c unmade (inr byte) =
+    let none = unmade byte.1 in inr (
+      ap (λ (b : Bool). makes_index a || b) byte.0 ∙ or-true (makes_index a),
+      none.0,
+      subst (λ (bytes : List ℕ). IsFirstByte bytes c) none.1 byte.2,
+    )
 
--- the last of the answers made an index
-made_last : (answers : List Answered) (a : Answered) → makes_index a ≡ true → list_any makes_index (answers ++ a ∷ []) ≡ true
-made_last answers a made =
-    list_any-append makes_index answers (a ∷ []) ∙ ap (λ (b : Bool). list_any makes_index answers || (b || false)) made ∙ or-true (list_any makes_index answers)
-
--- what a crash may leave of a turn, over the image that it had, is left in the longer run
-pub turn_in_run : (m : MachineState) (answers : List Answered) (a : Answered) (e : Entry) (old : Parts) (first image c : List ℕ)
-    → ((last_state m answers).index ≡ None → (m.index ≡ None) × (image ≡ first)) → StandsFor old image (last_state m answers) → Step (last_state m answers) e a.reply a.state
-    → LeavesTurn e old a.reply image c → LeftSoFar m (answers ++ a ∷ []) first c
-turn_in_run m answers a (Asked command lines) old first image c unmade stands step left =
-    elim (left (last_state m answers) stands) [
-      | inl was ↦ inl (in_longer m answers a c (at_last m answers c was))
+-- and what may be left of the turn with that answer
+pub left_by_turn : (m : MachineState) (a : Answered) (answers : List Answered) (e : Entry) (old : Parts) (first c : List ℕ) → StandsFor old first m → Step m e a.reply a.state
+    → LeavesTurn e old a.reply first c → LeftSoFar m (a ∷ answers) first c
+left_by_turn m a answers (Asked command lines) old first c stands step left =
+    elim (left m stands) [
+      | inl was ↦ inl (in_run_first m (a ∷ answers) c was)
       | inr rest ↦ elim rest [
         | inl now ↦
-            let same : now.0.index ≡ a.state.index = one_index (last_state m answers) (Asked command lines) a.reply a.reply now.0 a.state refl now.1 step in
-            inl (at_last m (answers ++ a ∷ []) c (subst (λ (i : Option _). StandsAs i c) (same ∙ ap (λ (n : MachineState). n.index) (sym (last_more m answers a))) now.2))
-        | inr byte ↦
-            let none = unmade byte.1 in
-            inr (made_last answers a byte.0, none.0, subst (λ (bytes : List ℕ). IsFirstByte bytes c) none.1 byte.2)
+            let same : now.0.index ≡ a.state.index = one_index m (Asked command lines) a.reply a.reply now.0 a.state refl now.1 step in
+            inl (in_run_next m a answers c (in_run_first a.state answers c (subst (λ (i : Option _). StandsAs i c) same now.2)))
+        | inr byte ↦ inr (ap (λ (b : Bool). b || list_any makes_index answers) byte.0, byte.1, byte.2)
       ]
     ]
-turn_in_run m answers a (No_command line) old first image c unmade stands step left =
-    so_far_longer m answers a first c (so_far_image m answers old first image c stands left)
-turn_in_run m answers a Long_line old first image c unmade stands step left = so_far_longer m answers a first c (so_far_image m answers old first image c stands left)
+left_by_turn m a answers (No_command line) old first c stands step left = left_first m (a ∷ answers) first c stands.image_stands left
+left_by_turn m a answers Long_line old first c stands step left = left_first m (a ∷ answers) first c stands.image_stands left
 
 -- ---- calls of a disk, one behind another
 
 -- what is said of a crash within some calls holds of what has P where it holds of the image, which a crash leaves
 abbrev pub Stays : Option (List ℕ) → ((List ℕ → List ℕ → Type 0) → Type 0) → Type 1
 Stays image crashes = (x : List ℕ) → image ≡ Some x → (P : List ℕ → List ℕ → Type 0) → P x x → crashes P
-
--- what has P has Q
-abbrev pub Widens : ((List ℕ → List ℕ → Type 0) → Type 0) → Type 1
-Widens crashes = (P Q : List ℕ → List ℕ → Type 0) → ((a c : List ℕ) → P a c → Q a c) → crashes P → crashes Q
-
--- behind some calls there are others, within which a crash leaves what has Q of the image between them: all of it has R
--- of the first image
-abbrev pub Adds : Option (List ℕ) → Option (List ℕ) → ((List ℕ → List ℕ → Type 0) → Type 0) → ((List ℕ → List ℕ → Type 0) → Type 0) → (List ℕ → List ℕ → Type 0) → Type 1
-Adds first image crashes then_crashes Q =
-    (x y : List ℕ) → first ≡ Some x → image ≡ Some y → (P R : List ℕ → List ℕ → Type 0) → ((c : List ℕ) → P x c → R x c) → ((c : List ℕ) → Q y c → R x c) → crashes P → then_crashes R
 
 -- the calls have others before them, within which a crash leaves the image
 abbrev pub Leads : Option (List ℕ) → ((List ℕ → List ℕ → Type 0) → Type 0) → ((List ℕ → List ℕ → Type 0) → Type 0) → Type 1
@@ -158,22 +138,17 @@ module _ {D : Type 0} (g : Ghosts D) where
   pub unread_leaves : OnlyNow → (at : D) → LeftByCrash g at at (λ first left. left ≡ first)
   unread_leaves only at = reads_leave only at at reads_none
 
-  pub widens_left : (old new : D) → Widens (LeftByCrash g old new)
-  widens_left old new P Q to run = by (g.image old) run
-    where
-      by : (o : Option (List ℕ)) → IfSome o (Within old new P) → IfSome o (Within old new Q)
-      by None run = tt
-      by (Some a) run = λ whole. widens g.moment g.left_since old new (P a) (Q a) (to a) (run whole)
-
-  -- a turn more
-  pub adds_turn : (start mid new : D) (Q : List ℕ → List ℕ → Type 0) → StaysOnDevice g start mid → LeftByCrash g mid new Q → Adds (g.image start) (g.image mid) (LeftByCrash g start mid) (LeftByCrash g start new) Q
-  adds_turn start mid new Q stays turn x y is at P R keeps comes run =
+  -- calls, and others behind them, within which a crash leaves what has Q of the image between them: all of it has R of the
+  -- first image
+  pub adds_calls : (start mid new : D) (Q : List ℕ → List ℕ → Type 0) → StaysOnDevice g start mid → LeftByCrash g mid new Q → (x y : List ℕ) → g.image start ≡ Some x → g.image mid ≡ Some y
+      → (P R : List ℕ → List ℕ → Type 0) → ((c : List ℕ) → P x c → R x c) → ((c : List ℕ) → Q y c → R x c) → LeftByCrash g start mid P → LeftByCrash g start new R
+  adds_calls start mid new Q stays later x y is at P R keeps comes run =
       told_from (g.image start) (Within start new R) x is
       (λ whole.
       let on : Leaves mid y = told_at (g.image mid) (Leaves mid) y (stays (told_from (g.image start) (Leaves start) x is whole)) at in
       joins g.moment g.left_since start mid new (R x)
       (widens g.moment g.left_since start mid (P x) (R x) keeps (told_at (g.image start) (Within start mid P) x run is whole))
-      (widens g.moment g.left_since mid new (Q y) (R x) comes (told_at (g.image mid) (Within mid new Q) y turn at on)))
+      (widens g.moment g.left_since mid new (Q y) (R x) comes (told_at (g.image mid) (Within mid new Q) y later at on)))
 
   -- a start before, behind which the image is on the device
   pub leads_on : OnlyNow → (start mid new : D) → SyncsDisk g start mid → IsOnDevice g mid → Leads (g.image start) (LeftByCrash g mid new) (LeftByCrash g start new)

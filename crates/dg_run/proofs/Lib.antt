@@ -1,13 +1,12 @@
-pub mod LinesStateEnds
 pub mod PromisedEnds
-pub mod TurnLines
 pub mod StepIndexes
 pub mod CrashRuns
 pub mod RunWeights
 mod RunWeightRows
-pub mod TakenRuns
-pub mod ServedRuns
+pub mod EntryAnswers
+pub mod SessionRuns
 pub mod WrittenReplies
+pub mod ServedRuns
 pub mod StatusStarts
 pub mod ExactRuns
 pub mod PromisedRuns

@@ -1,5 +1,5 @@
 -- What the turns of a run weigh bounds what they read.
-use Rattle.std.proofs.Common.{◌≡◌, ℕ, ◌+◌, Bool, true, false, ◌&&◌, not, List, [], ◌∷◌, ◌++◌, Option, Some, None, Result, Ok, Err, IfSome, refl, sym, subst, arith}
+use Rattle.std.proofs.Common.{◌≡◌, ℕ, ◌+◌, Bool, true, false, ◌&&◌, not, List, ◌∷◌, Option, Some, None, Result, Ok, Err, IfSome, refl, sym, subst, arith}
 use Rattle.std.specs.Option.{option_map}
 use Rattle.dg_fold.specs.BytesRead.{Takes, TakesAtMost}
 use Rattle.dg_text.specs.Lines.{ScriptLine}
@@ -11,10 +11,9 @@ use Rattle.dg_machine.specs.declared.command.Command.{Command}
 use Rattle.dg_machine.specs.declared.command.Command.TheVariants as command
 use Rattle.dg_machine.specs.declared.reply.Head.{Head}
 use Rattle.dg_machine.specs.declared.reply.Reply.{Reply}
-use Rattle.dg_machine.specs.Answer.{Answered, is_refusal}
+use Rattle.dg_machine.specs.Answer.{is_refusal}
 use Rattle.dg_machine.specs.MachineState.{MachineState}
 use Rattle.dg_machine.specs.Needs.{needs}
-use Rattle.dg_machine.specs.Run.{Run, last_state}
 use Rattle.dg_machine.specs.Script.{Entry, Asked, No_command, Long_line}
 use Rattle.dg_session.specs.Parts.{Parts}
 use Rattle.dg_session.specs.BatchReads.{is_early}
@@ -22,7 +21,7 @@ use Rattle.dg_session.specs.Reads.{Reads, ReadsAsTold, ReadsBy, ReadsOlder, Read
 use Rattle.dg_session.specs.Session.{StandsFor}
 use Rattle.dg_start.specs.Calls.{TakesOrFails, TakesStart}
 use Rattle.dg_start.specs.SessionStart.{start_bytes}
-use Rattle.dg_run.specs.RunWeights.{CutWeighs, IsOpening, RunWeighs, Weighs, WeighsOlder, WeighsReading, WeighsToWrite, WeighsTold, WeighsWhere}
+use Rattle.dg_run.specs.RunWeights.{CutWeighs, IsOpening, Weighs, WeighsOlder, WeighsReading, WeighsToWrite, WeighsTold, WeighsWhere}
 use Rattle.dg_run.specs.Turns.{ReadsBroken, ReadsTurn}
 
 -- some bytes, and then some more
@@ -102,18 +101,6 @@ cut_weighs e rest more old image x m l before after first is stands reads w = by
     by (Some es) (Asked c got) reads w = write_weighs (needs c).reads c old image x m l before after refl is stands reads w
     by (Some es) (No_command line) reads w = absurd reads
     by (Some es) Long_line reads w = absurd reads
-
--- ---- a run
-
--- a run that is longer by a turn weighs as much more
-pub weighs_more : (m : MachineState) (entries : List Entry) (answers : List Answered) (e : Entry) (a : Answered) (n : ℕ) → Run m entries answers → RunWeighs m (entries ++ e ∷ []) (answers ++ a ∷ []) n
-    → (k l : ℕ) × RunWeighs m entries answers k × Weighs (last_state m answers) e a.reply.head l × (n ≡ k + l)
-weighs_more m [] [] e a n run w = (0, w.0, refl, w.2, omega (arith, w.4, w.3))
-weighs_more m [] (b ∷ answers) e a n run w = absurd run
-weighs_more m (y ∷ entries) [] e a n run w = absurd run
-weighs_more m (y ∷ entries) (b ∷ answers) e a n run w =
-    let more = weighs_more b.state entries answers e a w.1 run.1 w.3 in
-    (w.0 + more.0, more.1, (w.0, more.0, w.2, more.2, refl), more.3, omega (arith, w.4, more.4))
 
 -- ---- a start
 

@@ -1,54 +1,43 @@
--- The run so far, how each turn lengthens it, and what is owed where it ends.
-use Rattle.std.proofs.Common.{◌≡◌, ◌≤◌, ◌⊎◌, inl, inr, ℕ, ◌+◌, Bool, true, false, cond, List, [], ◌∷◌, ◌++◌, Option, Some, None, IfSome, Result, Ok, Err, OnOk, OnErr, is_some, length, take, refl, sym, ◌∙◌, ap, subst, append_assoc, arith, length-append}
+-- What is owed where a run ends.
+use Rattle.std.proofs.Common.{◌≡◌, ◌≤◌, ◌⊎◌, inl, inr, ℕ, List, [], ◌∷◌, ◌++◌, Option, Some, None, IfSome, length, is_some, refl, sym, ◌∙◌, ap, subst, arith}
+use Rattle.std.specs.Prelude.{◌<◌}
 use Rattle.std.specs.Option.{option_map}
-use Rattle.std.specs.Result.{is_err}
 use Rattle.std.proofs.lemmas.List.{append-nil}
-use Rattle.std.proofs.lemmas.List.Concat.{flat_map-append}
-use Rattle.std.proofs.lemmas.List.Sums.{sum_by-append, sum_by-cons}
-use Rattle.std.proofs.Math.Seq.{take-append-add}
+use Rattle.dg_disk.specs.Calls.{LeftByCrash, ReadsDisk, StaysOnDevice}
 use Rattle.dg_disk.specs.Counts.{Rose as DiskRose, raised_by}
+use Rattle.dg_disk.specs.declared.disk.Disk as disk
+use Rattle.dg_disk.proofs.FrameLemmas.{reads_stay}
+use Rattle.dg_file.proofs.TidyWrites.{same_tidy}
 use Rattle.dg_fold.specs.BytesRead.{TakesAtMost}
-use Rattle.dg_history.specs.History.{History}
 use Rattle.dg_index.specs.ImageOfHistory.{StandsAs}
-use Rattle.dg_index.specs.OpenedIndex.{opened_of}
-use Rattle.dg_io.specs.Told.{Gives, grown, GrowsByPart}
+use Rattle.dg_io.specs.Told.{CountRose, Gives, grown}
 use Rattle.dg_io.proofs.FrameLemmas.{gives_nothing}
-use Rattle.dg_io.specs.LinesState.{LinesState}
-use Rattle.dg_machine.specs.declared.reply.Reply.{Reply}
 use Rattle.dg_machine.specs.Answer.{Answered}
+use Rattle.dg_machine.specs.CommandGrammar.{command_of}
 use Rattle.dg_machine.specs.CutImage.{IsCut}
-use Rattle.dg_machine.specs.MachineState.{MachineState, names_in}
-use Rattle.dg_machine.specs.ReplyText.{text}
-use Rattle.dg_machine.specs.Run.{Run, failed_reads, is_store_read, last_state, text_of, texts_of}
+use Rattle.dg_machine.specs.MachineState.{MachineState}
+use Rattle.dg_machine.specs.Run.{last_state}
 use Rattle.dg_machine.specs.Script.{Entry, script}
-use Rattle.dg_machine.proofs.Runs.{run_more, last_more}
 use Rattle.dg_session.specs.Parts.{Parts}
-use Rattle.dg_session.specs.Session.{WhereBothTold, StandsFor}
-use Rattle.dg_stored.specs.StoredHistory.{KeepsHistory}
+use Rattle.dg_session.specs.Session.{StandsFor}
+use Rattle.dg_turns.specs.declared.end.End.{End}
+use Rattle.dg_turns.specs.declared.end.End.TheVariants as end
+use Rattle.dg_turns.specs.declared.machine.Machine as machine
+use Rattle.dg_turns.specs.Ends.{LeavesFor, Ran, Streams}
+use Rattle.dg_turns.specs.Runs.{RunOver, Turned, last_machine, last_world, turn_texts}
 use Rattle.dg_run.specs.declared.status.Status.{Status}
 use Rattle.dg_run.specs.declared.status.Status.TheVariants as status
+use Rattle.dg_run.specs.Calls.{BreaksEntry, StaysSo, stays_as_it_is}
 use Rattle.dg_run.specs.Outside.{Outside, IsUntouched}
-use Rattle.dg_run.specs.RunWeights.{EndWeighs, ReadsNoMore, RunWeighs, Weighs}
-use Rattle.dg_run.specs.Served.{Served, Gained, faults_of, LeftInRun, Remains, Kept, Cut_off, TakenFrom}
-use Rattle.dg_run.specs.Turns.{Breaks, CutsEntry, LeavesTurn, ReadsTurn, Replies, asked}
-use Rattle.dg_run.proofs.RunWeights.{cut_weighs, takes_both, takes_none, turn_weighs, weighs_more}
-use Rattle.dg_run.proofs.CrashRuns.{Adds, LeftSoFar, Stays, Widens, at_last, so_far_image, so_far_longer, turn_in_run}
-
--- The run from m so far over the image now, which was `first` at its start: the entries answered, and those
--- to come. So many calls of the disk failed before it, and so many by now. `Took` holds of the entries whose lines were
--- taken, the bytes read are counted from `from` to `at`, and `crashes` holds of what a crash within it leaves.
-pub record Going (m : MachineState) (first left before : Option (List ℕ)) (f : ℕ) (session : Parts) (image : List ℕ) (more : Option (List Entry)) (written : Option (List ℕ)) (n : ℕ) (Took : List Entry → Type 0) (from at : ℕ) (crashes : (List ℕ → List ℕ → Type 0) → Type 0) : Type 0 where
-  pub entries : List Entry
-  pub answers : List Answered
-  pub run : Run m entries answers
-  pub stands : StandsFor session image (last_state m answers)
-  pub front : option_map script left ≡ option_map (λ rest. entries ++ rest) more
-  pub gained : written ≡ grown before (texts_of answers)
-  pub unmade : (last_state m answers).index ≡ None → (m.index ≡ None) × (first ≡ Some image)
-  pub failed : raised_by (failed_reads answers) f ≤ n
-  pub took : Took entries
-  pub reads : (k : ℕ) → RunWeighs m entries answers k → TakesAtMost k from at
-  pub crash : crashes (LeftSoFar m answers)
+use Rattle.dg_run.specs.RunWeights.{EndWeighs, ReadsNoMore}
+use Rattle.dg_run.specs.Served.{AreTaken, AreWhole, Served, Gained, faults_of, LeftInRun, Remains, Kept, Cut_off, TakenFrom}
+use Rattle.dg_run.specs.Statuses.{IsBegun, status_of}
+use Rattle.dg_run.specs.Turns.{CutsEntry, ScriptAnswered}
+use Rattle.dg_run.proofs.CrashRuns.{LeftSoFar, Stays, adds_calls, at_last, in_run_first, reads_leave}
+use Rattle.dg_run.proofs.EntryAnswers.{IsSession}
+use Rattle.dg_run.proofs.RunWeights.{cut_weighs, takes_both}
+use Rattle.dg_run.proofs.SessionRuns.{keeps_on, runs_from, told_as}
+use Rattle.dg_run.proofs.WrittenReplies.{replies_gained}
 
 map-nothing : {A : Type 0} (o : Option (List A)) → o ≡ option_map (λ rest. [] ++ rest) o
 map-nothing None = refl
@@ -57,185 +46,6 @@ map-nothing (Some xs) = refl
 pub grown-nil : (o : Option (List ℕ)) → o ≡ grown o []
 grown-nil None = refl
 grown-nil (Some xs) = ap (λ ys. Some ys) (sym (append-nil xs))
-
-pub grown-append : (o : Option (List ℕ)) (a b : List ℕ) → grown (grown o a) b ≡ grown o (a ++ b)
-grown-append None a b = refl
-grown-append (Some xs) a b = ap (λ ys. Some ys) (append_assoc xs a b)
-
-front_more : (o : Option (List Entry)) (entries : List Entry) (e : Entry)
-    → option_map (λ rest. entries ++ rest) (option_map (λ rest. e ∷ rest) o) ≡ option_map (λ rest. (entries ++ e ∷ []) ++ rest) o
-front_more None entries e = refl
-front_more (Some rest) entries e = ap (λ es. Some es) (sym (append_assoc entries (e ∷ []) rest))
-
-texts_more : (answers : List Answered) (a : Answered) → texts_of (answers ++ a ∷ []) ≡ texts_of answers ++ text_of a
-texts_more answers a = flat_map-append text_of answers (a ∷ []) ∙ ap (λ (bytes : List ℕ). texts_of answers ++ bytes) (append-nil (text_of a))
-
--- the replies of a turn, and the calls of the disk that failed before it and by its end
-pub record IsCounted (r : Reply) (n k : ℕ) : Type 0 where
-  pub counted : n ≤ k
-  pub rose : is_store_read r.head ≡ true → DiskRose n k
-
-one_more : (b : Bool) (answers : List Answered) (a : Answered) → is_store_read a.reply.head ≡ b
-    → failed_reads (answers ++ a ∷ []) ≡ failed_reads answers + cond b 1 0
-one_more b answers a is =
-    sum_by-append (λ (x : Answered). cond (is_store_read x.reply.head) 1 0) answers (a ∷ [])
-    ∙ ap (λ (n : ℕ). failed_reads answers + n) (sum_by-cons (λ (x : Answered). cond (is_store_read x.reply.head) 1 0) a [] ∙ last b is)
-  where
-    last : (b : Bool) → is_store_read a.reply.head ≡ b → cond (is_store_read a.reply.head) 1 0 + 0 ≡ cond b 1 0
-    last true e = ap (λ (x : Bool). cond x 1 0 + 0) e
-    last false e = ap (λ (x : Bool). cond x 1 0 + 0) e
-
-failed_on : (b : Bool) (answers : List Answered) (a : Answered) (f n k : ℕ) → is_store_read a.reply.head ≡ b → raised_by (failed_reads answers) f ≤ n → IsCounted a.reply n k
-    → raised_by (failed_reads (answers ++ a ∷ [])) f ≤ k
-failed_on true answers a f n k is failed counts = omega (arith, one_more true answers a is, failed, counts.rose is)
-failed_on false answers a f n k is failed counts = omega (arith, one_more false answers a is, failed, counts.counted)
-
--- before the first turn
-going_first : (m : MachineState) (first left before : Option (List ℕ)) (f : ℕ) (session : Parts) (image : List ℕ) (Took : List Entry → Type 0) (from : ℕ) (crashes : (List ℕ → List ℕ → Type 0) → Type 0) → Took [] → first ≡ Some image → StandsFor session image m
-    → Stays first crashes → Going m first left before f session image (option_map script left) before f Took from from crashes
-going_first m first left before f session image Took from crashes took is stands stays = record {
-  entries = [];
-  answers = [];
-  run = tt;
-  stands = stands;
-  front = map-nothing (option_map script left);
-  gained = grown-nil before;
-  unmade = λ none. (none, is);
-  failed = omega arith;
-  took = took;
-  reads = λ k none. takes_none k from from none refl;
-  crash = stays image is (LeftSoFar m []) (so_far_image m [] session image image image stands refl);
-}
-
--- what a session keeps of the index and the names of the machine's history
-kept_index : (index : Option History) (p : Parts) → KeepsHistory index p.index p.names p.graph p.recent → p.index ≡ option_map (λ (z : History). (opened_of z).index) index
-kept_index None p kept = kept.0
-kept_index (Some z) p kept = kept.index_is
-
-kept_names : (index : Option History) (p : Parts) → KeepsHistory index p.index p.names p.graph p.recent → p.names ≡ names_in index
-kept_names None p kept = kept.1
-kept_names (Some z) p kept = kept.names_are
-
--- a session has no index exactly where the machine has none
-no_index_of : (session : Parts) (image : List ℕ) (m : MachineState) → StandsFor session image m → m.index ≡ None → session.index ≡ None
-no_index_of session image m stands none = kept_index m.index session stands.kept ∙ ap (option_map (λ (z : History). (opened_of z).index)) none
-
-none_of : (index : Option History) → option_map (λ (z : History). (opened_of z).index) index ≡ None → index ≡ None
-none_of None is = refl
-none_of (Some z) is = absurd (cc)
-
-some_injective : (x y : List ℕ) → Some x ≡ Some y → x ≡ y
-some_injective x y same = cc
-
--- the text of the reply by the names of the session, which are those of the machine's history
-session_text : (new : Parts) (now : List ℕ) (k : MachineState) (r : Reply) → StandsFor new now k → text new.names r ≡ text (names_in k.index) r
-session_text new now k r stands = ap (λ (names : List (List ℕ)). text names r) (kept_names k.index new stands.kept)
-
--- a turn with a reply that was written
-going_on : (m : MachineState) (first left before : Option (List ℕ)) (f : ℕ) (old new : Parts) (image now : List ℕ) (more rest : Option (List Entry)) (written : Option (List ℕ)) (n k : ℕ) (e : Entry) (r : Reply)
-    (x : List ℕ) (Took Then : List Entry → Type 0) (from at then_at : ℕ) (crashes then_crashes : (List ℕ → List ℕ → Type 0) → Type 0) → first ≡ Some x
-    → Going m first left before f old image more written n Took from at crashes → more ≡ option_map (λ es. e ∷ es) rest → Replies e old image new now r
-    → (new.index ≡ None → (old.index ≡ None) × (now ≡ image)) → IsCounted r n k
-    → ((P R : List ℕ → List ℕ → Type 0) → ((c : List ℕ) → P x c → R x c) → ((c : List ℕ) → LeavesTurn e old r image c → R x c) → crashes P → then_crashes R)
-    → ((es : List Entry) → Took es → Then (es ++ e ∷ [])) → ((m : MachineState) → StandsFor old image m → (l : ℕ) → Weighs m e r.head l → TakesAtMost l at then_at)
-    → Going m first left before f new now rest (grown written (text new.names r)) k Then from then_at then_crashes
-going_on m first left before f old new image now more rest written n k e r x Took Then from at then_at crashes then_crashes begins going is replies same counts adds takes weighs =
-    let next = replies (last_state m going.answers) going.stands in
-    let a : Answered = record { reply = r; state = next.0 } in
-    let last : last_state m (going.answers ++ a ∷ []) ≡ next.0 = last_more m going.answers a in record {
-      entries = going.entries ++ e ∷ [];
-      answers = going.answers ++ a ∷ [];
-      run = run_more m going.entries going.answers e a going.run next.1;
-      stands = subst (λ (k : MachineState). StandsFor new now k) (sym last) next.2;
-      front = going.front ∙ ap (option_map (λ es. going.entries ++ es)) is ∙ front_more rest going.entries e;
-      gained =
-          ap (λ o. grown o (text new.names r)) going.gained
-          ∙ grown-append before (texts_of going.answers) (text new.names r)
-          ∙ ap (grown before) (ap (λ bytes. texts_of going.answers ++ bytes) (session_text new now next.0 r next.2) ∙ sym (texts_more going.answers a));
-      unmade = λ none.
-          let here : next.0.index ≡ None = ap (λ (k : MachineState). k.index) (sym last) ∙ none in
-          let was = same (no_index_of new now next.0 next.2 here) in
-          let first_none = going.unmade (none_of (last_state m going.answers).index (sym (kept_index (last_state m going.answers).index old going.stands.kept) ∙ was.0)) in
-          (first_none.0, first_none.1 ∙ ap (λ x. Some x) (sym was.1));
-      failed = failed_on (is_store_read r.head) going.answers a f n k refl going.failed counts;
-      took = takes going.entries going.took;
-      reads = λ all w.
-          let parts = weighs_more m going.entries going.answers e a all going.run w in
-          subst (λ (j : ℕ). TakesAtMost j from then_at) (sym parts.4)
-          (takes_both parts.0 parts.1 from at then_at (going.reads parts.0 parts.2) (weighs (last_state m going.answers) going.stands parts.1 parts.3));
-      crash =
-          adds (LeftSoFar m going.answers) (LeftSoFar m (going.answers ++ a ∷ [])) (λ c so_far. so_far_longer m going.answers a x c so_far)
-          (λ c left. turn_in_run m going.answers a e old x image c
-          (λ none. let was = going.unmade none in (was.0, some_injective image x (sym was.1 ∙ begins))) going.stands next.1 left) going.crash;
-    }
-
--- ---- over a disk that may tell its image
-
--- the run so far, from every machine that the session stood for over the first image, where the images are told
-abbrev pub GoingOver : Option (List ℕ) → Option (List ℕ) → Option (List ℕ) → ℕ → Parts → Parts → Option (List ℕ) → Option (List Entry) → Option (List ℕ) → ℕ
-    → (List Entry → Type 0) → ℕ → ℕ → ((List ℕ → List ℕ → Type 0) → Type 0) → Type 0
-GoingOver first left before f start session image more written n Took from at crashes =
-    (x y : List ℕ) → first ≡ Some x → image ≡ Some y → (m : MachineState) → StandsFor start x m → Going m first left before f session y more written n Took from at crashes
-
--- an option that is told where another is
-told_as : (a b : Option (List ℕ)) (x : List ℕ) → is_some b ≡ is_some a → a ≡ Some x → (y : List ℕ) × (b ≡ Some y)
-told_as a None x same is = absurd (let none : false ≡ true = same ∙ ap (λ (o : Option (List ℕ)). is_some o) is in cc)
-told_as a (Some y) x same is = (y, refl)
-
--- before the first turn
-pub over_first : (first left before : Option (List ℕ)) (f : ℕ) (session : Parts) (more : Option (List Entry)) (Took : List Entry → Type 0) (from : ℕ) (crashes : (List ℕ → List ℕ → Type 0) → Type 0)
-    → Took [] → option_map script left ≡ more → Stays first crashes → GoingOver first left before f session session first more before f Took from from crashes
-over_first first left before f session more Took from crashes took is stays = λ x y a b m stands.
-    let one : x ≡ y = some_injective x y (sym a ∙ b) in
-    subst (λ (es : Option (List Entry)). Going m first left before f session y es before f Took from from crashes) is
-    (going_first m first left before f session y Took from crashes took b (subst (λ (z : List ℕ). StandsFor session z m) one stands) stays)
-
--- the run so far, where more calls of the disk may have failed since, and a crash within them leaves the image
-going_later : (m : MachineState) (first left before : Option (List ℕ)) (f : ℕ) (session : Parts) (image : List ℕ) (more : Option (List Entry)) (written : Option (List ℕ)) (n k : ℕ)
-    (x : List ℕ) (Took Then : List Entry → Type 0) (from at then_at : ℕ) (crashes then_crashes : (List ℕ → List ℕ → Type 0) → Type 0) → n ≤ k → then_at ≡ at → ((es : List Entry) → Took es → Then es)
-    → ((P R : List ℕ → List ℕ → Type 0) → ((c : List ℕ) → P x c → R x c) → ((c : List ℕ) → c ≡ image → R x c) → crashes P → then_crashes R)
-    → Going m first left before f session image more written n Took from at crashes → Going m first left before f session image more written k Then from then_at then_crashes
-going_later m first left before f session image more written n k x Took Then from at then_at crashes then_crashes le unread takes adds going = record {
-  entries = going.entries;
-  answers = going.answers;
-  run = going.run;
-  stands = going.stands;
-  front = going.front;
-  gained = going.gained;
-  unmade = going.unmade;
-  failed = omega (arith, le, going.failed);
-  took = takes going.entries going.took;
-  reads = λ j w. subst (λ (t : ℕ). TakesAtMost j from t) (sym unread) (going.reads j w);
-  crash =
-      adds (LeftSoFar m going.answers) (LeftSoFar m going.answers) (λ c so_far. so_far)
-      (λ c same. so_far_image m going.answers session x image c going.stands same) going.crash;
-}
-
--- a turn with no reply
-pub over_skip : (first left before : Option (List ℕ)) (f : ℕ) (start old new : Parts) (image now : Option (List ℕ)) (more rest : Option (List Entry)) (written : Option (List ℕ)) (n k : ℕ)
-    (Took Then : List Entry → Type 0) (from at then_at : ℕ) (crashes then_crashes : (List ℕ → List ℕ → Type 0) → Type 0)
-    → GoingOver first left before f start old image more written n Took from at crashes → more ≡ rest → new ≡ old → now ≡ image → n ≤ k → then_at ≡ at → ((es : List Entry) → Took es → Then es) → Adds first image crashes then_crashes (λ was left. left ≡ was)
-    → GoingOver first left before f start new now rest written k Then from then_at then_crashes
-over_skip first left before f start old new image now more rest written n k Took Then from at then_at crashes then_crashes going same kept stays le unread takes adds = λ x y a b m stands.
-    subst (λ (es : Option (List Entry)). Going m first left before f new y es written k Then from then_at then_crashes) same
-    (subst (λ (s : Parts). Going m first left before f s y more written k Then from then_at then_crashes) (sym kept)
-    (going_later m first left before f old y more written n k x Took Then from at then_at crashes then_crashes le unread takes (adds x y a (sym stays ∙ b)) (going x y a (sym stays ∙ b) m stands)))
-
--- a turn with a reply that was written
-pub over_on : (first left before : Option (List ℕ)) (f : ℕ) (start old new : Parts) (image now : Option (List ℕ)) (more rest : Option (List Entry)) (written after : Option (List ℕ)) (n k : ℕ) (e : Entry) (r : Reply)
-    (Took Then : List Entry → Type 0) (from at then_at : ℕ) (crashes then_crashes : (List ℕ → List ℕ → Type 0) → Type 0)
-    → GoingOver first left before f start old image more written n Took from at crashes → is_some image ≡ is_some first → more ≡ option_map (λ es. e ∷ es) rest
-    → WhereBothTold image now (λ x y. Replies e old x new y r) → (new.index ≡ None → (old.index ≡ None) × (now ≡ image)) → after ≡ grown written (text new.names r)
-    → IsCounted r n k → Adds first image crashes then_crashes (LeavesTurn e old r) → ((es : List Entry) → Took es → Then (es ++ e ∷ [])) → ReadsTurn e old image r at then_at
-    → GoingOver first left before f start new now rest after k Then from then_at then_crashes
-over_on first left before f start old new image now more rest written after n k e r Took Then from at then_at crashes then_crashes going told is replies same gained counts adds takes reads = λ x z a c m stands.
-    let mid = told_as first image x told a in
-    subst (λ (w : Option (List ℕ)). Going m first left before f new z rest w k Then from then_at then_crashes) (sym gained)
-    (going_on m first left before f old new mid.0 z more rest written n k e r x Took Then from at then_at crashes then_crashes a (going x mid.0 a mid.1 m stands) is (replies mid.0 z mid.1 c)
-    (λ none. let was = same none in (was.0, some_injective z mid.0 (sym c ∙ was.1 ∙ mid.1))) counts (adds x mid.0 a mid.1) takes
-    (λ j here l w. turn_weighs e old image mid.0 j r l at then_at mid.1 here reads w))
-
--- ---- what is owed where the run ends
 
 -- what is owed from every machine that the session stood for over the first image
 abbrev pub ServedOver : Parts → Status → Outside → Outside → ((List ℕ → List ℕ → Type 0) → Type 0) → Type 0
@@ -280,123 +90,207 @@ ended_faults status.NoMemory f n le rose = omega (arith, le)
 ended_faults (status.Refused fault) f n le rose = omega (arith, le)
 ended_faults status.ScriptLimit f n le rose = omega (arith, le)
 
--- a run that ends between two entries
-pub over_cut : (s : Status) (start now : Outside) (begun session : Parts) (more : Option (List Entry)) (Took : List Entry → Type 0) (crashes : (List ℕ → List ℕ → Type 0) → Type 0)
-    → GoingOver start.image start.left start.written start.disk_faults begun session now.image more now.written now.disk_faults Took start.bytes_read now.bytes_read crashes → Widens crashes → is_some now.image ≡ is_some start.image
-    → (s ≡ status.DiskFault → ⊥) → (s ≡ status.Done → IfSome more (λ rest. rest ≡ [])) → ((due : List ℕ) → now.written ≡ grown start.written due → Gained s start.written due now.written)
-    → ((es : List Entry) → Took es → TakenFrom s es start.left now.left) → ServedOver begun s start now crashes
-over_cut s start now begun session more Took crashes going widens told calm whole gained takes = λ x m a stands.
-    let here = told_as start.image now.image x told a in
-    let run = going x here.0 a here.1 m stands in (
-      record {
-        entries = run.entries;
-        answers = run.answers;
-        run = run.run;
-        more = more;
-        front = run.front;
-        whole = whole;
-        gained = gained (texts_of run.answers) run.gained;
-        stands = subst (λ (o : Option (List ℕ)). IfSome o (λ image. Remains s (last_state m run.answers) more start now image)) (sym here.1) (Kept run.stands.image_stands (λ e. absurd (calm e)));
-        failed = omega (arith, calm_faults s calm, run.failed);
-        takes = takes run.entries run.took;
-        crash = widens (LeftSoFar m run.answers) (LeftInRun s m run.answers more start now) (λ first c left. left_so_far s m run.answers more start now first c left) run.crash;
-      },
-      record { reads = λ opening n last none w end. let reads = run.reads n w in omega (arith, none, calm_end s (last_state m run.answers) more last calm end, reads) },
-    )
-
 comes_first : (more rest : Option (List Entry)) (e : Entry) → more ≡ option_map (λ es. e ∷ es) rest → (es : List Entry) × IfSome more (λ all. all ≡ e ∷ es)
 comes_first more None e is = ([], subst (λ (o : Option (List Entry)). IfSome o (λ all. all ≡ e ∷ [])) (sym is) tt)
 comes_first more (Some es) e is = (es, subst (λ (o : Option (List Entry)). IfSome o (λ all. all ≡ e ∷ es)) (sym is) refl)
 
--- a run that a failure of the disk cuts off within an entry
-pub over_broken : (start now : Outside) (begun session : Parts) (image : Option (List ℕ)) (more rest : Option (List Entry)) (n at : ℕ)
-    (Took Turn_took : List Entry → Type 0) (crashes turn_crashes then_crashes : (List ℕ → List ℕ → Type 0) → Type 0)
-    → GoingOver start.image start.left start.written start.disk_faults begun session image more now.written n Took start.bytes_read at crashes → is_some image ≡ is_some start.image
-    → is_some now.image ≡ is_some image → (breaks : Breaks Turn_took more rest session image now.image at now.bytes_read turn_crashes) → DiskRose n now.disk_faults
-    → Adds start.image image crashes then_crashes (CutsEntry breaks.0 session) → ((es : List Entry) → Took es → TakenFrom status.DiskFault es start.left now.left) → ServedOver begun status.DiskFault start now then_crashes
-over_broken start now begun session image more rest n at Took Turn_took crashes turn_crashes then_crashes going told then_told breaks rose adds takes = λ x m a stands.
-    let mid = told_as start.image image x told a in
-    let here = told_as image now.image mid.0 then_told mid.1 in
-    let run = going x mid.0 a mid.1 m stands in
-    let e = breaks.0 in
-    let first = comes_first more rest e breaks.1 in
-    let cut : IsCut (last_state m run.answers) e mid.0 here.0 = breaks.2 mid.0 here.0 mid.1 here.1 (last_state m run.answers) run.stands in (
-      record {
-        entries = run.entries;
-        answers = run.answers;
-        run = run.run;
-        more = more;
-        front = run.front;
-        whole = λ done. cc;
-        gained = run.gained;
-        stands =
-            subst (λ (o : Option (List ℕ)). IfSome o (λ image. Remains status.DiskFault (last_state m run.answers) more start now image)) (sym here.1)
-            (Cut_off e first.0 mid.0 refl first.1 run.stands.image_stands (λ none. (run.unmade none).1) cut);
-        failed = omega (arith, rose, run.failed);
-        takes = takes run.entries run.took;
-        crash =
-            adds x mid.0 a mid.1 (LeftSoFar m run.answers) (LeftInRun status.DiskFault m run.answers more start now)
-            (λ c left. left_so_far status.DiskFault m run.answers more start now x c left)
-            (λ c torn. inr (inr (Cut_off e first.0 mid.0 refl first.1 run.stands.image_stands (λ none. (run.unmade none).1) (torn (last_state m run.answers) run.stands)))) run.crash;
-      },
-      record {
-        reads = λ opening k last none w end.
-            let late = cut_weighs e rest more session image mid.0 (last_state m run.answers) last at now.bytes_read breaks.1 mid.1 run.stands breaks.5 end in
-            let all = takes_both k last start.bytes_read at now.bytes_read (run.reads k w) late in
-            omega (arith, none, all);
-      },
-    )
+-- what was taken of the script, by how the run ended
+taken_uncut : (s : Status) (es : List Entry) (had has : Option (List ℕ)) → (s ≡ status.SourceFault → ⊥) → (s ≡ status.ScriptLimit → ⊥) → AreTaken es had has → TakenFrom s es had has
+taken_uncut s es had has source limit taken = record { taken = taken; cut = by }
+  where
+    by : (s ≡ status.SourceFault) ⊎ (s ≡ status.ScriptLimit) → AreWhole es had has
+    by (inl e) = absurd (source e)
+    by (inr e) = absurd (limit e)
 
--- a proper prefix of a later piece is one of all pieces
-pub part_later : (before written after : Option (List ℕ)) (due piece : List ℕ) → written ≡ grown before due
-    → GrowsByPart written piece after → GrowsByPart before (due ++ piece) after
-part_later before written after due piece is part = (
-  length due + part.0,
-  omega (arith, length-append due piece, part.1),
-  part.2 ∙ ap (λ o. grown o (take part.0 piece)) is ∙ grown-append before due (take part.0 piece)
-      ∙ ap (grown before) (sym (take-append-add due piece part.0)),
-)
+taken_cut : (s : Status) (es : List Entry) (had has : Option (List ℕ)) → AreWhole es had has → TakenFrom s es had has
+taken_cut s es had has whole = record {
+  taken = (whole.0, whole.1, inl ([], sym whole.2 ∙ sym (append-nil es)));
+  cut = λ is. whole;
+}
 
--- the reply of the last turn was written in part
-pub over_part : (start now : Outside) (begun old new : Parts) (image : Option (List ℕ)) (more rest : Option (List Entry)) (written : Option (List ℕ)) (n at : ℕ) (e : Entry) (r : Reply)
-    (Took Then : List Entry → Type 0) (crashes then_crashes : (List ℕ → List ℕ → Type 0) → Type 0)
-    → GoingOver start.image start.left start.written start.disk_faults begun old image more written n Took start.bytes_read at crashes → is_some image ≡ is_some start.image
-    → is_some now.image ≡ is_some image → more ≡ option_map (λ es. e ∷ es) rest → WhereBothTold image now.image (λ x y. Replies e old x new y r)
-    → (new.index ≡ None → (old.index ≡ None) × (now.image ≡ image)) → GrowsByPart written (text new.names r) now.written → IsCounted r n now.disk_faults
-    → Adds start.image image crashes then_crashes (LeavesTurn e old r) → Widens then_crashes → ((es : List Entry) → Took es → Then (es ++ e ∷ [])) → ReadsTurn e old image r at now.bytes_read
-    → ((es : List Entry) → Then es → TakenFrom status.SinkFault es start.left now.left) → ServedOver begun status.SinkFault start now then_crashes
-unfolding going_on
-over_part start now begun old new image more rest written n at e r Took Then crashes then_crashes going told then_told is replies same part counts adds widens takes reads ends = λ x m a stands.
-    let mid = told_as start.image image x told a in
-    let here = told_as image now.image mid.0 then_told mid.1 in
-    let run = going x mid.0 a mid.1 m stands in
-    let next = going_on m start.image start.left start.written start.disk_faults old new mid.0 here.0 more rest written n now.disk_faults e r x Took Then start.bytes_read at now.bytes_read crashes then_crashes a run is (replies mid.0 here.0 mid.1 here.1)
-    (λ none. let was = same none in (was.0, some_injective here.0 mid.0 (sym here.1 ∙ was.1 ∙ mid.1))) counts (adds x mid.0 a mid.1) takes
-    (λ j there l w. turn_weighs e old image mid.0 j r l at now.bytes_read mid.1 there reads w) in
-    let k = replies mid.0 here.0 mid.1 here.1 (last_state m run.answers) run.stands in
-    let all : texts_of run.answers ++ text new.names r ≡ texts_of next.answers =
-    ap (λ bytes. texts_of run.answers ++ bytes) (session_text new here.0 k.0 r k.2) ∙ sym (texts_more run.answers (record { reply = r; state = k.0 })) in (
-      record {
-        entries = next.entries;
-        answers = next.answers;
-        run = next.run;
-        more = rest;
-        front = next.front;
-        whole = λ done. cc;
-        gained =
-            subst (λ (due : List ℕ). GrowsByPart start.written due now.written) all
-            (part_later start.written written now.written (texts_of run.answers) (text new.names r) run.gained part);
-        stands =
-            subst (λ (o : Option (List ℕ)). IfSome o (λ image. Remains status.SinkFault (last_state m next.answers) rest start now image)) (sym here.1)
-            (Kept next.stands.image_stands (λ e. cc));
-        failed = omega (arith, next.failed);
-        takes = ends next.entries next.took;
-        crash =
-            widens (LeftSoFar m next.answers) (LeftInRun status.SinkFault m next.answers rest start now)
-            (λ first c left. left_so_far status.SinkFault m next.answers rest start now first c left) next.crash;
-      },
-      record { reads = λ opening k last none w end. let all = next.reads k w in omega (arith, none, end, all) },
-    )
+-- what can be told of source and sink, and of the disk
+abbrev pub over : {D : Type 0} → disk.Ghosts D → Streams → D → Outside
+over d s at = record {
+  left = s.left;
+  source_faults = s.source_faults;
+  written = s.written;
+  sink_faults = s.sink_faults;
+  image = d.image at;
+  disk_faults = d.faults at;
+  write_faults = d.write_faults at;
+  bytes_read = d.taken at;
+}
+
+-- why a run ended, but for the disk
+pub record EndsBy (limit : ℕ) (s : Status) (start now : Streams) : Type 0 where
+  pub done : s ≡ status.Done → IfSome start.left (λ script. length script < limit)
+  pub source_fault : s ≡ status.SourceFault → CountRose start.source_faults now.source_faults
+  pub sink_fault : s ≡ status.SinkFault → CountRose start.sink_faults now.sink_faults
+  pub script_limit : s ≡ status.ScriptLimit → (taken : List ℕ) × Gives start.left taken now.left × (length taken ≡ limit)
+
+-- a script without an entry has no first one
+none_first : (more : Option (List Entry)) (e : Entry) (entries : List Entry) → ◌≡◌ {A = Option (List Entry)} (Some []) (option_map (λ rest. (e ∷ entries) ++ rest) more) → ⊥
+none_first None e entries is = cc
+none_first (Some rest) e entries is = cc
+
+-- Each of these takes a run of the machine over the session.
+module _ {M D : Type 0} {g : machine.Ghosts M D} {d : disk.Ghosts D} {parts : M → Parts} where
+  -- over a script without an entry nothing is asked of the disk
+  silent_run : IsSession g d parts → (m : M) (at : D) (entries : List Entry) (turns : List (Turned M D)) (more : Option (List Entry)) → RunOver g command_of m at entries turns
+      → ◌≡◌ {A = Option (List Entry)} (Some []) (option_map (λ rest. entries ++ rest) more) → d.taken (last_world at turns) ≡ d.taken at
+  silent_run is m at [] [] more run none = refl
+  silent_run is m at [] (t ∷ turns) more run none = absurd run
+  silent_run is m at (e ∷ entries) turns more run none = absurd (none_first more e entries none)
+
+  -- it ended between two entries
+  served_calm : IsSession g d parts → (s : Status) (start now : Streams) (m : M) (at : D) (entries : List Entry) (turns : List (Turned M D)) (more : Option (List Entry)) (then_at : D) → RunOver g command_of m at entries turns
+      → option_map script start.left ≡ option_map (λ rest. entries ++ rest) more → ReadsDisk d (last_world at turns) then_at → d.taken then_at ≡ d.taken (last_world at turns)
+      → (s ≡ status.DiskFault → ⊥) → (s ≡ status.Done → IfSome more (λ rest. rest ≡ [])) → Gained s start.written (turn_texts g turns) now.written → TakenFrom s entries start.left now.left
+      → ServedOver (parts m) s (over d start at) (over d now then_at) (LeftByCrash d at then_at)
+  served_calm is s start now m at entries turns more then_at run front asked unread calm whole gained takes = λ x k here stands.
+      let r = runs_from is m at entries turns run x k here stands in
+      let kept = keeps_on is m at entries turns run in (
+        record {
+          entries = entries;
+          answers = r.answers;
+          run = r.run;
+          more = more;
+          front = front;
+          whole = whole;
+          gained = subst (λ (due : List ℕ). Gained s start.written due now.written) r.texts gained;
+          stands =
+              subst (λ (o : Option (List ℕ)). IfSome o (λ image. Remains s (last_state k r.answers) more (over d start at) (over d now then_at) image)) (sym (asked.same_image ∙ r.told))
+              (Kept r.stands.image_stands (λ e. absurd (calm e)));
+          failed = omega (arith, calm_faults s calm, r.failed, asked.counted);
+          takes = takes;
+          crash =
+              adds_calls d at (last_world at turns) then_at (λ first left. left ≡ first) kept.settled (reads_leave d is.only_now (last_world at turns) then_at asked) x r.image here r.told
+              (LeftSoFar k r.answers) (LeftInRun s k r.answers more (over d start at) (over d now then_at)) (λ c left. left_so_far s k r.answers more (over d start at) (over d now then_at) x c left)
+              (λ c same. inl (at_last k r.answers c (subst (StandsAs (last_state k r.answers).index) (sym same) r.stands.image_stands))) r.crash;
+        },
+        record { reads = λ opening n last none weighs end. let reads = r.reads n weighs in omega (arith, none, calm_end s (last_state k r.answers) more last calm end, reads, unread) },
+      )
+
+  -- a failure of the disk cut it off within an entry
+  served_broken : IsSession g d parts → (start now : Streams) (m : M) (at : D) (entries : List Entry) (turns : List (Turned M D)) (more rest : Option (List Entry)) (e : Entry) (then_at : D) → RunOver g command_of m at entries turns
+      → option_map script start.left ≡ option_map (λ later. entries ++ later) more → more ≡ option_map (λ es. e ∷ es) rest → BreaksEntry d e (parts (last_machine m turns)) (last_world at turns) then_at
+      → now.written ≡ grown start.written (turn_texts g turns) → TakenFrom status.DiskFault entries start.left now.left → ServedOver (parts m) status.DiskFault (over d start at) (over d now then_at) (LeftByCrash d at then_at)
+  served_broken is start now m at entries turns more rest e then_at run front first breaks gained takes = λ x k here stands.
+      let r = runs_from is m at entries turns run x k here stands in
+      let kept = keeps_on is m at entries turns run in
+      let there = told_as (d.image (last_world at turns)) (d.image then_at) r.image breaks.used.told r.told in
+      let comes = comes_first more rest e first in
+      let cut : IsCut (last_state k r.answers) e r.image there.0 = breaks.cut r.image there.0 r.told there.1 (last_state k r.answers) r.stands in
+      let unmade : (last_state k r.answers).index ≡ None → d.image at ≡ Some r.image = λ none. here ∙ ap (λ (bytes : List ℕ). Some bytes) (sym (r.unmade none).1) in (
+        record {
+          entries = entries;
+          answers = r.answers;
+          run = r.run;
+          more = more;
+          front = front;
+          whole = λ done. cc;
+          gained = subst (λ (due : List ℕ). now.written ≡ grown start.written due) r.texts gained;
+          stands =
+              subst (λ (o : Option (List ℕ)). IfSome o (λ image. Remains status.DiskFault (last_state k r.answers) more (over d start at) (over d now then_at) image)) (sym there.1)
+              (Cut_off e comes.0 r.image refl comes.1 r.stands.image_stands unmade cut);
+          failed = omega (arith, breaks.cause.call, r.failed);
+          takes = takes;
+          crash =
+              adds_calls d at (last_world at turns) then_at (CutsEntry e (parts (last_machine m turns))) kept.settled breaks.crash x r.image here r.told
+              (LeftSoFar k r.answers) (LeftInRun status.DiskFault k r.answers more (over d start at) (over d now then_at))
+              (λ c left. left_so_far status.DiskFault k r.answers more (over d start at) (over d now then_at) x c left)
+              (λ c torn. inr (inr (Cut_off e comes.0 r.image refl comes.1 r.stands.image_stands unmade (torn (last_state k r.answers) r.stands)))) r.crash;
+        },
+        record {
+          reads = λ opening n last none weighs end.
+              let late = cut_weighs e rest more (parts (last_machine m turns)) (d.image (last_world at turns)) r.image (last_state k r.answers) last (d.taken (last_world at turns)) (d.taken then_at) first r.told r.stands breaks.reads end in
+              let all = takes_both n last (d.taken at) (d.taken (last_world at turns)) (d.taken then_at) (r.reads n weighs) late in
+              omega (arith, none, all);
+        },
+      )
+
+  -- all that is owed of a run that ended between two entries
+  answered_calm : IsSession g d parts → (limit : ℕ) (s : Status) (start now : Streams) (m then_m : M) (at : D) (entries : List Entry) (turns : List (Turned M D)) (more : Option (List Entry)) (then_at : D) → RunOver g command_of m at entries turns
+      → option_map script start.left ≡ option_map (λ rest. entries ++ rest) more → StaysSo d (parts (last_machine m turns)) (last_world at turns) (parts then_m) then_at
+      → (s ≡ status.DiskFault → ⊥) → (s ≡ status.Done → IfSome more (λ rest. rest ≡ [])) → Gained s start.written (turn_texts g turns) now.written → TakenFrom s entries start.left now.left
+      → IsBegun s → EndsBy limit s start now → ScriptAnswered limit (parts m) s (over d start at) (over d now then_at) (LeftByCrash d at then_at)
+  answered_calm is limit s start now m then_m at entries turns more then_at run front stays calm whole gained takes begun ends =
+      let kept = keeps_on is m at entries turns run in record {
+        served = served_calm is s start now m at entries turns more then_at run front stays.asked stays.unread calm whole gained takes;
+        replies = replies_gained is s m at entries turns start.written now.written run gained;
+        told = ap (λ (o : Option (List ℕ)). is_some o) stays.asked.same_image ∙ kept.used.told;
+        exact = λ other tidy. same_tidy (d.image (last_world at turns)) (d.image then_at) stays.asked.same_image (kept.exact tidy);
+        begun = begun;
+        done = ends.done;
+        source_fault = ends.source_fault;
+        sink_fault = ends.sink_fault;
+        disk_fault = λ e. absurd (calm e);
+        script_limit = ends.script_limit;
+        silent = λ e none. stays.unread ∙ silent_run is m at entries turns more run (sym none ∙ front);
+      }
+
+  -- the machine stayed as it was behind the last reply
+  unmoved : IsSession g d parts → (m then_m : M) (at then_at : D) → then_m ≡ m → then_at ≡ at → StaysSo d (parts m) at (parts then_m) then_at
+  unmoved is m then_m at then_at same_m same_at =
+      subst (λ (x : M). StaysSo d (parts m) at (parts x) then_at) (sym same_m) (subst (λ (x : D). StaysSo d (parts m) at (parts m) x) (sym same_at) (stays_as_it_is (parts m) at))
+
+  -- or was only asked, unless its world failed
+  stays_behind : IsSession g d parts → (end : End) (more : Option (List Entry)) (m then_m : M) (at then_at : D) → (status_of end ≡ status.DiskFault → ⊥) → LeavesFor g end more m at then_m then_at
+      → StaysSo d (parts m) at (parts then_m) then_at
+  stays_behind is end.Done more m then_m at then_at calm leaves = unmoved is m then_m at then_at leaves.1 leaves.2
+  stays_behind is end.SourceFault more m then_m at then_at calm leaves = is.stays m at then_m then_at leaves
+  stays_behind is end.SinkFault more m then_m at then_at calm leaves = unmoved is m then_m at then_at leaves.0 leaves.1
+  stays_behind is end.ScriptLimit more m then_m at then_at calm leaves = is.stays m at then_m then_at leaves
+  stays_behind is end.Broken more m then_m at then_at calm leaves = absurd (calm refl)
+
+  -- what a run of the machine comes to, as a run of the program
+  pub script_answered : (limit : ℕ) (start now : Streams) (m then_m : M) (at then_at : D) (end : End) → Ran g command_of limit start m at end now then_m then_at → IsSession g d parts
+      → ScriptAnswered limit (parts m) (status_of end) (over d start at) (over d now then_at) (LeftByCrash d at then_at)
+  script_answered limit start now m then_m at then_at end.Done ran is =
+      answered_calm is limit status.Done start now m then_m at ran.entries ran.turns ran.more then_at ran.run ran.front (stays_behind is end.Done ran.more _ then_m _ then_at (λ e. cc) ran.leaves)
+      (λ e. cc) (λ e. ran.leaves.0) ran.gained (taken_uncut status.Done ran.entries start.left now.left (λ e. cc) (λ e. cc) ran.takes) tt
+      (record { done = λ e. ran.ends; source_fault = λ e. cc; sink_fault = λ e. cc; script_limit = λ e. cc })
+  script_answered limit start now m then_m at then_at end.SourceFault ran is =
+      answered_calm is limit status.SourceFault start now m then_m at ran.entries ran.turns ran.more then_at ran.run ran.front (stays_behind is end.SourceFault ran.more _ then_m _ then_at (λ e. cc) ran.leaves)
+      (λ e. cc) (λ e. cc) ran.gained (taken_cut status.SourceFault ran.entries start.left now.left ran.takes) tt
+      (record { done = λ e. cc; source_fault = λ e. ran.ends; sink_fault = λ e. cc; script_limit = λ e. cc })
+  script_answered limit start now m then_m at then_at end.SinkFault ran is =
+      answered_calm is limit status.SinkFault start now m then_m at ran.entries ran.turns ran.more then_at ran.run ran.front (stays_behind is end.SinkFault ran.more _ then_m _ then_at (λ e. cc) ran.leaves)
+      (λ e. cc) (λ e. cc) ran.gained (taken_uncut status.SinkFault ran.entries start.left now.left (λ e. cc) (λ e. cc) ran.takes) tt
+      (record { done = λ e. cc; source_fault = λ e. cc; sink_fault = λ e. ran.ends; script_limit = λ e. cc })
+  script_answered limit start now m then_m at then_at end.ScriptLimit ran is =
+      answered_calm is limit status.ScriptLimit start now m then_m at ran.entries ran.turns ran.more then_at ran.run ran.front (stays_behind is end.ScriptLimit ran.more _ then_m _ then_at (λ e. cc) ran.leaves)
+      (λ e. cc) (λ e. cc) ran.gained (taken_cut status.ScriptLimit ran.entries start.left now.left ran.takes) tt
+      (record { done = λ e. cc; source_fault = λ e. cc; sink_fault = λ e. cc; script_limit = λ e. ran.ends })
+  script_answered limit start now m then_m at then_at end.Broken ran is =
+      let kept = keeps_on is m at ran.entries ran.turns ran.run in
+      let first = ran.leaves.2 in
+      let failed = ran.leaves.3 in
+      let breaks : BreaksEntry d ran.leaves.0 (parts (last_machine m ran.turns)) (last_world at ran.turns) then_at =
+      subst (λ (e : Entry). BreaksEntry d e (parts (last_machine m ran.turns)) (last_world at ran.turns) then_at) (sym failed.2)
+      (is.breaks failed.0 failed.1 (last_machine m ran.turns) (last_world at ran.turns) then_m then_at failed.3) in record {
+        served = served_broken is start now m at ran.entries ran.turns ran.more ran.leaves.1 ran.leaves.0 then_at ran.run ran.front first breaks ran.gained
+            (taken_uncut status.DiskFault ran.entries start.left now.left (λ e. cc) (λ e. cc) ran.takes);
+        replies = replies_gained is status.DiskFault m at ran.entries ran.turns start.written now.written ran.run ran.gained;
+        told = breaks.used.told ∙ kept.used.told;
+        exact = λ other. absurd (other refl);
+        begun = tt;
+        done = λ e. cc;
+        source_fault = λ e. cc;
+        sink_fault = λ e. cc;
+        disk_fault = λ e. omega (arith, kept.used.writes_counted, breaks.cause.write);
+        script_limit = λ e. cc;
+        silent = λ e. cc;
+      }
+
+  -- what was on the device stays there, unless the disk failed
+  pub stays_on_device : (limit : ℕ) (start now : Streams) (m then_m : M) (at then_at : D) (end : End) → Ran g command_of limit start m at end now then_m then_at → IsSession g d parts
+      → (status_of end ≡ status.DiskFault → ⊥) → StaysOnDevice d at then_at
+  stays_on_device limit start now m then_m at then_at end ran is calm = λ on.
+      let stays = stays_behind is end ran.more (last_machine m ran.turns) then_m (last_world at ran.turns) then_at calm ran.leaves in
+      reads_stay (last_world at ran.turns) then_at stays.asked ((keeps_on is m at ran.entries ran.turns ran.run).settled on)
+
+-- ---- where nothing was answered, and from an earlier start
 
 pub if_some : (o : Option (List ℕ)) (P : List ℕ → Type 0) → ((x : List ℕ) → o ≡ Some x → P x) → IfSome o P
 if_some None P each = tt
@@ -435,7 +329,7 @@ served_nothing s m Opens start now image crashes is stands same stays undone gai
       taken = ([], subst (λ (o : Option (List ℕ)). Gives start.left [] o) (sym same.left) (gives_nothing start.left), inl ([], refl));
       cut = λ is. absurd (uncut is);
     };
-    crash = stays image is (LeftInRun s m [] (option_map script start.left) start now) (inl (at_last m [] image stands));
+    crash = stays image is (LeftInRun s m [] (option_map script start.left) start now) (inl (in_run_first m [] image stands));
   },
   record { reads = λ opening n last opened w end. let reads = opens opening opened in omega (arith, reads) },
 )
@@ -453,37 +347,3 @@ pub left_from : (s : Status) (m : MachineState) (answers : List Answered) (more 
 left_from s m answers more start mid now first c same (inl stands) = inl stands
 left_from s m answers more start mid now first c same (inr (inl byte)) = inr (inl byte)
 left_from s m answers more start mid now first c same (inr (inr remains)) = inr (inr (remains_from s (last_state m answers) more start mid now c same remains))
-
--- before anything is read, the entries to come are those of the script
-pub asked_first : (r : LinesState) (left : Option (List ℕ)) (limit : ℕ)
-    → r ≡ record { held = []; long = false; ended = false; taken = 0; limit = limit; text = [] }
-    → option_map script left ≡ asked r left
-asked_first r None limit is = refl
-asked_first r (Some bytes) limit is =
-    ap (λ (x : LinesState). asked x (Some bytes)) (sym is)
-
--- ---- where no entry is to come
-
--- a script without an entry stays one, and nothing was read from the disk
-abbrev pub StaysSilent : Option (List Entry) → Option (List Entry) → ℕ → ℕ → Type 0
-StaysSilent first now before after = first ≡ Some [] → (now ≡ Some []) × (after ≡ before)
-
--- a turn with a reply is one at an entry
-none_more : (more : Option (List Entry)) (e : Entry) → ◌≡◌ {A = Option (List Entry)} (Some []) (option_map (λ es. e ∷ es) more) → ⊥
-none_more None e is = cc
-none_more (Some es) e is = cc
-
-pub silent_on : (first more rest : Option (List Entry)) (e : Entry) (before mid after : ℕ) → StaysSilent first more before mid → more ≡ option_map (λ es. e ∷ es) rest → StaysSilent first rest before after
-silent_on first more rest e before mid after silent is none = absurd (none_more rest e (sym (silent none).0 ∙ is))
-
-pub silent_skip : (first more rest : Option (List Entry)) (before mid after : ℕ) → StaysSilent first more before mid → more ≡ rest → after ≡ mid → StaysSilent first rest before after
-silent_skip first more rest before mid after silent same unread none = let s = silent none in (sym same ∙ s.0, unread ∙ s.1)
-
--- what is said of an error, where the test says that it is one
-pub at_err : {T E : Type 0} (r : Result T E) (P : Type 0) → is_err r ≡ true → OnErr r P → P
-at_err (Ok x) P test says = absurd (cc)
-at_err (Err e) P test says = says
-
-pub at_ok : {T E : Type 0} (r : Result T E) (P : Type 0) → is_err r ≡ false → OnOk r P → P
-at_ok (Ok x) P test says = says
-at_ok (Err e) P test says = absurd (cc)

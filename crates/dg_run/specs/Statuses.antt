@@ -1,10 +1,12 @@
--- The exit status of each end of a run, and how a run ends whose session does not begin.
+-- The exit status of each end of a run, how a run ends whose session does not begin, and how one that ends with its script.
 use Rattle.std.specs.Prelude.{ℕ, Bool, true, false}
 use Rattle.dg_session.specs.declared.session_fault.SessionFault.{SessionFault}
 use Rattle.dg_session.specs.declared.session_fault.SessionFault.TheVariants.{Start, Unsound}
 use Rattle.dg_start.specs.declared.fault.StartFault.TheVariants as fault
 use Rattle.dg_run.specs.declared.status.Status.{Status}
 use Rattle.dg_run.specs.declared.status.Status.TheVariants as status
+use Rattle.dg_turns.specs.declared.end.End.{End}
+use Rattle.dg_turns.specs.declared.end.End.TheVariants as end
 
 -- the exit status
 abbrev pub code_of : Status → ℕ
@@ -27,6 +29,14 @@ ending_of (Start fault.NotGraph) = status.Refused (Start fault.NotGraph)
 ending_of (Start (fault.BadRecent number)) = status.Refused (Start (fault.BadRecent number))
 ending_of (Start fault.Memory) = status.NoMemory
 ending_of (Unsound key col) = status.Refused (Unsound key col)
+
+-- the end of the run over the script is that of the run
+abbrev pub status_of : End → Status
+status_of end.Done = status.Done
+status_of end.SourceFault = status.SourceFault
+status_of end.SinkFault = status.SinkFault
+status_of end.ScriptLimit = status.ScriptLimit
+status_of end.Broken = status.DiskFault
 
 -- the run ended before anything was read or written, and not by a failure of the disk
 abbrev pub is_unbegun : Status → Bool

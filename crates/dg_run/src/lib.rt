@@ -2,9 +2,9 @@
 //! docs/SCRIPT.md has the commands, and docs/MODEL.md the machine that says what is due.
 #![tactic(auto)]
 
+mod machine;
 mod run;
 mod status;
-mod turn;
 
 pub use run::{serve, serve_with};
 pub use status::Status;

@@ -9,15 +9,14 @@ ghost use Rattle.dg_run.specs.Promised.{Promised};
 ghost use Rattle.dg_run.specs.Statuses.{IsBegun};
 ghost use Rattle.dg_run.specs.Turns.{ScriptAnswered};
 
+use crate::machine::SessionMachine;
 use crate::status::Status;
-use crate::turn::{Turn, next_turn};
 use dg_disk::Disk;
 use dg_history::{EVENTS_MAX, FILE_BYTES_MAX};
-use dg_io::{Lines, Sink, Source};
 use dg_machine::{FIRST_HANDLE, Limits, SCRIPT_BYTES_MAX};
-use dg_reply::write_reply;
 use dg_seed::Seed;
-use dg_session::{Session, Stop, law_begins_are_determined};
+use dg_session::{Session, law_begins_are_determined};
+use dg_turns::{Commands, Sink, Source};
 use dg_words::read_words;
 use std::alloc::Global;
 use std::thread::Threads;
@@ -103,55 +102,42 @@ fn run_session<R: Threads + Sync, S: Source, K: Sink, D: Disk>(
     // Its clause says that an image comes to one beginning.
     law_begins_are_determined();
     match Session::start(rt, alloc, seed, disk, checked, limits) {
-        Ok(mut session) => {
+        Ok(session) => {
             // From here on it is commands that read, and they may ask for the same again.
             disk.expect_repeats();
-            answer_script(
-                rt,
-                alloc,
-                limits.script_bytes,
-                &mut session,
-                source,
-                sink,
-                disk,
-            )
+            answer_script(rt, alloc, limits.script_bytes, session, source, sink, disk)
         }
         Err(fault) => Status::from(fault),
     }
 }
 
 // Answers the script by the session, of which at most so many bytes may be taken.
-// Its frame is large, and stands on the stack only while it runs.
-#[inline(never)]
 fn answer_script<R: Threads + Sync, S: Source, K: Sink, D: Disk>(
     rt: &R,
     alloc: Global,
     limit: u64,
-    session: &mut Session,
+    session: Session,
     source: &mut S,
     sink: &mut K,
     disk: &mut D,
 ) -> Status
-    requires { HoldsImage session.old.parts (D.image disk.old) }
-    ensures answered { ScriptAnswered limit session.old.parts result
+    requires { HoldsImage session.parts (D.image disk.old) }
+    ensures answered { ScriptAnswered limit session.parts result
         (outside S.Source K.Sink D.Disk source.old sink.old disk.old)
         (outside S.Source K.Sink D.Disk source.new sink.new disk.new)
         (LeftByCrash D.Disk disk.old disk.new) }
     ensures on_device { result ≢ Status.DiskFault → StaysOnDevice D.Disk disk.old disk.new }
 {
-    let mut lines = Lines::new(limit);
-    loop {
-        match next_turn(rt, alloc, session, &mut lines, source, disk) {
-            Ok(Turn::Skipped) => {}
-            Ok(Turn::Replied(reply)) => {
-                if write_reply(sink, session.names(), &reply).is_err() {
-                    return Status::SinkFault;
-                }
-            }
-            Ok(Turn::End) => return Status::Done,
-            Err(Stop::Read) => return Status::SourceFault,
-            Err(Stop::Limit) => return Status::ScriptLimit,
-            Err(Stop::Store) => return Status::DiskFault,
-        }
-    }
+    let mut machine = SessionMachine { session };
+    let end = dg_turns::answer_script(
+        rt,
+        alloc,
+        Commands::All,
+        limit,
+        &mut machine,
+        disk,
+        source,
+        sink,
+    );
+    Status::from(end)
 }

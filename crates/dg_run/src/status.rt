@@ -1,8 +1,9 @@
 //! How a run ends, its exit status, and the line that says so.
 ghost use Rattle.std.specs.Prelude.{◌≡◌};
-ghost use Rattle.dg_run.specs.Statuses.{code_of, ending_of};
+ghost use Rattle.dg_run.specs.Statuses.{code_of, ending_of, status_of};
 
 use dg_session::{SessionFault, StartFault};
+use dg_turns::End;
 
 /// How a run ended.
 #[derive(Clone, Copy, Debug, PartialEq, Eq)]
@@ -35,6 +36,21 @@ impl From<SessionFault> for Status {
             SessionFault::Start(StartFault::Disk) => Status::DiskFault,
             SessionFault::Start(StartFault::Memory) => Status::NoMemory,
             _ => Status::Refused(fault),
+        }
+    }
+}
+
+impl From<End> for Status {
+    ghost from_gives = { λ end status. status ≡ status_of end };
+
+    /// How a run ends whose script ends so.
+    fn from(end: End) -> Status {
+        match end {
+            End::Done => Status::Done,
+            End::SourceFault => Status::SourceFault,
+            End::SinkFault => Status::SinkFault,
+            End::ScriptLimit => Status::ScriptLimit,
+            End::Broken => Status::DiskFault,
         }
     }
 }

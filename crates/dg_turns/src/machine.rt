@@ -1,5 +1,6 @@
 //! What carries out the commands of a script.
 ghost use Rattle.std.specs.Prelude.{◌≡◌, ◌≢◌, ℕ, List, IfOk, IfErr, IsErrOf};
+ghost use Rattle.std.specs.Thread.{IsSync};
 ghost use Rattle.dg_io.specs.Calls.{FailsToRead, TakesFrom};
 ghost use Rattle.dg_machine.specs.CommandGrammar.{CountIsInRange};
 ghost use Rattle.dg_machine.specs.declared.command.Command.{Command};
@@ -50,6 +51,8 @@ pub trait Machine<W> {
         source: &mut S,
         world: &mut W,
     ) -> Result<Reply, Stop>
+        // The handle may be shared by threads, as its bound says.
+        requires shared { IsSync R.row }
         requires holds { holds self.old world.old }
         requires takes { takes command.now }
         requires range { CountIsInRange command.now }
