@@ -1,0 +1,9 @@
+pub mod OutLists
+pub mod OutsAsked
+pub mod EventCrowds
+pub mod PartEvents
+pub mod ReadEvents
+pub mod PartEnds
+pub mod PartRuns
+pub mod SplitEnds
+pub mod Failures
