@@ -85,27 +85,6 @@ def put_in(event):
     return (MESSAGE, *event[2:]) if event[1] == "msg" else effect(event)[1]
 
 
-def added(events, begin, end, columns):
-    """What the events from an instant on and before another put in, in these columns."""
-    found = (put_in(event) for event in events if begin <= event[0] < end)
-    return {x for x in found if x is not None and LETTERS[COLUMN_OF[x[0]]] in columns}
-
-
-def nodes_with(graph, key, value):
-    """The nodes of a graph that have this value."""
-    return sorted(x[1] for x in graph if x[0] == NODE_ATTR and x[2:] == (key, value))
-
-
-def additions(events, key):
-    """How many events put in a value of a key at a node."""
-    return sum(x is not None and x[0] == NODE_ATTR and x[2] == key for x in map(put_in, events))
-
-
-def messages_at(events, time):
-    """The messages of exactly an instant."""
-    return {(MESSAGE, *event[2:]) for event in events if event[0] == time and event[1] == "msg"}
-
-
 def column_of(event):
     if event[1] == "msg":
         return MESSAGES
@@ -258,57 +237,3 @@ class History:
 def key_order(sized):
     kind, *numbers = sized[0].split(" ")
     return ["list", "piece", "top", "down"].index(kind), [int(n) for n in numbers]
-
-
-def is_key(text):
-    return 1 <= len(text) <= 64 and all(byte > 32 for byte in text)
-
-
-# What is asked of a graph.
-
-
-def cut(graph, columns):
-    """The elements of a graph in these columns."""
-    return {x for x in graph if x[0] in (NODE, EDGE) or ("n" if x[0] == NODE_ATTR else "e") in columns}
-
-
-def listing(graph, names):
-    lines = []
-    for x in sorted(graph):
-        if x[0] == NODE:
-            lines.append(f"node {x[1]}")
-        elif x[0] == EDGE:
-            lines.append(f"edge {x[1]} {x[2]} {x[3]} {'dir' if x[4] else 'undir'}")
-        elif x[0] == MESSAGE:
-            lines.append(f"msg {x[1]} {x[2]} {names[x[3]].decode()}")
-        else:
-            word = "nattr" if x[0] == NODE_ATTR else "eattr"
-            lines.append(f"{word} {x[1]} {names[x[2]].decode()} {names[x[3]].decode()}")
-    return lines
-
-
-def neighbours(graph, node):
-    """The lines of the edges at a node, by their ids."""
-    lines = []
-    for _, edge, source, target, directed in sorted(x for x in graph if x[0] == EDGE):
-        if node in (source, target):
-            side = ("out" if node == source else "in") if directed else "both"
-            lines.append(f"{side} {edge} {target if node == source else source}")
-    return lines
-
-
-def attributes(graph, node, names):
-    """The lines of a node's attributes, by the number of their key."""
-    found = sorted(x for x in graph if x[:2] == (NODE_ATTR, node))
-    return [f"attr {names[key].decode()} {names[value].decode()}" for _, _, key, value in found]
-
-
-def holding(words, graphs):
-    """Which elements an expression holds for, among those that any of its graphs has. The words are taken off."""
-    word = words.pop(0)
-    if word == "not":
-        return set.union(*graphs.values()) - holding(words, graphs)
-    if word in ("and", "or"):
-        one, other = holding(words, graphs), holding(words, graphs)
-        return one & other if word == "and" else one | other
-    return graphs[word]

@@ -1,7 +1,22 @@
 """What an index file is opened as, whether a start goes on with it, and whether it is what its own events determine, after
 docs/FORMATS.md and docs/SCRIPT.md alone: of any bytes. The records that are due are those of history.py."""
 
-from tests.lib.history import COLUMNS, EDGE, EDGE_ATTR, FUNCTIONS, History, MESSAGES, NODE, NODES, NODE_ATTR, STRUCTURE, effect, event_column
+from tests.lib.history import (
+    COLUMNS,
+    EDGE,
+    EDGE_ATTR,
+    FUNCTIONS,
+    LETTERS,
+    MESSAGES,
+    NODE,
+    NODE_ATTR,
+    NODES,
+    STRUCTURE,
+    History,
+    effect,
+    event_column,
+)
+from tests.lib.machine import Machine
 from tests.lib.plans import IndexGraph
 from tests.lib.runs import HEADER, OPEN, is_blank
 
@@ -9,7 +24,6 @@ NAME_MOST, KEY_MOST = 1024, 64  # bytes
 BATCH_MOST, EVENTS_MOST = 2**20, 2**28
 TIME_MOST = 2**63 - 1
 FILE_MOST = 2**48
-LETTERS = "snet"
 
 
 class Refused(Exception):
@@ -339,6 +353,10 @@ class Judgement:
         except Wrong as wrong:
             key, column = wrong.args
             self.soundness = f"unsound {key} {LETTERS[column]}"
+
+    def machine(self):
+        """The machine over the history that the file stands for; over no index where it is blank."""
+        return Machine() if self.is_blank else Machine(self.history.copy(), self.opened.names)
 
     @property
     def is_sound(self):

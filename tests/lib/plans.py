@@ -46,6 +46,7 @@ class IndexGraph:
         self.edges = [edge[:3] for edge in edges]
         self.records = [edge[3] for edge in edges]
         self.costs = self.costs_from(["root"])
+        self.trees = {}  # by their targets
 
     def costs_from(self, starts):
         """The least cost of each node from these, by rounds over all edges until none changes."""
@@ -80,12 +81,15 @@ class IndexGraph:
 
     def tree(self, targets):
         """The steps of the tree of these targets: for each the least walk from the tree so far is added."""
-        tree, steps = ["root"], []
-        for target in targets:
-            walk = self.walk(target, tree, self.costs_from(tree))
-            tree += [self.edges[i][1] for i in walk]
-            steps += walk
-        return steps
+        key = tuple(targets)
+        if key not in self.trees:
+            tree, steps = ["root"], []
+            for target in targets:
+                walk = [] if target in tree else self.walk(target, tree, self.costs_from(tree))
+                tree += [self.edges[i][1] for i in walk]
+                steps += walk
+            self.trees[key] = steps
+        return self.trees[key]
 
     def rests(self, targets):
         """For each target the handle with whose node its path within the tree begins, or None."""

@@ -57,8 +57,8 @@ class Ran:
                 found.append(reply)
                 reply = []
             else:
-                reply.append(line.decode(errors="replace"))
-        return found, b"\n".join([*(line.encode() for line in reply), lines[-1]])
+                reply.append(line.decode(errors="surrogateescape"))
+        return found, b"\n".join([*(line.encode(errors="surrogateescape") for line in reply), lines[-1]])
 
 
 def give_up(signal_number, frame):

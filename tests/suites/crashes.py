@@ -3,12 +3,13 @@
 A run of the program is traced by strace. Its writes and syncs are replayed, and for each moment of the run images are
 made that a crash then may leave: since the last sync each written range may hold any bytes, all else is as it was, and
 the length lies between the length at that sync and the greatest length since. Each image is opened by the program. It
-has to answer as it answers over the history before the command of that moment, or over the one after it, and what is
-in use of it has to be that of the one or the other, byte for byte. A replay without the syncs that this rests on has to
-show images that are neither.
+has to answer as the machine of lib/machine.py answers over the history before the command of that moment, or over the one
+after it, and what is in use of it has to be that of the one or the other, byte for byte. A replay without the syncs that
+this rests on has to show images that are neither.
 
 And runs are killed: at each of their calls of the system, and at many moments more. What the file then holds is a whole
-number of the batches of the script, as a model of it in Python makes them, and at least those that were answered.
+number of the batches of the script, as the machine makes them, and at least those that were answered; and what was written
+is the beginning of the machine's replies.
 """
 
 import itertools
@@ -21,8 +22,10 @@ import sys
 import time
 
 from tests.lib.changes import Changes
-from tests.lib.history import FUNCTIONS, History
-from tests.lib.runs import CREATE, FIRST_FORM, FIVE, HEADER, Program, Tests, content, in_use, is_blank, lines, put
+from tests.lib.history import FUNCTIONS
+from tests.lib.judge import Judgement
+from tests.lib.machine import Due, Machine, commands_of
+from tests.lib.runs import CREATE, FIRST_FORM, FIVE, HEADER, Program, Tests, content, in_use, lines, put
 
 CALL = re.compile(rb"^(?:\d+ +)?(\w+)\((.*)\) += (-?\d+)")
 HEX = re.compile(rb'"((?:\\x[0-9a-f]{2})*)"')
@@ -32,7 +35,7 @@ SUBSETS = 64  # of the writes since a sync; more are drawn at random
 DRAWN = 60  # images of one moment in which any bytes stand in the written ranges
 KILLS = 900  # at moments of the clock
 WRITTEN_ON = 150  # images of one run to which the next batch is added
-ASK = b"verify\ntree\nat 50 sne\nlist 1\n"
+ASK = ["verify", "tree", "at 50 sne", "list 1"]
 
 
 class Write:
@@ -168,7 +171,7 @@ class Crashes:
     def answers(self, image):
         """The status and the replies of a run over the image, which it must leave as it is."""
         if image not in self.known:
-            ran, after = self.program.over(image, ASK)
+            ran, after = self.program.over(image, lines(ASK))
             self.images += 1
             self.known[image] = ran.status, ran.replies
             self.tests.check("an opening leaves the image", after == image, len(image))
@@ -205,12 +208,12 @@ class Crashes:
             states.append(image)
         return moments, states
 
-    def broken(self, start, deeds, states, first_byte=False):
-        """What crashes at each moment of a run may leave that is neither the state before nor the one after. `first_byte`:
-        where an index is made over a file of 18 bytes, the first of these may be any."""
+    def broken(self, start, deeds, steps, first_byte=False):
+        """What crashes at each moment of a run may leave that is neither the state before nor the one after, of these steps of
+        the machine. `first_byte`: where an index is made over a file of 18 bytes, the first of these may be any."""
         found = []
         moments, _ = self.crash_points(start, deeds)
-        due = [(self.answers(state), in_use(state)) for state in states]
+        due = [((0, b"".join(Due(state, ASK).replies)), in_use(state.file())) for state in steps]
         seen = set()
         for synced, since, at in moments:
             allowed = due[at : at + 2]
@@ -226,16 +229,16 @@ class Crashes:
                     found.append((len(image), image[:24].hex(), self.answers(image)))
         return found
 
-    def written_on(self, name, start, deeds, states, batch):
+    def written_on(self, name, start, deeds, steps, batch):
         """Over some of the images that crashes leave the next batch is added: what is then in use is that of the state before
         or of the one after, with the batch."""
         moments, _ = self.crash_points(start, deeds)
         images = sorted({(at, image) for synced, since, at in moments for image in crashes(synced, since)})
         draw = random.Random(len(images))
-        due = [self.program.over(state, batch) for state in states]
+        due = [Due(state, commands_of(batch)) for state in steps]
         for at, image in draw.sample(images, min(WRITTEN_ON, len(images))):
             ran, after = self.program.over(image, batch)
-            allowed = [(whole.status, whole.replies, in_use(file)) for whole, file in due[at : at + 2]]
+            allowed = [(0, b"".join(one.replies), in_use(one.machines[-1].file())) for one in due[at : at + 2]]
             found = ran.status, ran.replies, in_use(after)
             self.tests.check(f"{name}: a batch behind a crash", found in allowed, (len(image), ran.replies))
 
@@ -246,13 +249,15 @@ class Crashes:
         deeds, after = self.traced(start, script)
         moments, states = self.crash_points(start, deeds)
         self.tests.same(f"{name}: the replay gives the file", states[-1], after)
+        steps = due_of(start, script).steps()
+        self.tests.same(f"{name}: the files at the replies", list(map(in_use, states)), [in_use(step.file()) for step in steps])
         for deed, (_, since, _) in zip((d for d in deeds if not isinstance(d, Read)), moments[1:]):
             if isinstance(deed, Reply):
                 self.tests.same(f"{name}: a reply comes after the sync of all that is written", len(since), 0)
-        for found in self.broken(start, deeds, states, first_byte):
+        for found in self.broken(start, deeds, steps, first_byte):
             self.tests.check(f"{name}: a crash", False, found)
         if batch:
-            self.written_on(name, start, deeds, states, batch)
+            self.written_on(name, start, deeds, steps, batch)
         print(f"{name}: {len(moments)} moments, {self.images - before} images", flush=True)
         return after
 
@@ -261,67 +266,68 @@ class Crashes:
         state, and they are found."""
         self.known.clear()
         deeds, _ = self.traced(start, script)
-        _, states = self.crash_points(start, deeds)
         opening = next(i for i, deed in enumerate(deeds) if isinstance(deed, Write))
         numbers = [i for i, deed in enumerate(deeds) if isinstance(deed, Sync) and i > opening]
         without = set(numbers if left_out is None else [numbers[n] for n in left_out if n < len(numbers)])
         passed = self.tests.passed
-        found = self.broken(start, [deed for i, deed in enumerate(deeds) if i not in without], states)
+        found = self.broken(start, [deed for i, deed in enumerate(deeds) if i not in without], due_of(start, script).steps())
         self.tests.passed = passed
         self.tests.check(f"{name}: what a missing sync breaks is found", found)
         print(f"{name}: {len(found)} images are broken", flush=True)
 
 
-def histories(seed, sizes):
-    """A random history in batches of these sizes: the commands that make it, and the file after each of them."""
+def due_of(image, script):
+    """What is due of a script over a file of these bytes."""
+    return Due(Judgement(image).machine(), commands_of(script))
+
+
+def history_of(seed, sizes):
+    """What is due of a random history in batches of these sizes."""
     rng = random.Random(seed)
     parameters = rng.choice([2, 3, 4]), rng.choice([2, 3]), rng.choice(FUNCTIONS)
-    history, changes = History(*parameters), Changes(rng)
-    commands, states = [f"create {' '.join(map(str, parameters))}"], [b"", in_use(history.file())]
+    changes, commands = Changes(rng), [f"create {' '.join(map(str, parameters))}"]
     for batch, size in enumerate(sizes):
         changes.time += 1 if batch else 0
-        names = []
-        made = [changes.next(names) for _ in range(size)]
-        history.add([event for _, event in made], names)
-        commands.append("\n".join([f"{'append' if batch else 'load'} {size}", *(line for line, _ in made)]))
-        states.append(in_use(history.file()))
-    return commands, states
+        made = [line for line, _ in (changes.next([]) for _ in range(size))]
+        commands.append("\n".join([f"{'append' if batch else 'load'} {size}", *made]))
+    return Due(Machine(), commands)
 
 
 class Kills:
-    """Runs that are killed, over a history of which a model says what the file is after each batch."""
+    """Runs that are killed, over a history of which the machine says what the file is after each command."""
 
     def __init__(self, tests, program):
         self.tests, self.program = tests, program
         self.count = self.within = 0  # kills, and those before the last command was answered
 
-    def look(self, name, states, killed, replies):
-        """The file holds a whole number of commands: those that were answered, or one more."""
-        answered = replies.count(b"end\n")
-        held = in_use(killed)
-        whole = [k for k in (answered, answered + 1) if k < len(states) and states[k] == held]
+    def look(self, name, due, killed, replies):
+        """The file holds a whole number of commands: those that were answered, or one more. The replies are those that are due,
+        as far as they came."""
+        answered, held = replies.count(b"end\n"), in_use(killed)
+        files = [in_use(machine.file()) for machine in due.machines]
+        whole = [k for k in (answered, answered + 1) if k < len(files) and files[k] == held]
         sizes = len(killed), len(held or b"")
         self.tests.check(f"{name}: a whole number of batches, {answered} of them answered", whole, sizes)
+        self.tests.check(f"{name}: its replies", b"".join(due.replies).startswith(replies), replies[-80:])
         ran, after = self.program.over(killed, b"verify\n")
-        sound = b"refused 2 no-index\n" if is_blank(killed) else b"ok verify sound "
-        self.tests.check(f"{name}: the next run", ran.status == 0 and ran.replies.startswith(sound), (ran.status, ran.replies))
+        wanted = 0, due.machines[whole[0] if whole else 0].answer("verify").encode()
+        self.tests.same(f"{name}: the next run", (ran.status, ran.replies), wanted)
         self.tests.check(f"{name}: the next run leaves it", after == killed)
         self.count += 1
 
-    def at_calls(self, name, commands, states, start, image=None):
+    def at_calls(self, name, due, start, image=None):
         """Killed at each of its calls: `start` of the commands were carried out before, over a file of these bytes."""
-        base = lines(commands[:start])
-        _, before = self.program.over(image, base)
-        index = self.program.place("killed")
+        _, before = self.program.over(image, lines(due.commands[:start]))
+        index, rest = self.program.place("killed"), due.behind(start)
         for call in ("pwrite64", "fdatasync", "write", "statx"):
             for when in itertools.count(1):
                 put(index, before if start or image else None)
                 command = ["strace", "-f", "-o", "/dev/null", "-e", f"trace={call}"]
                 command += ["-e", f"inject={call}:signal=KILL:when={when}"]
-                run = subprocess.run([*command, self.program.path, index], input=lines(commands[start:]), capture_output=True)
+                run = subprocess.run([*command, self.program.path, index], input=lines(rest.commands), capture_output=True)
                 if run.returncode == 0:
                     break
-                self.look(f"{name}: killed at {call} {when}", states[start:], content(index) or b"", run.stdout)
+                self.look(f"{name}: killed at {call} {when}", rest, content(index) or b"", run.stdout)
 
     def up_to(self, index, commands, number):
         """A run over a new file that has answered so many commands, what it has answered, and how long the last one took."""
@@ -341,14 +347,15 @@ class Kills:
             replies += reply
         return process, replies, took
 
-    def at_moments(self, name, commands, states, most):
+    def at_moments(self, name, due, most):
         """Killed within each command in turn, at moments that are drawn over the time that it takes."""
-        draw = random.Random(most)
+        draw, commands = random.Random(most), due.commands
         index, last = self.program.place("killed"), []
         for number in range(len(commands)):
             process, _, took = self.up_to(index, commands, number + 1)
             process.communicate()
-            self.tests.same(f"{name}: a whole run of {number + 1} commands", in_use(content(index)), states[number + 1])
+            file = in_use(due.machines[number + 1].file())
+            self.tests.same(f"{name}: a whole run of {number + 1} commands", in_use(content(index)), file)
             last.append(took)
         for kill in range(most):
             number = kill % len(commands)
@@ -357,7 +364,7 @@ class Kills:
             time.sleep(draw.uniform(0, 0.8 * last[number]))
             process.kill()
             replies += process.communicate()[0]
-            self.look(f"{name}: kill {kill}", states, content(index) or b"", replies)
+            self.look(f"{name}: kill {kill}", due, content(index) or b"", replies)
             self.within += replies.count(b"end\n") == number
 
 
@@ -410,7 +417,10 @@ def syncs_of_commands(tests, crashes_of):
     writes nothing."""
     generated = [("clean 1", 0), ("create 64 4 union", 3), ("workload 7 5000", 2)]
     for name, commands in [("commands", COMMANDS), ("generated changes", generated)]:
-        deeds, _ = crashes_of.traced(b"", lines(command for command, _ in commands))
+        script = lines(command for command, _ in commands)
+        deeds, _ = crashes_of.traced(b"", script)
+        replies = b"".join(deed.text for deed in deeds if isinstance(deed, Reply))
+        tests.same(f"replies of {name}", replies, b"".join(due_of(b"", script).replies))
         parts, part = [], []
         for deed in deeds:
             if isinstance(deed, Reply):
@@ -434,29 +444,8 @@ def has_strace(program):
     return subprocess.run(["strace", "-o", program.place("calls"), "true"], capture_output=True).returncode == 0
 
 
-def main():
-    tests = Tests("crashes")
-    program = Program(*sys.argv[1:3])
-    kills = Kills(tests, program)
-    commands, states = histories(5, [150, 3, 80, 1, 200, 13, 2, 50, 120, 4])
-    kills.at_moments("a load and appends", commands, states, KILLS)
-    print(f"a load and appends: {kills.count} kills, {kills.within} of them before the last command was answered", flush=True)
-    if not has_strace(program):
-        print("no strace here: no trace is replayed, no run is killed at a call, and no syncs are counted")
-        return tests.end()
-    few, their_states = histories(9, [7, 2, 6])
-    kills.at_calls("a whole run", few, their_states, 0)
-    kills.at_calls("appends", few, their_states, 2)
-
-    first_form = content(FIRST_FORM)
-    upgrade, behind = ["upgrade", "append 1\n60 +node 9"], [in_use(first_form)]
-    for number in range(len(upgrade)):
-        behind.append(in_use(program.over(first_form, lines(upgrade[: number + 1]))[1]))
-    tests.same("sizes of an upgrade and a batch behind it", [len(state) for state in behind], [495, 520, 712])
-    kills.at_calls("an upgrade", upgrade, behind, 0, first_form)
-
-    both = Crashes(tests, program)
-    syncs_of_commands(tests, both)
+def crashes_of_runs(both, first_form):
+    """Crashes at each moment of runs of every kind, and of some without a sync."""
     create, load, append = lines([CREATE]), lines([FIVE]), b"append 1\n60 +node 9\n"
     old = b"\x00" + b"a text of 17 byte"
     for name, start, first_byte in (("a new file", b"", False), ("a short file", b"abc", False), ("18 bytes", old, True)):
@@ -469,20 +458,45 @@ def main():
     both.run("an append beside an index", loaded, beside, batch=later)
     both.run("an append over what a crash left", loaded + b"\1" * 300, append, batch=later)
     both.run("a whole run", b"", create + load + append, batch=later)
-    commands, their_states = histories(2, [40, 9, 1, 30])
-    made_by_all = both.run("a load and appends with attributes", b"", lines(commands), batch=later)
-    tests.check("a load and appends with attributes: the file is the model's", in_use(made_by_all) == their_states[-1])
+    more = history_of(2, [40, 9, 1, 30])
+    made_by_all = both.run("a load and appends with attributes", b"", lines(more.commands), batch=later)
+    same_file = in_use(made_by_all) == in_use(more.machines[-1].file())
+    both.tests.check("a load and appends with attributes: the file is the machine's", same_file)
     upgraded = both.run("an upgrade", first_form, b"upgrade\n", batch=later)
     both.run("an upgrade and an append", first_form, b"upgrade\n" + append, batch=later)
     both.run("an upgrade over what a crash left", first_form + b"\1" * 300, b"upgrade\n", batch=later)
     both.run("an append behind a marker", upgraded, append, batch=later)
     both.run("a workload", b"", b"create 64 4 balanced\nworkload 7 400\nappend 1\n9000 +node 1000\n")
-    tests.check("a first byte of 18 is the one exception", both.excepted > 0)
+    both.tests.check("a first byte of 18 is the one exception", both.excepted > 0)
     both.unsynced("an append with no sync before its gate", loaded, append, [0])
     both.unsynced("a load with no sync before its gate", made, load, [0])
     both.unsynced("a header with no sync before its gate", b"", create, [1])
     both.unsynced("an append with no sync", loaded, append, None)
     both.unsynced("an upgrade with no sync before its gate", first_form, b"upgrade\n", [0])
+
+
+def main():
+    tests = Tests("crashes")
+    program = Program(*sys.argv[1:3])
+    kills = Kills(tests, program)
+    kills.at_moments("a load and appends", history_of(5, [150, 3, 80, 1, 200, 13, 2, 50, 120, 4]), KILLS)
+    print(f"a load and appends: {kills.count} kills, {kills.within} of them before the last command was answered", flush=True)
+    if not has_strace(program):
+        print("no strace here: no trace is replayed, no run is killed at a call, and no syncs are counted")
+        return tests.end()
+    few = history_of(9, [7, 2, 6])
+    kills.at_calls("a whole run", few, 0)
+    kills.at_calls("appends", few, 2)
+
+    first_form = content(FIRST_FORM)
+    upgrade = due_of(first_form, b"upgrade\nappend 1\n60 +node 9\n")
+    sizes = [len(in_use(machine.file())) for machine in upgrade.machines]
+    tests.same("sizes of an upgrade and a batch behind it", sizes, [495, 520, 712])
+    kills.at_calls("an upgrade", upgrade, 0, first_form)
+
+    both = Crashes(tests, program)
+    syncs_of_commands(tests, both)
+    crashes_of_runs(both, first_form)
     return tests.end(f", {kills.count} kills, {both.images} images")
 
 

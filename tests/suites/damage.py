@@ -5,11 +5,11 @@
 The file of five changes is cut at each length, and each of its bytes is changed; and files in use are damaged in 2,000
 random ways, or in COUNT ways of another SEED, and their lists are made longer than their events. What is due of each is
 judged by lib/judge.py, which knows nothing of the program: whether the file is no index, is refused by its header or a
-directory, whether a start goes on with it, and whether its records are what its own events determine. A run over it ends with that refusal of the start, or answers each
-command, in the grammar of replies; `verify` says exactly what is due; a column that is named as damaged is in no spelling;
-and no byte in use is written but the last gate. With `--checked` a run is refused exactly where the file is not sound.
-Over a sound file, which may stand for another history than before, all replies are those of the model over the events in
-the file.
+directory, whether a start goes on with it, and whether its records are what its own events determine. A run over it
+ends with that refusal of the start, or answers each command, in the grammar of replies; `verify` says exactly what is
+due; a column that is named as damaged is in no spelling; and no byte in use is written but the last gate. With
+`--checked` a run is refused exactly where the file is not sound. Over a sound file, which may stand for another history
+than before, all replies, and the file behind them, are those of the machine over the events in the file.
 
 Over a file that is not sound, and without `--checked`, a reply may rest on damage. A value may then stand under a name of
 the file that no key may be, since of a delta's column only that is asked that its names are there; such lines are counted.
@@ -23,8 +23,8 @@ import sys
 
 from tests.lib import judge
 from tests.lib.changes import Changes
-from tests.lib.history import COLUMNS, History, NODE, NODES, NODE_ATTR, added, additions, cut, effect, holding, key_order, listing as lines_of, messages_at, neighbours, nodes_with, replay
-from tests.lib.plans import IndexGraph, point
+from tests.lib.history import COLUMNS, LETTERS, NODES, History, effect
+from tests.lib.machine import added, additions, listing, nodes_with, text_of
 from tests.lib.runs import CREATE, FIVE, HEADER, Program, Tests, in_use, lines
 
 SEED, DAMAGES = 20, 2000
@@ -108,185 +108,6 @@ def questions(times, leaves, keys=("a", "bb"), values=("x", "zz")):
     return script + ["\n".join([f"append {ADDED}", *batch]), f"find {asked[2]} {keys[1]} {values[1]}", "verify"]
 
 
-class Model:
-    """The replies of a model to such a script, over the history of a judgement."""
-
-    def __init__(self, judgement):
-        self.history, self.names = judgement.history, judgement.opened.names
-        self.handles, self.bases, self.graphs, self.next = {}, {}, {}, 1
-        self.hearing, self.chosen, self.keys = set(), set(), []
-        self.total = len(self.history.events)
-        self.first, self.last = (self.history.events[0][0], self.history.events[-1][0]) if self.history.events else (None, None)
-
-    def planned(self, columns):
-        """The graph of the index, with the handles that serve for these columns."""
-        usable = tuple((handle, node) for handle, (node, held) in sorted(self.bases.items()) if set(columns) - {"t"} <= set(held))
-        if (columns, usable) not in self.graphs:
-            self.graphs[columns, usable] = IndexGraph(self.history, columns, bases=usable)
-        return self.graphs[columns, usable]
-
-    def give(self, graph, columns):
-        self.handles[self.next] = graph
-        if "t" in columns:
-            self.hearing.add(self.next)
-        self.next += 1
-        return self.next - 1
-
-    def is_in_range(self, time):
-        return self.history.events and self.history.events[0][0] <= time <= self.history.events[-1][0]
-
-    def out_of_range(self):
-        ends = f"{self.history.events[0][0]} {self.history.events[-1][0]}" if self.history.events else "empty"
-        return [f"refused 7 out-of-range {ends}"]
-
-    def graph_at(self, time, columns):
-        graph = cut(replay(e for e in self.history.events if e[0] <= time), columns)
-        return graph | messages_at(self.history.events, time) if "t" in columns else graph
-
-    def reply(self, command):
-        line, *changes = command.split("\n")
-        word, *words = line.split(" ")
-        return self.append(changes) if changes else getattr(self, word)(*words)
-
-    def append(self, changes):
-        """Adds nodes that are not there. All replies behind it are told by numbers of events, or of values, alone."""
-        first, last = (int(change.split(" ")[0]) for change in (changes[0], changes[-1]))
-        if self.last is not None and first <= self.last:
-            return ["refused 6 bad-change 1 1"]
-        self.first = first if self.first is None else self.first
-        self.last, self.total = last, self.total + len(changes)
-        return [f"ok append {len(changes)} {self.total} {last}"]
-
-    def verify(self):
-        return [f"ok verify sound {records_of(self.history, self.total)}"]
-
-    def tree(self):
-        history, sizes = self.history, self.history.sizes
-        records = [f"record {key} {' '.join(map(str, four))}" for key, four in sorted(sizes.items(), key=key_order)]
-        events = len(history.events)
-        head = f"{history.size} {history.arity} {history.function} {events} {events // history.size} {len(sizes)}"
-        return [f"ok tree {head}", *records]
-
-    def at(self, time, columns):
-        if not self.is_in_range(int(time)):
-            return self.out_of_range()
-        weight = self.planned(columns).costs[point(self.history, int(time))][0] + self.heard(columns, [int(time)])
-        return [f"ok at {self.give(self.graph_at(int(time), columns), columns)} {weight}"]
-
-    def several(self, columns, *times):
-        times = [int(time) for time in times]
-        if not all(map(self.is_in_range, times)):
-            return self.out_of_range()
-        graph, targets = self.planned(columns), [point(self.history, time) for time in times]
-        singles = [graph.costs[target][0] + self.heard(columns, [time]) for target, time in zip(targets, times)]
-        given = [self.give(self.graph_at(time, columns), columns) for time in times]
-        rows = [f"handle {handle} {time} {single}" for handle, time, single in zip(given, times, singles)]
-        return [f"ok several {graph.tree_weight(targets) + self.heard(columns, times)} {sum(singles)}", *rows]
-
-    def expression(self, columns, *words):
-        words = [int(word) if word.isdigit() else word for word in words]
-        times = list(dict.fromkeys(word for word in words if isinstance(word, int)))
-        if not all(map(self.is_in_range, times)):
-            return self.out_of_range()
-        weight = self.planned(columns).tree_weight([point(self.history, time) for time in times])
-        graphs = {time: self.graph_at(time, columns) for time in times}
-        handle = self.give(holding(words, graphs), columns)
-        self.chosen.add(handle)
-        return [f"ok expression {handle} {weight}"]
-
-    def interval(self, begin, end, columns):
-        begin, end, last = int(begin), int(end), self.history.events[-1][0] if self.history.events else None
-        if not self.is_in_range(begin) or not (self.is_in_range(end) or end == last + 1):
-            return self.out_of_range()
-        handle = self.give(added(self.history.events, begin, end, columns), columns)
-        self.chosen.add(handle)
-        return [f"ok interval {handle} {self.history.bytes_of_lists(self.history.lists_between(begin, end), columns)}"]
-
-    def number(self, name):
-        """The number of a name, if it is one."""
-        return self.names.index(name.encode()) if name.encode() in self.names else None
-
-    def index(self, key):
-        number = self.number(key)
-        if number is None:
-            return ["refused 23 unknown-key"]
-        self.keys.append(number)
-        weight = sum(self.history.sizes[name][NODES] for name in self.history.all_lists())
-        return [f"ok index {additions(self.history.events, number)} {weight}"]
-
-    def find(self, time, key, value):
-        if self.first is None or not self.first <= int(time) <= self.last:
-            return [f"refused 7 out-of-range {'empty' if self.first is None else f'{self.first} {self.last}'}"]
-        if self.number(key) is None or self.number(key) not in self.keys:
-            return ["refused 24 not-indexed"]
-        graph = replay(event for event in self.history.events if event[0] <= int(time))
-        found = nodes_with(graph, self.number(key), self.number(value))
-        return [f"ok find {len(found)}", *(f"node {node}" for node in found)]
-
-    def heard(self, columns, times):
-        """The bytes of the messages that are read for these instants."""
-        return self.history.heard(times)[1] if "t" in columns else 0
-
-    def plan(self, time, columns):
-        if not self.is_in_range(int(time)):
-            return self.out_of_range()
-        rows, weight, steps = self.planned(columns).plan(point(self.history, int(time)))
-        return [f"ok plan {weight} {steps}", *rows]
-
-    def materialise(self, kind, *words):
-        *numbers, columns = words
-        height, index = (0, int(numbers[0])) if kind == "leaf" else map(int, numbers)
-        if not 1 <= index * self.history.arity**height <= len(self.history.events) // self.history.size or index == 0:
-            return ["refused 11 unknown-node"]
-        node = f"inner {height} {index}" if height else f"leaf {index}"
-        weight = IndexGraph(self.history, columns, memory=False).costs[node][0]
-        self.bases[self.next] = node, columns
-        return [f"ok materialise {self.give(cut(self.history.node(height, index, {}), columns), columns)} {weight}"]
-
-    def list(self, handle):
-        graph = self.handles.get(int(handle))
-        if graph is None:
-            return [f"refused 8 unknown-handle {handle}"]
-        return [f"ok list {handle} {len(graph)}", *listing(graph, self.names)]
-
-    def counts(self, handle):
-        graph = self.handles.get(int(handle))
-        if graph is None:
-            return [f"refused 8 unknown-handle {handle}"]
-        kinds = range(5 if int(handle) in self.hearing else 4)
-        return [f"ok counts {handle} " + " ".join(str(sum(x[0] == kind for x in graph)) for kind in kinds)]
-
-    def node(self, handle, node):
-        graph, number = self.handles.get(int(handle)), int(node)
-        if graph is None:
-            return [f"refused 8 unknown-handle {handle}"]
-        if int(handle) in self.chosen:
-            return [f"refused 17 not-an-overlay {handle}"]
-        if (NODE, number) not in graph:
-            return [f"ok node {handle} {node} no"]
-        found = sorted(x for x in graph if x[:2] == (NODE_ATTR, number))
-        values = [f"attr {text(self.names[key])} {text(self.names[value])}" for _, _, key, value in found]
-        return [f"ok node {handle} {node} yes {len(neighbours(graph, number))}", *values]
-
-    def neighbours(self, handle, node):
-        graph = self.handles.get(int(handle))
-        if graph is None:
-            return [f"refused 8 unknown-handle {handle}"]
-        if int(handle) in self.chosen:
-            return [f"refused 17 not-an-overlay {handle}"]
-        rows = neighbours(graph, int(node))
-        return [f"ok neighbours {handle} {node} {len(rows)}", *rows]
-
-    def held(self):
-        return len(set.union(replay(self.history.events), *self.handles.values()))
-
-    def pool(self):
-        return [f"ok pool {len(self.handles)} {self.held()}"]
-
-    def clean(self, what):
-        return [f"ok clean all {self.held()}"]
-
-
 class Lists:
     """The replies that are due to intervals, and to indexes and what they find, over any file with which a start goes on. They go by
     the columns of the lists, by the times that a directory gives these, and by the recent events."""
@@ -328,10 +149,10 @@ class Lists:
         for number in self.lists:
             row = self.opened.rows[f"list {number}"]
             if begin < end and row.ends[0] < end and begin <= row.ends[1]:
-                for column in (column for column in COLUMNS if judge.LETTERS[column] in columns):
+                for column in (column for column in COLUMNS if LETTERS[column] in columns):
                     events = self.events_of(number, column)
                     if events is None:
-                        return [f"refused 15 damaged list {number} {judge.LETTERS[column]}"]
+                        return [f"refused 15 damaged list {number} {LETTERS[column]}"]
                     found += events
                     weight += row.sizes[column]
         handle = reply[0].split(" ")[2]
@@ -369,37 +190,11 @@ class Lists:
         return [f"ok find {len(found)}", *(f"node {node}" for node in found)]
 
 
-def records_of(history, events):
-    """How many lists, tops and downs the index of so many events has."""
-    leaves = count = events // history.size
-    height = 1
-    while history.arity**height <= leaves:
-        count += 1 + leaves // history.arity**height * history.arity
-        height += 1
-    return count
-
-
-def text(name):
-    return name.decode(errors="replace")
-
-
-def listing(graph, names):
-    """The lines of a graph's elements, where a name may be any bytes."""
-    return lines_of(graph, {number: Name(name) for number, name in enumerate(names)})
-
-
-class Name:
-    def __init__(self, name):
-        self.name = name
-
-    def decode(self):
-        return text(self.name)
-
-
 class Damage:
     def __init__(self, tests, program):
         self.tests, self.program = tests, program
         self.tally, self.before = {}, b""
+        self.wanted, self.file_due = [], b""  # what is due of a sound file
 
     def count(self, came):
         self.counted(came, 1)
@@ -410,8 +205,10 @@ class Damage:
 
     def look(self, name, image, script, before):
         """What comes of a file of these bytes, with and without `--checked`; and what was in use before it was damaged."""
-        self.before = before
-        due = judge.Judgement(image)
+        self.before, due = before, judge.Judgement(image)
+        machine = due.machine() if due.is_sound else None
+        self.wanted = [machine.reply(command) for command in script] if machine else []
+        self.file_due = machine.history.file() if machine else b""
         for words in ((), ("--checked",)):
             ran, after = self.program.over(image, lines(script), words)
             fault = self.fault_of(due, image, script, words, ran, after)
@@ -443,7 +240,7 @@ class Damage:
             return "what was in use is written over"
         if due.is_sound:
             self.count("sound" if in_use(image) == self.before else "sound, another history")
-            return self.fault_of_replies(due, script, replies)
+            return self.fault_of_replies(script, replies, after)
         self.count("answered, unsound")
         if words:
             return f"status 0, and {due.soundness}"
@@ -478,7 +275,7 @@ class Damage:
         return None if words and reason == unsound else f"{reason}, and not {unsound}"
 
     def fault_of_damaged(self, due, script, replies):
-        names = [text(name) for name in due.opened.names]
+        names = [text_of(name) for name in due.opened.names]
         values = {f"{key} {value}" for key in names for value in names}
         keyed = {f"{key} {value}" for key in names for value in names if re.fullmatch(KEY_TEXT, key)}
         lists = Lists(due.opened)
@@ -497,18 +294,16 @@ class Damage:
                 return f"{command}: {said}, which are no names"
             self.counted("lines with a name that is no key", sum(value not in keyed for value in said))
             found = re.fullmatch(rf"refused 15 damaged ({KEY}) ([snet])", reply[0])
-            if found and not due.is_damaged(found.group(1), judge.LETTERS.index(found.group(2))):
+            if found and not due.is_damaged(found.group(1), LETTERS.index(found.group(2))):
                 return f"{command}: {reply[0]}, and it is spelled"
         return None
 
-    def fault_of_replies(self, due, script, replies):
-        """Over a sound file all replies are the model's."""
-        answers = Model(due)
-        for command, reply in zip(script, replies):
-            wanted = answers.reply(command)
+    def fault_of_replies(self, script, replies, after):
+        """Over a sound file all replies are the machine's, and so is the file behind them."""
+        for command, reply, wanted in zip(script, replies, self.wanted):
             if reply != wanted:
                 return f"{command}: {reply}, and not {wanted}"
-        return None
+        return None if in_use(after) == in_use(self.file_due) else "another file than the machine's"
 
 
 class File:

@@ -3,12 +3,12 @@ gives standard output room for each number of bytes, over a few scripts.
 
 Calls fail by lib/fail.c, which tests/run compiles.
 
-What is due comes from no run that met a failure. A command that meets one is answered `refused 16 out-of-memory`, or
-`refused 14 store-read` where a read failed, and all else, the file too, is as in a run over the script without that
-command. Or the run ends before its first command with status 6, with nothing written and the file as it was. A failed
-write or sync, and a failed read of the opening, ends the run with status 5: the replies are those of the commands before,
-and the file holds the history before the command or behind it. A cut script is answered as far as its commands stand
-whole, with status 3, and a sink takes the front of the replies, with status 4.
+What is due comes from the machine of lib/machine.py. A command that meets a failure is answered `refused 16
+out-of-memory`, or `refused 14 store-read` where a read failed, and all else, the file too, is as the machine has it
+without that command. Or the run ends before its first command with status 6, with nothing written and the file as it
+was. A failed write or sync, and a failed read of the opening, ends the run with status 5: the replies are those of the
+commands before, and the file holds the history before the command or behind it. A cut script is answered as far as its
+commands stand whole, with status 3, and a sink takes the front of the replies, with status 4.
 
 Reads and writes that move a byte or a few at once change nothing, and neither does a read, write or sync that is
 interrupted.
@@ -17,7 +17,10 @@ interrupted.
 import errno
 import os
 import sys
+from typing import List, NamedTuple, Tuple
 
+from tests.lib.judge import Judgement
+from tests.lib.machine import Due
 from tests.lib.runs import CREATE, FIRST_FORM, FIVE, Program, Tests, content, in_use, lines, put
 
 KINDS = ["alloc", "read", "write", "sync"]
@@ -69,7 +72,17 @@ LONGER = [
 ]
 # Over a file of the first form.
 UPGRADE = ["append 1\n60 +node 9", "append 1\n61 msg 1 9 hello", "upgrade", "upgrade", "append 2\n70 +node 3\n70 +node 4", "at 60 s", "verify"]
-PROBE = lines(["tree", "verify", "at 40 sn", "list 1"])
+PROBE = ["tree", "verify", "at 40 sn", "list 1"]
+
+
+class Undisturbed(NamedTuple):
+    """What the machine has of a script: its replies by command, the file, what is in use of that, and what a run over it answers
+    to PROBE, with its status."""
+
+    replies: List[List[str]]
+    file: bytes
+    held: bytes
+    answers: Tuple[int, bytes]
 
 
 class Faults:
@@ -85,18 +98,22 @@ class Faults:
         return ran, after
 
     def without(self, script, image, words=()):
-        """The same with no failure: its replies by command, and the file."""
+        """What is due with no failure, which the program does then."""
         key = tuple(script), image, words
         if key not in self.known:
             ran, after = self.program.over(image, lines(script), words)
-            self.tests.same("a run without a failure", (ran.status, ran.errors), (0, b""))
-            self.known[key] = ran.commands()[0], after
+            due = Due(Judgement(image or b"").machine(), script)
+            file, answers = due.machines[-1].file(), b"".join(Due(due.machines[-1], PROBE).replies)
+            found = ran.status, ran.replies, ran.errors, after
+            self.tests.same("a run without a failure", found, (0, b"".join(due.replies), b"", file))
+            replies = [reply.decode().split("\n")[:-2] for reply in due.replies]
+            self.known[key] = Undisturbed(replies, file, in_use(file), (0, answers))
         return self.known[key]
 
     def probe(self, image):
         """What the history of a file answers."""
         if image not in self.probed:
-            ran, _ = self.program.over(image, PROBE)
+            ran, _ = self.program.over(image, lines(PROBE))
             self.probed[image] = ran.status, ran.replies
         return self.probed[image]
 
@@ -129,10 +146,10 @@ class Faults:
         if kind in ("alloc", "read") and len(refused) > 1:
             return "two commands are refused", None
         left = [command for i, command in enumerate(script) if i not in refused]
-        due, file = self.without(left, image, words)
-        if [reply for i, reply in enumerate(replies) if i not in refused] != due:
+        due = self.without(left, image, words)
+        if [reply for i, reply in enumerate(replies) if i not in refused] != due.replies:
             return f"other replies than without {[script[i] for i in refused]}", None
-        if after != file:
+        if after != due.file:
             return "another file than without the refused command", None
         return None, "refused" if refused else "no effect"
 
@@ -142,8 +159,8 @@ class Faults:
         if not ran.errors.startswith(said) or b"Input/output error" not in ran.errors:
             return f"other reasons: {ran.errors}"
         count = len(replies)
-        due, before = self.without(script[:count], image, words)
-        if replies != due:
+        before = self.without(script[:count], image, words)
+        if replies != before.replies:
             return "other replies than before the failure"
         if kind in ("alloc", "allocs"):
             return "a file that failed for want of memory"
@@ -154,10 +171,10 @@ class Faults:
             return "the run failed behind its last command"
         if count == 0 and after in (image, b""):
             return None
-        _, behind = self.without(script[: count + 1], image, words)
-        if in_use(after) not in (in_use(before or b""), in_use(behind)):
+        behind = self.without(script[: count + 1], image, words)
+        if in_use(after) not in (before.held, behind.held):
             return "the bytes in use are of neither history"
-        return None if self.probe(after) in (self.probe(before), self.probe(behind)) else "the file holds neither history"
+        return None if self.probe(after) in (before.answers, behind.answers) else "the file holds neither history"
 
     def in_turn(self, name, script, image, words=()):
         """Each call of each kind fails in turn, and with `allocs` all growths from one on. Gives how many failures of each
@@ -200,17 +217,17 @@ class Faults:
         for command in script:
             at += len(command.encode()) + 1
             ends.append(at)
-        replies = self.program.over(None, text)[0].replies
+        replies = b"".join(Due(Judgement(b"").machine(), script).replies)
         for cut in range(len(text) + 1):
-            due, file = self.without([command for command, end in zip(script, ends) if end <= cut], None)
+            due = self.without([command for command, end in zip(script, ends) if end <= cut], None)
             ran, after = self.failing(script, None, (), cut_at=cut)
             found = ran.status, ran.commands(), ran.errors, after
-            wanted = 3, (due, b""), b"deltagraph: reading the script failed\n", file
+            wanted = 3, (due.replies, b""), b"deltagraph: reading the script failed\n", due.file
             self.tests.check(f"{name}: the script fails behind byte {cut}", found == wanted, found[:3])
         for room in range(len(replies)):
             ran, after = self.failing(script, None, (), sink_room=room)
             answered = replies[:room].count(b"end\n")
-            files = [in_use(self.without(script[:count], None)[1]) for count in (answered, min(answered + 1, len(script)))]
+            files = [self.without(script[:count], None).held for count in (answered, min(answered + 1, len(script)))]
             found = ran.status, ran.replies, ran.errors
             wanted = 4, replies[:room], b"deltagraph: writing failed\n"
             self.tests.same(f"{name}: a sink with room for {room} bytes", found, wanted)
@@ -233,8 +250,8 @@ class Faults:
                 self.tests.same(f"{name}: {kind} {number} is interrupted", found, self.whole(script, image, words))
 
     def whole(self, script, image, words):
-        replies, after = self.without(script, image, words)
-        return 0, (replies, b""), b"", after
+        due = self.without(script, image, words)
+        return 0, (due.replies, b""), b"", due.file
 
     def asked_again(self, image):
         """A retrieval after failed reads is answered."""
@@ -249,7 +266,7 @@ class Faults:
 def main():
     tests = Tests("faults")
     faults = Faults(tests, Program(*sys.argv[1:3]), sys.argv[3])
-    _, loaded = faults.without(MAKE, None)
+    loaded = faults.without(MAKE, None).file
     for name, script in SCRIPTS.items():
         faults.in_turn(f"{name}, a new file", MAKE + script, None)
         faults.in_turn(f"{name}, an opened file", script, loaded)
@@ -259,7 +276,7 @@ def main():
     faults.interrupted("an upgrade", UPGRADE, first_form)
     faults.in_turn("several, a checked file", SCRIPTS["several"], loaded, CHECKED)
     faults.in_turn("a longer history", LONGER, None)
-    _, longer = faults.without(LONGER[:2], None)
+    longer = faults.without(LONGER[:2], None).file
     faults.in_turn("a longer history, a checked file", LONGER[2:], longer, CHECKED)
     faults.cache("a longer history, retrieved", LONGER[2:6] + LONGER[2:4] + LONGER[7:], longer)
     for name, script in SCRIPTS.items():

@@ -3,7 +3,7 @@ nothing is lost. And what must not cost more: two kinds of batches, values that 
 
 Each run ends with the status that docs/SCRIPT.md names, and its replies are a front of those that are due, with want of
 memory in place of a command's that is then as if it were not in the script. The file holds the batches that were answered,
-byte for byte as a model of the file has them, and the next run, with room, adds the others.
+byte for byte as the machine of lib/machine.py has them, and the next run, with room, adds the others.
 """
 
 import os
@@ -16,7 +16,7 @@ import sys
 import tempfile
 
 from tests.lib.changes import Changes
-from tests.lib.history import History, NODE, NODE_ATTR
+from tests.lib.machine import Due, Machine
 from tests.lib.runs import CREATE, FIVE, Program, Ran, Tests, content, in_use, lines, put
 
 FAILED = "the index file failed"
@@ -36,24 +36,15 @@ TOLD = ["refused 16 out-of-memory"]
 def batches(seed, sizes, value=""):
     """Commands that make a history in batches of these sizes, and what is in use of the file after each. With a value each
     batch sets it at a node of its own, so that it takes more room."""
-    rng = random.Random(seed)
-    history, changes = History(4, 2, "balanced"), Changes(rng)
-    commands, states = ["create 4 2 balanced"], [b"", in_use(history.file())]
+    changes, commands = Changes(random.Random(seed)), ["create 4 2 balanced"]
     for batch, size in enumerate(sizes):
         changes.time += 1 if batch else 0
-        names = []
-        made = [changes.next(names) for _ in range(size)]
+        made = [line for line, _ in (changes.next([]) for _ in range(size))]
         if value:
-            node, text = 1000 + batch, (value + str(batch)).encode()
-            key = changes.name(b"long", names)
-            made.append((f"{changes.time} +node {node}", (changes.time, "+", (NODE, node))))
-            number = changes.name(text, names)
-            event = changes.time, NODE_ATTR, node, key, None, number
-            made.append((f"{changes.time} nset {node} long {text.decode()}", event))
-        history.add([event for _, event in made], names)
-        commands.append("\n".join([f"{'append' if batch else 'load'} {len(made)}", *(line for line, _ in made)]))
-        states.append(in_use(history.file()))
-    return commands, states
+            made.append(f"{changes.time} +node {1000 + batch}")
+            made.append(f"{changes.time} nset {1000 + batch} long {value}{batch}")
+        commands.append("\n".join([f"{'append' if batch else 'load'} {len(made)}", *made]))
+    return commands, [in_use(machine.file()) for machine in Due(Machine(), commands).machines]
 
 
 class Limits:
@@ -86,11 +77,10 @@ class Limits:
         return whole[0] if whole else 0
 
     def replies(self, commands):
-        """What is due to each of these commands, from a run with room over a new file."""
+        """What is due to each of these commands over a new file."""
         key = tuple(commands)
         if key not in self.known:
-            ran, _ = self.program.over(None, lines(commands))
-            self.known[key] = [part + b"end\n" for part in ran.replies.split(b"end\n")[:-1]]
+            self.known[key] = Due(Machine(), commands).replies
         return self.known[key]
 
     def goes_on(self, name, index, commands, states, held):

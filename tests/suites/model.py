@@ -1,6 +1,6 @@
-"""A model of the program that knows nothing of it: random histories, the replies that are due, and the index file
-as docs/FORMATS.md has it, in its two forms, with upgrades between them. Every run's replies and file are compared with the
-model's, byte for byte. And files with one damaged column: which start is refused, which command names the damage, and which one does not meet it.
+"""Random histories, in files of both forms, with upgrades between them: every run's replies and file are compared with those of
+the machine of lib/machine.py, byte for byte. And files with one damaged column: which start is refused, which command names
+the damage, and which one does not meet it.
 
   tests/run model -- FIRST LAST     histories with the seeds from FIRST to before LAST
 """
@@ -11,39 +11,53 @@ import subprocess
 import sys
 
 from tests.lib.changes import Changes
-from tests.lib.history import (
-    COLUMNS,
-    EDGE,
-    EDGE_ATTR,
-    FUNCTIONS,
-    History,
-    LETTERS,
-    MESSAGE,
-    MESSAGES,
-    NODE,
-    NODES,
-    NODE_ATTR,
-    added,
-    additions,
-    attributes,
-    cut,
-    holding,
-    is_key,
-    key_order,
-    listing,
-    messages_at,
-    neighbours,
-    nodes_with,
-    number,
-    replay,
-)
+from tests.lib.history import COLUMNS, FUNCTIONS, LETTERS, MESSAGES, NODE_ATTR, NODES, History
+from tests.lib.machine import INDEXES_MOST, LIVE_MOST, Machine
 from tests.lib.plans import IndexGraph, older_children, point
+from tests.lib.runs import Tests, content, put
 
 ASKED = ["s", "sn", "se", "sne"]  # the columns of graphs that a command may ask for
 SHARES = [0, 1, 64, 128, 200, 255, 256]  # of 256, of a skewed function
-MOST_INDEXES = 16
 UNKNOWN = b"hello"  # a text that no batch brings, but for batches that are refused
 HISTORIES = 300
+# The runs of a history keep so many ranges of its file, one after another, and owe the same replies.
+CACHES = (), ("--cache", "1"), ("--cache", "64"), ("--cache", "65536")
+
+
+class Case:
+    """One history, over several runs of the program, beside the machine."""
+
+    def __init__(self, tests, program, index, seed, machine=None):
+        self.tests, self.program, self.index, self.seed, self.runs = tests, program, index, seed, seed
+        self.machine, self.script, self.due = machine or Machine(), [], ""
+
+    @property
+    def history(self):
+        return self.machine.history
+
+    def ask(self, command):
+        """Adds a command, with the lines that follow it, to the script, and gives the reply that is due without its last line."""
+        line, *more = command.split("\n")
+        reply = self.machine.answer(line, more)
+        self.script.append(command)
+        self.due += reply
+        return reply.split("\n")[:-2]
+
+    def run(self, file, status=0, checked=False):
+        """Runs the script so far over the index, which holds these bytes behind it."""
+        script = "".join(command + "\n" for command in self.script)
+        words = [self.index, *CACHES[self.runs % len(CACHES)], *(["--checked"] if checked else [])]
+        self.runs += 1
+        ran = subprocess.run([self.program, *words], input=script.encode(), capture_output=True)
+        found = ran.returncode, ran.stdout == self.due.encode(), content(self.index) == file
+        self.tests.same(f"seed {self.seed}, run {self.runs - self.seed}: status, replies, file", found, (status, True, True))
+        self.machine, self.script, self.due = self.machine.opened(), [], ""
+
+    def is_refused(self, file, checked=False):
+        """A run over these bytes is refused at its start."""
+        put(self.index, file)
+        self.script = ["tree"]
+        self.run(file, 7, checked)
 
 
 def altered(rng, lines):
@@ -71,90 +85,22 @@ def altered(rng, lines):
     return lines
 
 
-# The runs of a history keep so many ranges of its file, one after another, and owe the same replies.
-CACHES = (), ("--cache", "1"), ("--cache", "64"), ("--cache", "65536")
-
-
-class Case:
-    """One history, over several runs of the program."""
-
-    def __init__(self, program, index, seed):
-        self.program, self.index, self.seed, self.runs = program, index, seed, seed
-        self.script, self.due = [], []
-        self.handles, self.next = {}, 1  # the graphs of this run's live handles, and the number of the next one
-        self.bases, self.rests = {}, {}  # the nodes that handles hold, with their columns; and what each handle rests on
-        self.hearing = set()  # the handles whose columns have messages
-        self.chosen = set()  # the handles of expressions and of intervals
-        self.indexes = []  # the numbers of the keys that are indexed
-
-    def reply(self, *lines):
-        self.due += list(lines) + ["end"]
-
-    def run(self, file, status=0, checked=False):
-        script = "".join(line + "\n" for line in self.script)
-        words = [self.index, *CACHES[self.runs % len(CACHES)], *(["--checked"] if checked else [])]
-        self.runs += 1
-        ran = subprocess.run([self.program, *words], input=script.encode(), capture_output=True)
-        due = "".join(line + "\n" for line in self.due)
-        with open(self.index, "rb") as made:
-            same = made.read() == file
-        if ran.returncode != status or ran.stdout.decode() != due or not same:
-            sys.exit(f"seed {self.seed}: status {ran.returncode}, replies {ran.stdout.decode() == due}, file {same}")
-        self.script, self.due, self.handles, self.next, self.bases, self.rests = [], [], {}, 1, {}, {}
-        self.hearing, self.chosen, self.indexes = set(), set(), []
-
-    def give(self, graphs, rests, columns="s"):
-        """Gives each of these graphs a handle, which rests on what stands beside it."""
-        for graph, on in zip(graphs, rests):
-            self.handles[self.next], self.rests[self.next] = graph, on
-            if "t" in columns:
-                self.hearing.add(self.next)
-            self.next += 1
-
-    def usable(self, columns):
-        """The handles that hold a node in all of these columns, messages aside, with their nodes."""
-        return [(handle, node) for handle, (node, held) in sorted(self.bases.items()) if set(columns) - {"t"} <= set(held)]
-
-    def graph(self, history, columns):
-        """The graph of the index with the handles that can serve."""
-        return IndexGraph(history, columns, bases=self.usable(columns))
-
-    def held(self, history):
-        """The elements that the current graph and the live handles have together."""
-        return set.union(replay(history.events), *self.handles.values())
-
-
-def ask_graphs(rng, history, changes, case):
+def ask_graphs(rng, history, case):
     """Retrieves graphs, one at a time or several at once."""
     for _ in range(rng.choice([0, 1, 1, 2])):
         columns = rng.choice(ASKED) + rng.choice(["", "t"])
-        graph = case.graph(history, columns)
         first, last = history.events[0][0], history.events[-1][0]
         times = [rng.randrange(first, last + 1) for _ in range(rng.choice([1, 1, 2, 3, 7]))]
         told = sorted({event[0] for event in history.events if event[1] == "msg"})
         if told and rng.random() < 0.5:
             times[rng.randrange(len(times))] = rng.choice(told)
-        if len(case.handles) + len(times) > 127:
-            case.script.append(f"several {columns} {' '.join(map(str, times))}")
-            case.reply(f"refused 9 pool-full {len(case.handles)} {len(times)}")
-            return
-        targets = [point(history, time) for time in times]
-        graph_rests = graph.rests(targets)
-        heard = [history.heard([time])[1] if "t" in columns else 0 for time in times]
-        singles = [graph.costs[target][0] + more for target, more in zip(targets, heard)]
-        handle = case.next
-        if len(times) == 1 and rng.random() < 0.7:
-            case.script.append(f"at {times[0]} {columns}")
-            case.reply(f"ok at {handle} {singles[0]}")
+        is_full = len(case.machine.handles) + len(times) > LIVE_MOST
+        if not is_full and len(times) == 1 and rng.random() < 0.7:
+            case.ask(f"at {times[0]} {columns}")
         else:
-            case.script.append(f"several {columns} {' '.join(map(str, times))}")
-            lines = [f"handle {handle + i} {time} {single}" for i, (time, single) in enumerate(zip(times, singles))]
-            weight = graph.tree_weight(targets) + ("t" in columns) * history.heard(times)[1]
-            case.reply(f"ok several {weight} {sum(singles)}", *lines)
-        graphs = [cut(replay(e for e in history.events if e[0] <= time), columns) for time in times]
-        if "t" in columns:
-            graphs = [graph | messages_at(history.events, time) for graph, time in zip(graphs, times)]
-        case.give(graphs, graph_rests, columns)
+            case.ask(f"several {columns} {' '.join(map(str, times))}")
+        if is_full:
+            return
 
 
 def any_expression(rng, times, depth=0):
@@ -172,19 +118,7 @@ def ask_expressions(rng, history, case):
         some = [rng.randrange(first, last + 1) for _ in range(rng.choice([1, 2, 2, 3, 5]))]
         if rng.random() < 0.05:
             some[0] = last + 1
-        words = any_expression(rng, some)
-        times = list(dict.fromkeys(word for word in words if isinstance(word, int)))
-        case.script.append(f"expression {columns} {' '.join(map(str, words))}")
-        if max(times) > last:
-            case.reply(f"refused 7 out-of-range {first} {last}")
-        elif len(case.handles) == 127:
-            case.reply("refused 9 pool-full 127 1")
-        else:
-            weight = case.graph(history, columns).tree_weight([point(history, time) for time in times])
-            graphs = {time: cut(replay(e for e in history.events if e[0] <= time), columns) for time in times}
-            case.reply(f"ok expression {case.next} {weight}")
-            case.chosen.add(case.next)
-            case.give([holding(words, graphs)], [None])
+        case.ask(f"expression {columns} {' '.join(map(str, any_expression(rng, some)))}")
 
 
 def ask_intervals(rng, history, case):
@@ -192,43 +126,25 @@ def ask_intervals(rng, history, case):
     for _ in range(rng.choice([0, 0, 1, 2])):
         columns, (first, last) = rng.choice(ASKED) + rng.choice(["", "t"]), (history.events[0][0], history.events[-1][0])
         begin, end = rng.randrange(max(first - 1, 0), last + 2), rng.randrange(max(first - 1, 0), last + 3)
-        ask_interval(history, case, begin, end, columns)
-
-
-def ask_interval(history, case, begin, end, columns, damaged=None):
-    """Asks it of these instants, and gives the handle, if there is one. `damaged` is a record and a column that is damaged."""
-    first, last = history.events[0][0], history.events[-1][0]
-    case.script.append(f"interval {begin} {end} {columns}")
-    lists = history.lists_between(begin, end)
-    if not first <= begin <= last or not first <= end <= last + 1:
-        case.reply(f"refused 7 out-of-range {first} {last}")
-    elif len(case.handles) == 127:
-        case.reply("refused 9 pool-full 127 1")
-    elif damaged and damaged[0] in lists and LETTERS[damaged[1]] in columns:
-        case.reply(f"refused 15 damaged {damaged[0]} {LETTERS[damaged[1]]}")
-    else:
-        case.reply(f"ok interval {case.next} {history.bytes_of_lists(lists, columns)}")
-        case.chosen.add(case.next)
-        case.give([added(history.events, begin, end, columns)], [None], columns)
-        return case.next - 1
-    return None
+        case.ask(f"interval {begin} {end} {columns}")
 
 
 def ask_values(rng, history, changes, case):
     """Makes indexes of values, and asks them; some keys and values there are not, and some texts are no keys."""
-    many = len(changes.keys) > MOST_INDEXES
+    many = len(changes.keys) > INDEXES_MOST
     for _ in range(rng.choice([0, 1, 2, 4]) + 25 * many):
         if rng.random() < (0.6 if many else 0.4):
-            key = rng.choice([*changes.keys, *changes.keys, *filter(is_key, changes.names), UNKNOWN])
-            ask_index(history, changes.names, case, key)
+            keys = [*changes.keys, *changes.keys, *filter(is_key, changes.names), UNKNOWN]
+            case.ask(f"index {rng.choice(keys).decode()}")
             continue
         time = rng.randrange(max(history.events[0][0] - 1, 0), history.events[-1][0] + 2)
         key, value = rng.choice([*changes.keys, UNKNOWN]), rng.choice([*changes.texts, UNKNOWN])
-        if case.indexes and rng.random() < 0.9:
-            key = changes.names[rng.choice(case.indexes)]
+        indexed = case.machine.indexed
+        if indexed and rng.random() < 0.9:
+            key = changes.names[rng.choice(indexed)]
         if rng.random() < 0.8:
-            time, key, value = beside_a_value(rng, history, changes.names, case.indexes) or (time, key, value)
-        ask_nodes(history, changes.names, case, time, key, value)
+            time, key, value = beside_a_value(rng, history, changes.names, indexed) or (time, key, value)
+        case.ask(f"find {time} {key.decode()} {value.decode()}")
 
 
 def beside_a_value(rng, history, names, keys):
@@ -241,132 +157,37 @@ def beside_a_value(rng, history, names, keys):
     return max(time + rng.choice([-1, 0, 0, 0, 1]), 0), names[key], names[value]
 
 
-def ask_index(history, names, case, key, damaged=None):
-    """Makes an index of a key. `damaged` is a record and a column that is damaged."""
-    case.script.append(f"index {key.decode()}")
-    number = names.index(key) if key in names else None
-    if number is None:
-        case.reply("refused 23 unknown-key")
-    elif number in case.indexes:
-        case.reply("refused 25 already-indexed")
-    elif len(case.indexes) == MOST_INDEXES:
-        case.reply("refused 26 indexes-full")
-    elif damaged and damaged[0].startswith("list") and damaged[1] == NODES:
-        case.reply(f"refused 15 damaged {damaged[0]} n")
-    else:
-        case.indexes.append(number)
-        case.reply(f"ok index {additions(history.events, number)} {history.bytes_of_lists(history.all_lists(), 'n')}")
-
-
-def ask_nodes(history, names, case, time, key, value):
-    """Asks which nodes have a value."""
-    first, last = history.events[0][0], history.events[-1][0]
-    case.script.append(f"find {time} {key.decode()} {value.decode()}")
-    if not first <= time <= last:
-        case.reply(f"refused 7 out-of-range {first} {last}")
-    elif key not in names or names.index(key) not in case.indexes:
-        case.reply("refused 24 not-indexed")
-    else:
-        graph = replay(event for event in history.events if event[0] <= time)
-        found = nodes_with(graph, names.index(key), names.index(value)) if value in names else []
-        case.reply(f"ok find {len(found)}", *(f"node {node}" for node in found))
-
-
 def hold_nodes(rng, history, case):
     """Holds leaves and interior nodes, some of which the index does not have."""
     for _ in range(rng.choice([0, 0, 1, 2])):
-        columns, handle = rng.choice(ASKED), case.next
+        columns = rng.choice(ASKED)
         leaves = len(history.events) // history.size
         height = rng.choice([0, 0, 1, 1, 2, 40])
         index = rng.randrange(leaves // history.arity**height + 2)
-        node = f"inner {height} {index}" if height else f"leaf {index}"
-        case.script.append(f"materialise {node} {columns}")
-        if index < 1 or index * history.arity**height > leaves:
-            case.reply("refused 11 unknown-node")
-        elif len(case.handles) == 127:
-            case.reply("refused 9 pool-full 127 1")
-        else:
-            case.reply(f"ok materialise {handle} {IndexGraph(history, columns, memory=False).costs[node][0]}")
-            case.bases[handle] = node, columns
-            case.give([cut(history.node(height, index, {}), columns)], [None])
+        case.ask(f"materialise {f'inner {height} {index}' if height else f'leaf {index}'} {columns}")
 
 
-def ask_handles(rng, history, changes, case):
+def ask_handles(rng, case):
     """Asks for what handles of this run have, gives some up, and cleans."""
     for _ in range(rng.choice([0, 1, 2, 5])):
-        handle, node = rng.randrange(1, case.next + 1), rng.randrange(31)
-        asked = rng.choice(["list", "list", "counts", "node", "node", "neighbours", "neighbours", "release", "pool", "clean", "all"])
-        graph = case.handles.get(handle)
-        if asked == "pool":
-            case.script.append("pool")
-            case.reply(f"ok pool {len(case.handles)} {len(case.held(history))}")
-        elif asked == "clean":
-            case.script.append(f"clean {rng.choice([1, 2, 7, 1000])}")
-            case.reply("ok clean")
-        elif asked == "all":
-            case.script.append("clean all")
-            case.reply(f"ok clean all {len(case.held(history))}")
-        else:
-            case.script.append(f"{asked} {handle}" + (f" {node}" if asked in ("node", "neighbours") else ""))
-            resting = sorted(other for other, on in case.rests.items() if on == handle)
-            if graph is None:
-                case.reply(f"refused 8 unknown-handle {handle}")
-            elif (handle in case.bases or handle in case.chosen) and asked in ("node", "neighbours"):
-                case.reply(f"refused 17 not-an-overlay {handle}")
-            elif asked == "release" and resting:
-                case.reply(f"refused 10 in-use {resting[0]}")
-            elif asked == "list":
-                case.reply(f"ok list {handle} {len(graph)}", *listing(graph, changes.names))
-            elif asked == "counts":
-                kinds = [NODE, EDGE, NODE_ATTR, EDGE_ATTR] + [MESSAGE] * (handle in case.hearing)
-                counts = " ".join(str(sum(x[0] == kind for x in graph)) for kind in kinds)
-                case.reply(f"ok counts {handle} {counts}")
-            elif asked == "neighbours":
-                lines = neighbours(graph, node)
-                case.reply(f"ok neighbours {handle} {node} {len(lines)}", *lines)
-            elif asked == "release":
-                case.reply(f"ok release {handle}")
-                del case.handles[handle], case.rests[handle]
-                case.hearing.discard(handle)
-                case.bases.pop(handle, None)
-            elif (NODE, node) in graph:
-                lines = attributes(graph, node, changes.names)
-                case.reply(f"ok node {handle} {node} yes {len(neighbours(graph, node))}", *lines)
-            else:
-                case.reply(f"ok node {handle} {node} no")
-
-
-def ask_upgrade(history, case):
-    """Lets the file go on in the second form, where it has the first."""
-    case.script.append("upgrade")
-    if history.is_wide:
-        case.reply("refused 21 new-format")
-    else:
-        history.upgrade()
-        case.reply("ok upgrade")
+        handle, node = rng.randrange(1, case.machine.next + 1), rng.randrange(31)
+        asked = [f"list {handle}", f"node {handle} {node}", f"neighbours {handle} {node}"] * 2
+        asked += [f"counts {handle}", f"release {handle}", "pool", f"clean {rng.choice([1, 2, 7, 1000])}", "clean all"]
+        case.ask(rng.choice(asked))
 
 
 def ask_plans(rng, history, case):
     """Asks for plans, certificates and records."""
     if rng.random() < 0.4:
-        records = [f"record {key} {' '.join(map(str, sizes))}" for key, sizes in sorted(history.sizes.items(), key=key_order)]
-        leaves = len(history.events) // history.size
-        head = f"{history.size} {history.arity} {history.function} {len(history.events)} {leaves} {len(records)}"
-        case.script.append("tree")
-        case.reply(f"ok tree {head}", *records)
+        case.ask("tree")
     for _ in range(rng.choice([0, 0, 1, 2])):
         time = rng.randrange(history.events[0][0], history.events[-1][0] + 1)
         columns = rng.choice(ASKED)
-        graph, target = case.graph(history, columns), point(history, time)
-        lines, weight, steps = graph.plan(target)
-        case.script.append(f"plan {time} {columns}")
-        case.reply(f"ok plan {weight} {steps}", *lines)
-        # A plan certifies itself.
-        case.script += [f"certify {time} {columns} {len(lines)}"] + lines
-        case.reply("ok certify valid")
+        _, *lines = case.ask(f"plan {time} {columns}")
+        judged = case.ask("\n".join([f"certify {time} {columns} {len(lines)}", *lines]))
+        case.tests.same(f"seed {case.seed}: a plan certifies itself", judged, ["ok certify valid"])
         lines = altered(rng, lines)
-        case.script += [f"certify {time} {columns} {len(lines)}"] + lines
-        case.reply(f"ok certify {graph.judged(target, lines)}")
+        case.ask("\n".join([f"certify {time} {columns} {len(lines)}", *lines]))
 
 
 def ask_old_format(rng, history, changes, case):
@@ -375,9 +196,10 @@ def ask_old_format(rng, history, changes, case):
         return
     node, time = rng.choice(sorted(changes.nodes)), changes.time + 1
     free = next(n for n in range(31) if n not in changes.nodes)
-    lines = [f"{time} +node {free}", f"{time} msg {node} {free} {UNKNOWN.decode()}"] if rng.randrange(2) else [f"{time} msg {node} {node} "]
-    case.script += [f"append {len(lines)}", *lines]
-    case.reply("refused 22 old-format")
+    lines = [f"{time} msg {node} {node} "]
+    if rng.randrange(2):
+        lines = [f"{time} +node {free}", f"{time} msg {node} {free} {UNKNOWN.decode()}"]
+    case.ask("\n".join([f"append {len(lines)}", *lines]))
 
 
 def any_history(rng, size, arity):
@@ -387,151 +209,144 @@ def any_history(rng, size, arity):
     return History(size, arity, rng.choice([*FUNCTIONS, f"skewed {rng.choice(SHARES)}"]))
 
 
-def check(program, index, seed):
-    if os.path.exists(index):
-        os.remove(index)
+def check(tests, program, index, seed):
+    put(index, None)
     rng = random.Random(seed)
     size, arity = rng.choice([2, 2, 3, 4, 5, 8]), rng.choice([2, 2, 3, 4])
     # More than 32 older children at once, which are read by more than one tree.
     has_many = rng.randrange(12) == 0
     if has_many:
         size, arity = 2, 36
-    history, changes, case = any_history(rng, size, arity), Changes(rng), Case(program, index, seed)
+    history, changes = any_history(rng, size, arity), Changes(rng)
+    case = Case(tests, program, index, seed, Machine(None if history.is_wide else history))
     if rng.randrange(3) == 0:
         changes.are_of_values(rng.choice([0, 0, 1, 20]))
     if history.is_wide:
-        case.script.append(f"create {size} {arity} {history.function}")
-        case.reply("ok create")
+        case.ask(f"create {size} {arity} {history.function}")
     else:
         # The program makes no file of the first form.
-        with open(index, "wb") as made:
-            made.write(history.file())
+        put(index, history.file())
     for batch in range(rng.randrange(1, 9)):
         count = rng.choice([1, 1, 2, 3, 5, 8, 13, 40, rng.randrange(1, 90)])
         if has_many and batch == 0:
             count = rng.randrange(66, 72)
-        if rng.randrange(5) == 0:
-            ask_upgrade(history, case)
-        if batch and rng.randrange(2) == 0:
-            ask_old_format(rng, history, changes, case)
-        changes.has_messages = history.is_wide
-        word = "append" if batch else "load"
-        changes.time += 1 if batch else 0
-        names, lines, events = [], [], []
-        for _ in range(count):
-            line, event = changes.next(names)
-            lines.append(line)
-            events.append(event)
-        history.add(events, names)
-        case.script += [f"{word} {count}"] + lines
-        case.reply(f"ok {word} {count} {len(history.events)} {events[-1][0]}")
-        hold_nodes(rng, history, case)
-        ask_plans(rng, history, case)
-        ask_graphs(rng, history, changes, case)
-        ask_expressions(rng, history, case)
-        ask_intervals(rng, history, case)
-        ask_values(rng, history, changes, case)
-        ask_handles(rng, history, changes, case)
+        add_batch(rng, changes, case, batch, count)
+        ask_all(rng, case.history, changes, case)
         if (seed + batch) % 2:
-            case.script.append("verify")
-            case.reply(f"ok verify sound {len(history.sizes)}")
+            case.ask("verify")
         if rng.random() < 0.5:
-            case.run(history.file(), checked=rng.random() < 0.5)
-    case.run(history.file(), checked=bool(seed % 2))
+            case.run(case.history.file(), checked=rng.random() < 0.5)
+    case.run(case.history.file(), checked=bool(seed % 2))
+
+
+def add_batch(rng, changes, case, batch, count):
+    """Adds a batch of so many changes, behind an upgrade or a batch that is refused at times."""
+    if rng.randrange(5) == 0:
+        case.ask("upgrade")
+    if batch and rng.randrange(2) == 0:
+        ask_old_format(rng, case.history, changes, case)
+    changes.has_messages = case.history.is_wide
+    changes.time += 1 if batch else 0
+    names = []
+    made = [changes.next(names) for _ in range(count)]
+    case.ask("\n".join([f"{'append' if batch else 'load'} {count}", *(line for line, _ in made)]))
+    # The machine reads from the lines what the changes were made as.
+    found = case.history.events[-count:], case.machine.names
+    case.tests.same(f"seed {case.seed}: the events of batch {batch}", found, ([event for _, event in made], changes.names))
+
+
+def ask_all(rng, history, changes, case):
+    hold_nodes(rng, history, case)
+    ask_plans(rng, history, case)
+    ask_graphs(rng, history, case)
+    ask_expressions(rng, history, case)
+    ask_intervals(rng, history, case)
+    ask_values(rng, history, changes, case)
+    ask_handles(rng, case)
 
 
 # Seeds of files whose damage no start meets and a batch does: few files are such.
 MET_BY_A_BATCH = [1424, 3167]
 
 
-def check_damage(program, index, seed):
-    """A file with one damaged column: what meets it names it, and nothing else does."""
-    rng = random.Random(seed)
-    size, arity = rng.choice([2, 2, 3, 4]), rng.choice([2, 2, 3])
-    history, changes = any_history(rng, size, arity), Changes(rng)
-
-    def batch(count):
-        changes.time += 1 if history.events else 0
-        names = []
-        made = [changes.next(names) for _ in range(count)]
-        return names, [line for line, _ in made], [event for _, event in made]
-
+def some_history(rng, changes):
+    """A history of a few batches, of either form or of both."""
+    history = any_history(rng, rng.choice([2, 2, 3, 4]), rng.choice([2, 2, 3]))
     for _ in range(rng.randrange(1, 6)):
         if not history.is_wide and rng.randrange(3) == 0:
             history.upgrade()
         changes.has_messages = history.is_wide
-        names, _, events = batch(rng.choice([1, 2, 5, 9, rng.randrange(1, 60)]))
-        history.add(events, names)
-    records, leaves = IndexGraph(history, "sne", memory=False), len(history.events) // size
-    entered = records.entered([f"leaf {leaves}"] if leaves else [])
-    # No plan enters a column of messages.
-    starts = {(key, c) for key in history.recent for c in COLUMNS} | {(key, c) for key in entered for c in COLUMNS if c != MESSAGES}
-    known = list(changes.names)
-    names, lines, events = batch(rng.choice([1, 2, 5, 9, rng.randrange(1, 60)]))
-    children = older_children(history, len(events))
-    met = {key for i in range(0, len(children), 32) for key in records.entered(children[i : i + 32])}
+        names, made = batch_of(changes, history, rng.choice([1, 2, 5, 9, rng.randrange(1, 60)]))
+        history.add([event for _, event in made], names)
+    return history
+
+
+def batch_of(changes, history, count):
+    """The names and the changes, each a line and an event, of a batch behind a history."""
+    changes.time += 1 if history.events else 0
+    names = []
+    return names, [changes.next(names) for _ in range(count)]
+
+
+def some_damage(rng, history, starts, met):
+    """A record and a column of it, of which no start need know; more often one that a batch meets, or a list's own."""
     held = [(key, c) for key, four in history.places.items() for c in COLUMNS if four[c][1] > 0]
     by_batch = [(key, c) for key, c in held if key in met and c != MESSAGES and (key, c) not in starts]
     told, of_nodes = ([(key, c) for key, c in held if key.startswith("list") and c == column] for column in (MESSAGES, NODES))
     chosen = rng.random()
     kinds = (by_batch, 0.5), (told, 0.7), (of_nodes, 0.9), (held, 1)
-    damaged, column = rng.choice(next(some for some, below in kinds if some and chosen < below))
-    place = history.places[damaged][column][0]
+    return rng.choice(next(some for some, below in kinds if some and chosen < below))
 
-    def with_damage():
-        text = bytearray(history.file())
-        text[place] = 255
-        return bytes(text)
 
-    with open(index, "wb") as made:
-        made.write(with_damage())
-    case = Case(program, index, seed)
-    case.script.append("tree")
-    case.run(with_damage(), 7, checked=True)
-    if (damaged, column) in starts:
-        case.script.append("tree")
-        case.run(with_damage(), 7)
+def with_damage(history, places):
+    """The file of a history, in which these columns of records are in no spelling."""
+    text = bytearray(history.file())
+    for key, column in places:
+        text[history.places[key][column][0]] = 255
+    return bytes(text)
+
+
+def check_damage(tests, program, index, seed):
+    """A file with one damaged column: what meets it names it, and nothing else does."""
+    rng = random.Random(seed)
+    changes = Changes(rng)
+    history = some_history(rng, changes)
+    records, leaves = IndexGraph(history, "sne", memory=False), len(history.events) // history.size
+    entered = records.entered([f"leaf {leaves}"] if leaves else [])
+    # No plan enters a column of messages.
+    starts = {(key, c) for key in entered for c in COLUMNS if c != MESSAGES} | {(key, c) for key in history.recent for c in COLUMNS}
+    known = list(changes.names)
+    _, made = batch_of(changes, history, rng.choice([1, 2, 5, 9, rng.randrange(1, 60)]))
+    children = older_children(history, len(made))
+    met = {key for i in range(0, len(children), 32) for key in records.entered(children[i : i + 32])}
+    damaged = some_damage(rng, history, starts, met)
+    case = Case(tests, program, index, seed, Machine(history, known, [damaged]))
+    case.is_refused(with_damage(history, [damaged]), checked=True)
+    if damaged in starts:
+        case.is_refused(with_damage(history, [damaged]))
         return
-    said = f"refused 15 damaged {damaged} {LETTERS[column]}"
     for _ in range(rng.randrange(1, 5)):
-        met_by_lists(rng, history, known, case, (damaged, column))
-        columns, leaves = rng.choice(ASKED), len(history.events) // history.size
-        if leaves and rng.random() < 0.3:
-            node, graph = f"leaf {rng.randrange(1, leaves + 1)}", IndexGraph(history, columns, memory=False)
-            case.script.append(f"materialise {node} {columns}")
-            if damaged in graph.entered([node]) and LETTERS[column] in columns:
-                case.reply(said)
-            else:
-                case.reply(f"ok materialise {case.next} {graph.costs[node][0]}")
-                case.bases[case.next] = node, columns
-                case.give([set()], [None])
-        columns += rng.choice(["", "t"])
-        graph = case.graph(history, columns)
-        first, last = history.events[0][0], history.events[-1][0]
-        times = [rng.randrange(first, last + 1) for _ in range(rng.choice([1, 2, 3]))]
-        if column == MESSAGES and rng.random() < 0.5:
-            of_list = history.events[int(damaged.split(" ")[1]) * size :][:size]
-            times[0] = rng.choice([of_list[0][0], of_list[-1][0], rng.randrange(of_list[0][0], of_list[-1][0] + 1)])
-        targets = [point(history, time) for time in times]
-        case.script.append(f"several {columns} {' '.join(map(str, times))}")
-        if damaged in (history.heard(times)[0] if column == MESSAGES else graph.entered(targets)) and LETTERS[column] in columns:
-            case.reply(said)
-            continue
-        heard = [history.heard([time])[1] if "t" in columns else 0 for time in times]
-        handle, singles = case.next, [graph.costs[target][0] + more for target, more in zip(targets, heard)]
-        listed = [f"handle {handle + i} {time} {single}" for i, (time, single) in enumerate(zip(times, singles))]
-        weight = graph.tree_weight(targets) + ("t" in columns) * history.heard(times)[1]
-        case.reply(f"ok several {weight} {sum(singles)}", *listed)
-        case.give([set() for _ in times], [None for _ in times])
-    case.script.append("verify")
-    case.reply(f"ok verify unsound {damaged} {LETTERS[column]}")
-    case.script += [f"append {len(lines)}"] + lines
-    if damaged in met and column != MESSAGES:
-        case.reply(said)
-    else:
-        history.add(events, names)
-        case.reply(f"ok append {len(lines)} {len(history.events)} {events[-1][0]}")
-    case.run(with_damage())
+        met_by_lists(rng, history, known, case, damaged)
+        met_by_graphs(rng, history, case, damaged)
+    case.ask("verify")
+    said = case.ask("\n".join([f"append {len(made)}", *(line for line, _ in made)]))
+    due = f"refused 15 damaged {damaged[0]} {LETTERS[damaged[1]]}" if damaged[0] in met and damaged[1] != MESSAGES else "ok append"
+    tests.check(f"seed {seed}: a batch meets its own records", said[0].startswith(due), (said, due))
+    case.run(with_damage(history, [damaged]))
+
+
+def met_by_graphs(rng, history, case, damaged):
+    """Holds a leaf at times, and retrieves graphs, often of instants of a list with damaged messages."""
+    columns, leaves = rng.choice(ASKED), len(history.events) // history.size
+    if leaves and rng.random() < 0.3:
+        case.ask(f"materialise leaf {rng.randrange(1, leaves + 1)} {columns}")
+    columns += rng.choice(["", "t"])
+    first, last = history.events[0][0], history.events[-1][0]
+    times = [rng.randrange(first, last + 1) for _ in range(rng.choice([1, 2, 3]))]
+    if damaged[1] == MESSAGES and rng.random() < 0.5:
+        of_list = history.events[int(damaged[0].split(" ")[1]) * history.size :][: history.size]
+        times[0] = rng.choice([of_list[0][0], of_list[-1][0], rng.randrange(of_list[0][0], of_list[-1][0] + 1)])
+    case.ask(f"several {columns} {' '.join(map(str, times))}")
 
 
 def met_by_lists(rng, history, names, case, damaged):
@@ -542,15 +357,14 @@ def met_by_lists(rng, history, names, case, damaged):
         of_list = history.events[int(damaged[0].split(" ")[1]) * history.size :][: history.size]
         low, high = of_list[0][0], of_list[-1][0]
         begin, end = rng.choice([(first, low), (first, low + 1), (high, last + 1), (min(high + 1, last), last + 1), (low, high + 1)])
-    handle = ask_interval(history, case, begin, end, rng.choice(ASKED) + rng.choice(["", "t"]), damaged)
-    if handle is not None:
-        case.script.append(f"list {handle}")
-        case.reply(f"ok list {handle} {len(case.handles[handle])}", *listing(case.handles[handle], names))
+    reply = case.ask(f"interval {begin} {end} {rng.choice(ASKED) + rng.choice(['', 't'])}")
+    if reply[0].startswith("ok"):
+        case.ask(f"list {reply[0].split(' ')[2]}")
     keys = sorted({event[3] for event in history.events if event[1] == NODE_ATTR})
-    found = beside_a_value(rng, history, names, keys) or (last, UNKNOWN, UNKNOWN)
-    key = rng.choice([found[1], found[1], *filter(is_key, names)])
-    ask_index(history, names, case, key, damaged)
-    ask_nodes(history, names, case, *found)
+    time, of_key, value = beside_a_value(rng, history, names, keys) or (last, UNKNOWN, UNKNOWN)
+    key = rng.choice([of_key, of_key, *filter(is_key, names)])
+    case.ask(f"index {key.decode()}")
+    case.ask(f"find {time} {of_key.decode()} {value.decode()}")
 
 
 def damaged_pairs(history, keys):
@@ -560,79 +374,101 @@ def damaged_pairs(history, keys):
     return [((keys[i], held[i][-1]), (keys[j], held[j][0])) for i, j in places if held[i][-1] > held[j][0]]
 
 
-def check_first_damage(program, index, seed):
-    """A file with damage in two of the records of one plan of four or more: the earlier record is named, wherever the work
-    is cut for threads. And one with damage in a record and in messages that are asked for behind it: the record is named. And
-    one with damage in two lists: the earlier one is named by an interval over all, and so is the first column of node
-    attributes by an index. Says which of them were tried: of an instant, of a start, with messages, and of all lists."""
-    rng = random.Random(seed)
-    history, changes, names, more = any_history(rng, 2, 2), Changes(rng), [], []
-    changes.has_messages = history.is_wide
-    history.add([changes.next(names)[1] for _ in range(rng.randrange(40, 80))], names)
-    history.is_wide or history.upgrade()
-    changes.time, changes.has_messages = changes.time + 1, True
-    history.add([changes.next(more)[1] for _ in range(rng.randrange(1, 20))], more)
-    records, graph = IndexGraph(history, "sne", memory=False), IndexGraph(history, "sne")
-    start = records.entered([f"leaf {len(history.events) // 2}"])
+class FirstDamage:
+    """Files of one history in which two columns are damaged: what meets both names the first, wherever the work is cut for
+    threads. Each method tries one and says whether the history has such columns."""
 
-    def with_damage(pair):
-        text = bytearray(history.file())
-        for key, column in pair:
-            text[history.places[key][column][0]] = 255
-        with open(index, "wb") as made:
-            made.write(text)
-        return bytes(text), pair[0][0], LETTERS[pair[0][1]]
+    def __init__(self, tests, program, index, seed):
+        self.tests, self.program, self.index, self.seed, self.rng = tests, program, index, seed, random.Random(seed)
+        self.history, self.changes, names = any_history(self.rng, 2, 2), Changes(self.rng), []
+        history, changes = self.history, self.changes
+        changes.has_messages = history.is_wide
+        history.add([changes.next(names)[1] for _ in range(self.rng.randrange(40, 80))], names)
+        history.is_wide or history.upgrade()
+        changes.has_messages = True
+        more, made = batch_of(changes, history, self.rng.randrange(1, 20))
+        history.add([event for _, event in made], more)
+        self.start = IndexGraph(history, "sne", memory=False).entered([f"leaf {len(history.events) // 2}"])
+        graph = IndexGraph(history, "sne")
+        times = sorted({event[0] for event in history.events})
+        self.plans = {time: graph.entered([point(history, time)]) for time in times}
 
-    plans = {time: graph.entered([point(history, time)]) for time in sorted({event[0] for event in history.events})}
-    met = [(time, keys) for time, keys in plans.items() if len(keys) >= 4]
-    found = [(time, pair) for time, keys in met for pair in damaged_pairs(history, [key for key in keys if key not in start])]
-    if found:
-        time, pair = rng.choice(found)
-        text, key, column = with_damage(pair)
-        case = Case(program, index, seed)
-        case.script.append(f"at {time} sne")
-        case.reply(f"refused 15 damaged {key} {column}")
-        case.run(text)
-    heard = [(time, key, key_heard) for time, keys in plans.items() for key in keys if key not in start
-             for key_heard in history.heard([time])[0] if history.sizes[key_heard][MESSAGES] and any(history.sizes[key][:MESSAGES])]
-    if heard:
-        time, key, key_heard = rng.choice(heard)
-        column = next(c for c in COLUMNS if history.sizes[key][c])
-        text, key, column = with_damage([(key, column), (key_heard, MESSAGES)])
-        case = Case(program, index, seed)
-        case.script.append(f"at {time} snet")
-        case.reply(f"refused 15 damaged {key} {column}")
-        case.run(text)
-    met = damaged_pairs(history, start) if len(start) >= 4 else []
-    if met:
-        _, key, column = with_damage(rng.choice(met))
-        ran = subprocess.run([program, index], input=b"tree\n", capture_output=True)
-        due = f"deltagraph: the index is refused\ndeltagraph: {index}: damaged in record {key}, column {column}\n"
-        if ran.returncode != 7 or ran.stderr.decode() != due:
-            sys.exit(f"seed {seed}: status {ran.returncode}, {ran.stderr.decode()}")
-    apart = damaged_pairs(history, [key for key in history.all_lists() if key not in start])
-    if apart:
-        pair = rng.choice(apart)
-        text, key, column = with_damage(pair)
-        case = Case(program, index, seed)
-        case.script.append(f"interval {history.events[0][0]} {history.events[-1][0] + 1} snet")
-        case.reply(f"refused 15 damaged {key} {column}")
-        damaged = next((of for of in pair if of[1] == NODES), None)
-        of_nodes = next((name for name in changes.names if is_key(name)), UNKNOWN)
-        ask_index(history, changes.names, case, of_nodes, damaged)
-        case.run(text)
-    return bool(found), bool(met), bool(heard), bool(apart)
+    def behind_start(self, keys):
+        """Those of these records that no start enters."""
+        return [key for key in keys if key not in self.start]
+
+    def names_first(self, pair, command, *others):
+        """Over a file with damage in two columns a command names the first; and others answer as the machine."""
+        put(self.index, with_damage(self.history, pair))
+        machine = Machine(self.history, self.changes.names, pair)
+        case = Case(self.tests, self.program, self.index, self.seed, machine)
+        (key, column), _ = pair
+        self.tests.same(f"seed {self.seed}: {command}", case.ask(command), [f"refused 15 damaged {key} {LETTERS[column]}"])
+        for other in others:
+            case.ask(other)
+        case.run(with_damage(self.history, pair))
+
+    def of_an_instant(self):
+        """Two records of one plan of four or more."""
+        plans = [(time, self.behind_start(keys)) for time, keys in self.plans.items() if len(keys) >= 4]
+        found = [(time, pair) for time, keys in plans for pair in damaged_pairs(self.history, keys)]
+        if found:
+            time, pair = self.rng.choice(found)
+            self.names_first(pair, f"at {time} sne")
+        return bool(found)
+
+    def with_messages(self):
+        """A record, and the messages that are asked for behind it."""
+        sizes, found = self.history.sizes, []
+        for time, keys in self.plans.items():
+            heard = [key for key in self.history.heard([time])[0] if sizes[key][MESSAGES]]
+            found += [(time, key, told) for key in self.behind_start(keys) if any(sizes[key][:MESSAGES]) for told in heard]
+        if found:
+            time, key, told = self.rng.choice(found)
+            column = next(c for c in COLUMNS if sizes[key][c])
+            self.names_first([(key, column), (told, MESSAGES)], f"at {time} snet")
+        return bool(found)
+
+    def of_a_start(self):
+        """Two records of the plan of four or more by which a run starts."""
+        found = damaged_pairs(self.history, self.start) if len(self.start) >= 4 else []
+        if found:
+            (key, column), other = self.rng.choice(found)
+            put(self.index, with_damage(self.history, [(key, column), other]))
+            ran = subprocess.run([self.program, self.index], input=b"tree\n", capture_output=True)
+            said = f"{self.index}: damaged in record {key}, column {LETTERS[column]}"
+            due = f"deltagraph: the index is refused\ndeltagraph: {said}\n"
+            self.tests.same(f"seed {self.seed}: a start", (ran.returncode, ran.stderr.decode()), (7, due))
+        return bool(found)
+
+    def of_lists(self):
+        """Two lists, which an interval over all reads; and an index their node attributes."""
+        found = damaged_pairs(self.history, self.behind_start(self.history.all_lists()))
+        if found:
+            of_nodes = next((name for name in self.changes.names if is_key(name)), UNKNOWN)
+            whole = f"interval {self.history.events[0][0]} {self.history.events[-1][0] + 1} snet"
+            self.names_first(self.rng.choice(found), whole, f"index {of_nodes.decode()}")
+        return bool(found)
+
+
+def is_key(text):
+    return 1 <= len(text) <= 64 and all(byte > 32 for byte in text)
+
+
+def main():
+    program, folder, *words = sys.argv[1:]
+    first, last = map(int, words) if words else (0, HISTORIES)
+    tests, seeds = Tests("model"), range(first, last)
+    for seed in seeds:
+        check(tests, program, os.path.join(folder, "index"), seed)
+    for seed in [*seeds, *MET_BY_A_BATCH]:
+        check_damage(tests, program, os.path.join(folder, "damaged"), seed)
+    files = [FirstDamage(tests, program, os.path.join(folder, "damaged"), seed) for seed in seeds]
+    for method in (FirstDamage.of_an_instant, FirstDamage.with_messages, FirstDamage.of_a_start, FirstDamage.of_lists):
+        tried = sum(map(method, files))
+        tests.check(f"files with two damaged columns, {method.__name__}", tried >= len(files) // 4, tried)
+    return tests.end()
 
 
 if __name__ == "__main__":
-    program, folder, *words = sys.argv[1:]
-    first, last = map(int, words) if words else (0, HISTORIES)
-    for seed in range(first, last):
-        check(program, os.path.join(folder, "index"), seed)
-    for seed in [*range(first, last), *MET_BY_A_BATCH]:
-        check_damage(program, os.path.join(folder, "damaged"), seed)
-    found = [check_first_damage(program, os.path.join(folder, "damaged"), seed) for seed in range(first, last)]
-    for what, tried in zip(("plans of an instant", "plans of a start", "plans with messages", "intervals"), zip(*found)):
-        if sum(tried) < (last - first) // 4:
-            sys.exit(f"only {sum(tried)} {what} have two records that can be damaged")
-    print(f"model: {last - first} passed, 0 failed")
+    sys.exit(main())
