@@ -1218,20 +1218,23 @@ def failures(tests: Tests) -> None:
 
 
 def interrupted(tests: Tests) -> None:
-    """A tool that waits for its input is interrupted."""
-    command, environment = tests.command("tools/edges2script", "--progress", "-")
+    """A tool that waits for its input is interrupted, and one that waits for a program that does not answer."""
+    silent = tests.file("silent", "#!/bin/sh\nread line\nprintf 'ok pool 0 0\\nend\\n'\nexec sleep 1000\n")
+    os.chmod(silent, 0o755)
     pipe = subprocess.PIPE
     # What is started in the background of a shell ignores interruptions.
     listen = lambda: signal.signal(signal.SIGINT, signal.SIG_DFL)  # noqa: E731
-    process = subprocess.Popen(
-        command, stdin=pipe, stdout=pipe, stderr=pipe, env=environment, cwd=tests.folder, preexec_fn=listen
-    )
-    assert process.stderr is not None
-    process.stderr.readline()  # it has begun to read
-    process.send_signal(signal.SIGINT)
-    out, told = process.communicate()
-    found = process.returncode, out, told
-    tests.same("an interruption", found, (130, b"", b"edges2script: interrupted\n"))
+    for tool, *words in (["edges2script", "-"], ["growth", "index", "--at", "5", "--program", silent]):
+        command, environment = tests.command(f"tools/{tool}", "--progress", *words)
+        process = subprocess.Popen(
+            command, stdin=pipe, stdout=pipe, stderr=pipe, env=environment, cwd=tests.folder, preexec_fn=listen
+        )
+        assert process.stderr is not None
+        process.stderr.readline()  # it has begun to read, or to ask
+        process.send_signal(signal.SIGINT)
+        out, told = process.communicate()
+        found = process.returncode, out, told
+        tests.same(f"an interruption of {tool}", found, (130, b"", f"{tool}: interrupted\n".encode()))
 
 
 # Large files.
