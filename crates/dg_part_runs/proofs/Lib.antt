@@ -1,0 +1,13 @@
+pub mod TableEntries
+pub mod DiskLists
+pub mod Ranges
+pub mod ZippedLists
+pub mod GatheredParts
+pub mod LoopSteps
+pub mod PartSteps
+pub mod PartRuns
+pub mod WholeRuns
+pub mod PartCommands
+pub mod PartBegins
+pub mod PartPromises
+pub mod CarriedCommands

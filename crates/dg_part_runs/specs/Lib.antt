@@ -1,0 +1,12 @@
+pub mod PartTimes
+pub mod PartsMachine
+pub mod Disks
+pub mod PartsOutside
+pub mod PartsStatuses
+pub mod PartStarts
+pub mod PartsServed
+pub mod PartsPromised
+pub mod HandleSets
+pub mod HeldParts
+pub mod PartAnswers
+pub mod StartedParts
