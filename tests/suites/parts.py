@@ -1,0 +1,318 @@
+"""Splits histories into parts, and reads them together. Which files are due is computed here, from the events that belong to
+a part and from docs/FORMATS.md. What a listing over all parts has is due from the whole history, by replaying its events.
+
+  tests/run parts -- SEEDS     random histories with the seeds below SEEDS
+"""
+
+from __future__ import annotations
+
+import os
+import random
+import subprocess
+import sys
+from typing import Optional, Sequence
+
+from tests.lib.changes import Changes
+from tests.lib.history import EDGE, NODE, NODE_ATTR, History, cut, listing, replay
+from tests.lib.plans import IndexGraph, point
+from tests.lib.runs import Tests, content, in_use, lines, put
+from tests.suites.model import any_history
+
+MOST_PARTS = 16
+HISTORIES = 200
+MOST_HANDLES = 127
+COLUMNS = ["s", "sn", "se", "sne"]
+USAGE = b"dg_parts: usage: dg_parts split INDEX OUT P | read OUT P\n"
+# Kinds of calls that fail, as `fail.c` counts them.
+KINDS = ["alloc", "read", "write", "sync"]
+MOST_CALLS = 5000
+
+
+def part_of(event: tuple, parts: int) -> Optional[int]:
+    """The number of the part that an event belongs to; none where it belongs to every part."""
+    if event[1] in ("+", "-"):
+        kind, number = event[2][:2]
+        return None if kind == NODE else number % parts
+    return event[2] % parts
+
+
+def parts_of(history: History, names: Sequence[bytes], count: int) -> list[History]:
+    """The parts of a history of fewer events than a batch may have."""
+    made = []
+    for number in range(count):
+        part = History(history.size, history.arity, history.function)
+        events = [event for event in history.events if part_of(event, count) in (None, number)]
+        if events:
+            part.add(events, names)
+        made.append(part)
+    return made
+
+
+class Program:
+    """The program, run over files of a folder."""
+
+    def __init__(self, path: str, folder: str, library: str):
+        self.path, self.folder, self.library = os.path.abspath(path), folder, library
+        self.runs = 0
+
+    def place(self, name: str) -> str:
+        return os.path.join(self.folder, name)
+
+    def run(self, *words: str, script: bytes = b"", **failing: object) -> subprocess.CompletedProcess:
+        variables = {name.upper(): str(value) for name, value in failing.items()}
+        if variables:
+            variables["LD_PRELOAD"] = self.library
+        self.runs += 1
+        return subprocess.run(
+            [self.path, *words], input=script, capture_output=True, cwd=self.folder, env={**os.environ, **variables}, timeout=60
+        )
+
+    def outs(self, count: int) -> list[Optional[bytes]]:
+        return [content(self.place(f"out.{number}")) for number in range(count)]
+
+    def put_outs(self, images: Sequence[Optional[bytes]]) -> None:
+        for number in range(MOST_PARTS):
+            put(self.place(f"out.{number}"), images[number] if number < len(images) else None)
+
+
+class Reader:
+    """What a script over parts is answered. `whole` is the history that they are the parts of."""
+
+    def __init__(self, parts: Sequence[History], whole: History, names: Sequence[bytes]):
+        self.parts, self.whole, self.names = [part for part in parts if part.events], whole, names
+        self.handles: dict[int, set] = {}
+        self.next = 1
+
+    def ends(self) -> Optional[tuple[int, int]]:
+        if not self.parts:
+            return None
+        return min(part.events[0][0] for part in self.parts), max(part.events[-1][0] for part in self.parts)
+
+    def at(self, time: int, columns: str) -> list[str]:
+        ends = self.ends()
+        if ends is None:
+            return ["refused 7 out-of-range empty"]
+        if not ends[0] <= time <= ends[1]:
+            return [f"refused 7 out-of-range {ends[0]} {ends[1]}"]
+        if len(self.handles) == MOST_HANDLES:
+            return [f"refused 9 pool-full {MOST_HANDLES} 1"]
+        weight = 0
+        for part in self.parts:
+            if part.events[0][0] <= time:
+                asked = point(part, min(time, part.events[-1][0]))
+                weight += IndexGraph(part, columns).costs[asked][0]
+        handle, self.next = self.next, self.next + 1
+        self.handles[handle] = cut(replay(event for event in self.whole.events if event[0] <= time), columns)
+        return [f"ok at {handle} {weight}"]
+
+    def list(self, handle: int) -> list[str]:
+        if handle not in self.handles:
+            return [f"refused 8 unknown-handle {handle}"]
+        graph = self.handles[handle]
+        return [f"ok list {handle} {len(graph)}", *listing(graph, self.names)]
+
+    def release(self, handle: int) -> list[str]:
+        if self.handles.pop(handle, None) is None:
+            return [f"refused 8 unknown-handle {handle}"]
+        return [f"ok release {handle}"]
+
+
+def text_of(replies: Sequence[Sequence[str]]) -> bytes:
+    return "".join(line + "\n" for reply in replies for line in [*reply, "end"]).encode()
+
+
+def random_history(rng: random.Random) -> tuple[History, list[bytes], bool]:
+    """A history of some batches, the names that it brings, and whether it has messages."""
+    history, changes = any_history(rng, rng.choice([2, 2, 3, 5]), rng.choice([2, 2, 3])), Changes(rng)
+    changes.has_messages = history.is_wide
+    for batch in range(rng.choice([0, 1, 1, 2, 5])):
+        changes.time += 1 if batch else 0
+        names: list[bytes] = []
+        events = [changes.next(names)[1] for _ in range(rng.choice([1, 2, 5, 13, 60]))]
+        history.add(events, names)
+    return history, list(changes.names), changes.has_messages
+
+
+def random_script(rng: random.Random, reader: Reader) -> tuple[list[str], list[list[str]]]:
+    """Commands over parts, and what each is answered."""
+    asked, due = [], []
+    first, last = reader.ends() or (0, 0)
+    for _ in range(rng.choice([3, 8, 20])):
+        word = rng.choice(["at", "at", "list", "list", "release", "other"])
+        if word == "at":
+            time, columns = rng.randrange(max(0, first - 1), last + 2), rng.choice(COLUMNS)
+            asked.append(f"at {time} {columns}")
+            due.append(reader.at(time, columns))
+        elif word == "other":
+            line = rng.choice(["plan 20 s", "at 20 st", "several s 20", "counts 1", "verify"])
+            asked.append(line)
+            due.append([f"refused 1 syntax {8 if line == 'at 20 st' else 1}"])
+        else:
+            handle = rng.randrange(1, reader.next + 1)
+            asked.append(f"{word} {handle}")
+            due.append(reader.list(handle) if word == "list" else reader.release(handle))
+    return asked, due
+
+
+def check_history(tests: Tests, program: Program, seed: int) -> None:
+    """A random history is split, and read again."""
+    rng = random.Random(seed)
+    history, names, _ = random_history(rng)
+    count = rng.choice([1, 2, 2, 3, 5, 16])
+    parts = parts_of(history, names, count)
+    put(program.place("index"), history.file())
+    # A file that is blank may be there, or none.
+    program.put_outs([rng.choice([None, b"", b"\0" * 18]) for _ in range(count)])
+    ran = program.run("split", "index", "out", str(count))
+    tests.same(f"seed {seed}: split", (ran.returncode, ran.stdout, ran.stderr), (0, b"", b""))
+    tests.same(f"seed {seed}: the index", content(program.place("index")), history.file())
+    for number, (part, image) in enumerate(zip(parts, program.outs(count))):
+        # Behind the bytes in use those of a longer blank file may stand.
+        tests.check(f"seed {seed}: part {number}", image is not None and image[: len(part.file())] == part.file())
+    reader = Reader(parts, history, names)
+    asked, due = random_script(rng, reader)
+    ran = program.run("read", "out", str(count), script=lines(asked))
+    tests.same(f"seed {seed}: read", (ran.returncode, ran.stdout, ran.stderr), (0, text_of(due), b""))
+    tests.same(f"seed {seed}: the parts behind a reading", program.outs(count)[0][: len(parts[0].file())], parts[0].file())
+
+
+def five() -> tuple[History, list[bytes]]:
+    """The history of docs/FORMATS.md."""
+    history = History(2, 2, "intersection")
+    names = [b"name", b"A"]
+    events = [(10, "+", (NODE, 1)), (20, "+", (NODE, 2)), (30, "+", (EDGE, 5, 1, 2, 1))]
+    events += [(40, NODE_ATTR, 1, 0, None, 1), (50, "-", (EDGE, 5, 1, 2, 1))]
+    history.add(events, names)
+    return history, names
+
+
+def check_words(tests: Tests, program: Program) -> None:
+    """Words of no form are refused, and touch nothing."""
+    program.put_outs([])
+    wrong = [[], ["split"], ["read", "out"], ["split", "index", "out"], ["read", "out", "0"], ["read", "out", "17"]]
+    wrong += [["read", "out", "02"], ["read", "out", "+2"], ["read", "", "2"], ["split", "", "out", "2"], ["split", "index", "", "2"]]
+    wrong += [["read", "out", "2", "3"], ["splits", "index", "out", "2"], ["read", "out", "2 "], ["split", "index", "out", "2", "x"]]
+    for words in wrong:
+        ran = program.run(*words)
+        tests.same(f"the words {words}", (ran.returncode, ran.stdout, ran.stderr), (2, b"", USAGE))
+    tests.same("no part is made", program.outs(2), [None, None])
+
+
+def check_statuses(tests: Tests, program: Program) -> None:
+    """Each way to end that is not done, and what it leaves."""
+    history, names = five()
+    parts = parts_of(history, names, 2)
+    images = [part.file() for part in parts]
+    tests.same("the sizes of the parts", [len(image) for image in images], [202, 544])
+    tests.same("the second part is the whole file", images[1], history.file())
+    put(program.place("index"), history.file())
+    program.put_outs([])
+    ran = program.run("split", "index", "out", "2")
+    tests.same("split in two", (ran.returncode, program.outs(2)), (0, images))
+    ran = program.run("split", "index", "out", "2")
+    tests.same("split again", (ran.returncode, program.outs(2)), (8, images))
+    tests.check("an output exists", ran.stderr.startswith(b"dg_parts: an output exists\n"), ran.stderr)
+    program.put_outs([None, images[1]])
+    ran = program.run("split", "index", "out", "2")
+    tests.same("the second exists", (ran.returncode, program.outs(2)[1]), (8, images[1]))
+    tests.check("the first was not written", in_use(program.outs(2)[0] or b"") == b"")
+    put(program.place("none"), None)
+    ran = program.run("split", "none", "fresh", "2")
+    tests.same("no index", ran.returncode, 10)
+    tests.check("no index is said", ran.stderr.startswith(b"dg_parts: no index\n"), ran.stderr)
+    put(program.place("index"), b"hello, this is no index file")
+    ran = program.run("split", "index", "fresh", "2")
+    tests.same("a foreign file", ran.returncode, 7)
+    tests.check("it is refused", ran.stderr.startswith(b"dg_parts: the index is refused\n"), ran.stderr)
+    check_readings(tests, program, images)
+
+
+def check_readings(tests: Tests, program: Program, images: Sequence[bytes]) -> None:
+    """The statuses of a reading, and its row of commands."""
+    asked = ["at 30 s", "list 1", "at 9 s", "plan 20 s", "release 1", "list 1"]
+    due = [["ok at 1 40"], ["ok list 1 3", "node 1", "node 2", "edge 5 1 2 dir"], ["refused 7 out-of-range 10 50"]]
+    due += [["refused 1 syntax 1"], ["ok release 1"], ["refused 8 unknown-handle 1"]]
+    program.put_outs(images)
+    ran = program.run("read", "out", "2", script=lines(asked))
+    tests.same("the row", (ran.returncode, ran.stdout), (0, text_of(due)))
+    for number in range(2):
+        program.put_outs([None if at == number else image for at, image in enumerate(images)])
+        ran = program.run("read", "out", "2", script=lines(asked))
+        tests.same(f"part {number} is not there", (ran.returncode, ran.stdout), (10, b""))
+        program.put_outs([image[:30] if at == number else image for at, image in enumerate(images)])
+        ran = program.run("read", "out", "2", script=lines(asked))
+        tests.same(f"part {number} is cut", (ran.returncode, ran.stdout), (7, b""))
+        tests.check("which part", f"part {number}".encode() in ran.stderr, ran.stderr)
+    other = History(2, 2, "intersection")
+    other.add([(10, "+", (NODE, 1))], [b"other"])
+    program.put_outs([images[0], other.file()])
+    ran = program.run("read", "out", "2", script=lines(asked))
+    tests.same("other names", (ran.returncode, ran.stdout), (11, b""))
+    tests.check("the parts differ", ran.stderr.startswith(b"dg_parts: the parts differ\n"), ran.stderr)
+    empty = History(2, 2, "intersection")
+    program.put_outs([empty.file(), empty.file()])
+    ran = program.run("read", "out", "2", script=lines(["at 1 s", "at 0 s", "list 1"]))
+    due = [["refused 7 out-of-range empty"]] * 2 + [["refused 8 unknown-handle 1"]]
+    tests.same("no part has an event", (ran.returncode, ran.stdout), (0, text_of(due)))
+    program.put_outs(images)
+    ran = program.run("read", "out", "2", script=lines(["at 30 s"] * 128))
+    due = [[f"ok at {handle} 40"] for handle in range(1, 128)] + [["refused 9 pool-full 127 1"]]
+    tests.same("as many handles as there may be", (ran.returncode, ran.stdout), (0, text_of(due)))
+
+
+def check_damage(tests: Tests, program: Program) -> None:
+    """A list of one part is damaged: a retrieval that reads it names it, and another does not meet it."""
+    history, names = five()
+    images = [bytearray(part.file()) for part in parts_of(history, names, 2)]
+    # The count of events of list 0, whose column stands behind the directory.
+    images[0][202 - 43 : 202 - 39] = b"\xff" * 4
+    images[1][303:307] = b"\xff" * 4
+    for damaged in ([0], [1], [0, 1]):
+        whole = [part.file() for part in parts_of(history, names, 2)]
+        program.put_outs([bytes(images[at]) if at in damaged else whole[at] for at in range(2)])
+        ran = program.run("read", "out", "2", script=lines(["at 15 s", "at 50 s", "list 1"]))
+        tests.check(f"a damaged list of {damaged}", ran.returncode in (0, 7), (ran.returncode, ran.stderr))
+        if ran.returncode == 0:
+            first = ran.stdout.split(b"\n")[0]
+            tests.check("it is named or not read", first in (b"refused 15 damaged list 0 s", b"ok at 1 42", b"ok at 1 84"), first)
+
+
+def check_failures(tests: Tests, program: Program) -> None:
+    """Each call of a split fails in turn: a status with its cause, and outs that are blank, a front, or whole."""
+    history, names = five()
+    images = [part.file() for part in parts_of(history, names, 2)]
+    empty = History(2, 2, "intersection").file()
+    put(program.place("index"), history.file())
+    for kind in KINDS:
+        for number in range(1, MOST_CALLS):
+            program.put_outs([])
+            ran = program.run("split", "index", "out", "2", fail_kind=kind, fail_at=number)
+            case = f"{kind} {number} fails"
+            if ran.returncode == 0:
+                tests.same(case, program.outs(2), images)
+                break
+            tests.same(f"{case}: its status", ran.returncode, 6 if kind == "alloc" else 5)
+            for image, due in zip(program.outs(2), images):
+                held = in_use(image or b"")
+                # Of a file that was being made the first bytes may be missing.
+                tests.check(f"{case}: the outs", held in (b"", empty[:-1], due[:-1]), held)
+            tests.same(f"{case}: the index", content(program.place("index")), history.file())
+        else:
+            tests.check(f"{kind}: some call does not fail", False)
+
+
+def main() -> bool:
+    path, folder, library, *words = sys.argv[1:]
+    seeds = int(words[0]) if words else HISTORIES
+    tests, program = Tests("parts"), Program(path, folder, library)
+    check_words(tests, program)
+    check_statuses(tests, program)
+    check_damage(tests, program)
+    check_failures(tests, program)
+    for seed in range(seeds):
+        check_history(tests, program, seed)
+    return tests.end(f", {program.runs} runs")
+
+
+if __name__ == "__main__":
+    sys.exit(main())
