@@ -5,15 +5,15 @@ import argparse
 import errno
 import os
 import re
-import shutil
 from contextlib import contextmanager
 from typing import Iterator, Optional
 
 from command_line import Failed, WrongInput
 
 import deltagraph
-from deltagraph import Calendar, NoDate, NoIndex, OutOfRange, ProgramEnded, Span, Store
+from deltagraph import Calendar, NoDate, NoIndex, OutOfRange, ProgramEnded, ProgramMissing, Span, Store
 from deltagraph.calendar import seconds_of
+from deltagraph.process import find_program
 from deltagraph.words import COLUMNS, IS_NUMBER
 
 TOLD_COLUMNS = (*COLUMNS, *(columns + "t" for columns in COLUMNS))  # with a `t` the messages of its instant
@@ -107,13 +107,18 @@ def asked(index: str, program: Optional[str]) -> Iterator[History]:
         raise WrongInput(error) from error
     except ProgramEnded as ended:
         told = "; ".join(line.replace("deltagraph: ", "") for line in ended.errors)
+        told = told.replace(os.path.abspath(index), os.path.join(".", index))
         reason = told or f"no answer to `{ended.command or 'pool'}`"
         raise Failed(f"{index}: {reason} (the program ended with status {ended.status})") from ended
 
 
-def named(program: Optional[str]) -> Optional[str]:
-    """The program that is named here or in $DELTAGRAPH, if it is there; for none the client looks where it may be."""
-    given = program or os.environ.get("DELTAGRAPH")
-    if given and shutil.which(given) is None:
-        raise Failed(f"{given}: {os.strerror(errno.EACCES if os.path.exists(given) else errno.ENOENT)}")
-    return given or None
+def named(program: Optional[str]) -> list[str]:
+    """The words that start the program: the one that is named here or in $DELTAGRAPH, else where the client finds it."""
+    given = program or os.environ.get("DELTAGRAPH") or None
+    try:
+        return find_program(given)
+    except ProgramMissing as missing:
+        if given is None:
+            raise Failed("no program: build it, put it on the PATH, or name it with --program") from missing
+        is_there = os.sep in given and os.path.exists(given)
+        raise Failed(f"{given}: {os.strerror(errno.EACCES if is_there else errno.ENOENT)}") from missing
