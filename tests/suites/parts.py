@@ -13,7 +13,8 @@ import sys
 from typing import Optional, Sequence
 
 from tests.lib.changes import Changes
-from tests.lib.history import EDGE, NODE, NODE_ATTR, History, cut, listing, replay
+from tests.lib.history import EDGE, NODE, NODE_ATTR, History, replay
+from tests.lib.machine import cut, listing
 from tests.lib.plans import IndexGraph, point
 from tests.lib.runs import Tests, content, in_use, lines, put
 from tests.suites.model import any_history
