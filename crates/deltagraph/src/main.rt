@@ -8,8 +8,7 @@ ghost use Rattle.std.specs.Prelude.{◌≡◌, [], IfSome};
 #[cfg(test)]
 mod tests;
 
-use dg_cache::RangeCache;
-use dg_cached_disk::CachedDisk;
+use dg_cached_disk::{CachedDisk, RangeCache};
 use dg_file_disk::FileDisk;
 use dg_io::{StdSink, StdSource};
 use dg_program::{WordsFault, hold_standard, keep_freed, words_after_name};

@@ -32,7 +32,7 @@ use Rattle.dg_plan.specs.IndexGraph.{Ground, arcs_of}
 use Rattle.dg_plan.specs.Walks.{Arc, Cost, Leads, weight_of}
 use Rattle.dg_plan.proofs.IndexGraphNumbers.{above_exponent}
 use Rattle.dg_plan.proofs.WalkCosts.{cost_front}
-use Rattle.dg_certify.specs.PlanLines.{PlansAreCertified, plan_lines, potential_line, step_line}
+use Rattle.dg_path.specs.PlanLines.{PlansAreCertified, plan_lines, potential_line, step_line}
 use Rattle.dg_planner.specs.Order.{HasEnds, IsGraphNode}
 use Rattle.dg_planner.specs.PlanLaws.{NodesAreDistinct, PlansAreCertificates}
 use Rattle.dg_planner.proofs.OrderEnds.{has_ends, nodes_are}

@@ -14,13 +14,12 @@ ghost use Rattle.dg_ask.specs.HeldIndex.{HasNodes, has_node_held, point_over, sp
 ghost use Rattle.dg_ask.specs.KeptPlanner.{IsGraphFor};
 ghost use Rattle.dg_ask.specs.Plans.{IsPlanReply};
 
-use dg_certify::certify;
 use dg_file::Index;
 use dg_graph::{Columns, Event};
 use dg_handles::Handles;
 use dg_history::{NodeId, Params};
 use dg_machine::{BodyLine, BodyLines, Head, Reply};
-use dg_path::Route;
+use dg_path::{Route, certify};
 use dg_plan::{Edge, PlanLine, Verdict};
 use dg_planner::{Planner, law_nodes_are_listed};
 use dg_retrieval::shape_of;

@@ -1,1 +1,2 @@
+pub mod KeptRanges
 pub mod StandingRanges

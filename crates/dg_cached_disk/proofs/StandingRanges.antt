@@ -1,7 +1,7 @@
 -- What is kept stays what the disk has.
 use Rattle.std.proofs.Common.{◌≡◌, ℕ, ◌+◌, Bool, true, false, ◌&&◌, List, [], ◌∷◌, length, take, drop, slice_range, Option, Some, None, refl, sym, ap, ◌∙◌, arith}
 use Rattle.std.proofs.lemmas.Slice.Eq.{bytes_eq-Decides}
-use Rattle.dg_cache.specs.Ranges.{AreRangesOf, StandsIn}
+use Rattle.dg_cached_disk.specs.Ranges.{AreRangesOf, StandsIn}
 use Rattle.dg_disk.specs.Image.{IsRangeOf}
 use Rattle.dg_cached_disk.specs.Standing.{all_stand, stand}
 

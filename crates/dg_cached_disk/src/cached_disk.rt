@@ -4,7 +4,7 @@ ghost use Rattle.std.specs.Prelude.{◌≡◌, [], false, true};
 ghost use Rattle.dg_disk.specs.Counts.{raised_by};
 ghost use Rattle.dg_cached_disk.specs.Standing.{stand};
 
-use dg_cache::RangeCache;
+use crate::RangeCache;
 use dg_disk::{Disk, Failed};
 use std::alloc::Global;
 

@@ -11,15 +11,15 @@ use Rattle.dg_index.specs.ImageText.{is_within, gate_behind, eight_at}
 use Rattle.dg_index.specs.OpenedSoFar.{OpensOn}
 use Rattle.dg_index.proofs.OpenedSoFar.{opens_first, opens_next, opens_closed, opens_damaged, opens_marked}
 use Rattle.dg_file.specs.declared.fault.ReopenFault.{ReopenFault}
-use Rattle.dg_directory.specs.declared.lengths.Lengths.{Lengths}
+use Rattle.dg_segment.specs.declared.lengths.Lengths.{Lengths}
 use Rattle.dg_file.specs.declared.reads.Found.{Found}
-use Rattle.dg_directory.specs.declared.found.FoundDirectory.{FoundDirectory}
+use Rattle.dg_segment.specs.declared.found.FoundDirectory.{FoundDirectory}
 use Rattle.dg_file.specs.Headers.{IsFoundIn, Misses, IsOpenedSoFar}
-use Rattle.dg_directory.specs.Directories.{are_marking, segment_lengths_at, fit_in, directory_due, TakesDirectory}
+use Rattle.dg_segment.specs.Directories.{are_marking, segment_lengths_at, fit_in, directory_due, TakesDirectory}
 use Rattle.dg_file.specs.Images.{taken_after, RefusesOpening}
 use Rattle.dg_file.specs.Index.{opening_bytes}
 use Rattle.dg_file.specs.Invariant.{with_rows}
-use Rattle.dg_directory.proofs.DirectoryTests.{due_short}
+use Rattle.dg_segment.proofs.DirectoryTests.{due_short}
 use Rattle.dg_file.proofs.ImageParts.{fit_facts}
 use Rattle.dg_file.specs.declared.fault.ReopenFault.TheVariants as fault
 

@@ -18,8 +18,8 @@ use Rattle.dg_index.proofs.OpenedSoFar.{was, one_more, opened_in, marked_parts}
 use Rattle.std.proofs.lemmas.List.Sums.{sum_by-cons}
 use Rattle.dg_catalogue.specs.Additions.{bytes_of_rows}
 use Rattle.dg_file.specs.Images.{IsOpenedAs}
-use Rattle.dg_directory.specs.Directories.{directory_due}
-use Rattle.dg_directory.proofs.DirectoryTexts.{some_then}
+use Rattle.dg_segment.specs.Directories.{directory_due}
+use Rattle.dg_segment.proofs.DirectoryTexts.{some_then}
 use Rattle.dg_graph.specs.declared.element.Column.TheVariants as column
 
 -- the columns are within so many bytes

@@ -14,11 +14,11 @@ use Rattle.dg_index.specs.OpenedIndex.{opened_by, opening, No_index, Not_ours}
 use Rattle.dg_index.proofs.ImageTextRanges.{piece_eight}
 use Rattle.dg_index.proofs.OpenedSoFar.{header_same}
 use Rattle.dg_file.specs.declared.header.Header.{Header as FoundHeader}
-use Rattle.dg_directory.specs.declared.lengths.Lengths.{Lengths}
+use Rattle.dg_segment.specs.declared.lengths.Lengths.{Lengths}
 use Rattle.dg_file.specs.declared.reads.Found.{Found}
-use Rattle.dg_directory.specs.Directories.{fit_in, gate_after, segment_lengths_at}
+use Rattle.dg_segment.specs.Directories.{fit_in, gate_after, segment_lengths_at}
 use Rattle.dg_file.specs.Headers.{IsFoundIn, as_header}
-use Rattle.dg_directory.proofs.DirectoryTexts.{none_map, some_map}
+use Rattle.dg_segment.proofs.DirectoryTexts.{none_map, some_map}
 use Rattle.dg_file.specs.Images.{taken_after}
 
 pub opened_blank : (image : List ℕ) → is_blank image ≡ true → opening image ≡ Err No_index

@@ -27,7 +27,7 @@ use Rattle.dg_file.proofs.InvariantBatches.{follows_in}
 use Rattle.dg_catalogue.specs.Additions.{bytes_of_rows}
 use Rattle.dg_file.specs.Invariant.{with_rows}
 use Rattle.dg_file.proofs.SegmentText.{text_is}
-use Rattle.dg_directory.proofs.OpenedIndexKeys.{keys_count, keys_few}
+use Rattle.dg_segment.proofs.OpenedIndexKeys.{keys_count, keys_few}
 use Rattle.dg_file.proofs.ImageColumns.{used_within}
 use Rattle.dg_file.specs.Images.{Fits, GainsSegment, GainsBatch, GainsBatchOrNot, BothTold, IsOpenedAs}
 use Rattle.dg_file.specs.Headers.{header_rest, is_upgraded}

@@ -13,8 +13,8 @@ use Rattle.dg_index.specs.IndexGrowth.{columns_in}
 use Rattle.dg_index.specs.OpenedIndex.{No_index, Not_ours, Directory, Opened, Opening, directory_next, bare, go_on_with, if_it_may, keys_next, laid, may_stand, opened_by, opened_or, opening, read_on, rows_in, total, is_marked, with_marker}
 use Rattle.dg_index.proofs.OpenedSoFar.{one_more, some_turn, marked_parts}
 use Rattle.dg_catalogue.specs.Additions.{bytes_of_rows}
-use Rattle.dg_directory.specs.declared.lengths.Lengths.{Lengths}
-use Rattle.dg_directory.specs.Directories.{segment_lengths_at}
+use Rattle.dg_segment.specs.declared.lengths.Lengths.{Lengths}
+use Rattle.dg_segment.specs.Directories.{segment_lengths_at}
 use Rattle.dg_file.specs.declared.fault.ReopenFault.{ReopenFault}
 use Rattle.dg_file.specs.declared.fault.ReopenFault.TheVariants as fault
 use Rattle.dg_file.specs.declared.reads.Found.{Found}

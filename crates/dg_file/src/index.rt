@@ -20,7 +20,7 @@ ghost use Rattle.dg_catalogue.specs.Additions.{bytes_of_rows, Suits};
 ghost use Rattle.dg_catalogue.specs.Entries.{column_length_in};
 ghost use Rattle.dg_catalogue.specs.Points.{ListsRise};
 ghost use Rattle.dg_file.specs.Calls.{CommitsPart, CommitsSegment, IsOverLimit, LacksMarkerRoom, Upgrades, UpgradesPart};
-ghost use Rattle.dg_directory.specs.Directories.{directory_due, FindsDirectory, TakesDirectory, are_marking};
+ghost use Rattle.dg_segment.specs.Directories.{directory_due, FindsDirectory, TakesDirectory, are_marking};
 ghost use Rattle.dg_file.specs.Headers.{IsOpenedSoFar, Misses, is_upgraded};
 ghost use Rattle.dg_file.specs.Index.{HasSegmentRoom, opening_bytes};
 ghost use Rattle.dg_file.specs.Images.{BothTold, Fits, GainsBatchOrNot, GainsUpgradeOrNot, IsMadeInPart, IsOpenedAs, RefusesOpening, taken_after};
@@ -34,17 +34,16 @@ use crate::header::{HEADER_BYTES, OPEN};
 use crate::prepared_segment::{PreparedSegment, Ready};
 use crate::reads::{read_byte, read_header, read_lengths, read_range};
 use dg_catalogue::{Catalogue, column_length, column_offset, keys_due, leaves};
-use dg_directory::{
-    DirectoryFault, FoundDirectory, LENGTHS_BYTES, Lengths, MARKER_BYTES, NAMES_OFFSET,
-    are_unheard, batch_at, has_rows, is_measured, may_be_listed, may_follow, read_names, rows_in,
-};
 use dg_disk::Disk;
 use dg_graph::Column;
 use dg_history::{Form, Key, Params};
 use dg_index::{BatchEntry, Entry, Row};
 use dg_names::Names;
 use dg_numbers::{u32_at, u64_at};
-use dg_segment::Segment;
+use dg_segment::{
+    DirectoryFault, FoundDirectory, LENGTHS_BYTES, Lengths, MARKER_BYTES, NAMES_OFFSET, Segment,
+    are_unheard, batch_at, has_rows, is_measured, may_be_listed, may_follow, read_names, rows_in,
+};
 use dg_text::NAMES_MAX;
 use std::alloc::{AllocError, Global};
 use std::marker::Model;

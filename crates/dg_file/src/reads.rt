@@ -7,16 +7,16 @@ ghost use Rattle.dg_disk.specs.Image.{HasRange, IsLengthOf};
 ghost use Rattle.dg_history.specs.History.{are_parameters};
 ghost use Rattle.dg_index.specs.ImageText.{is_within};
 ghost use Rattle.dg_index.specs.OpenedIndex.{opening};
-ghost use Rattle.dg_directory.specs.Directories.{segment_lengths_at, fit_in};
+ghost use Rattle.dg_segment.specs.Directories.{segment_lengths_at, fit_in};
 ghost use Rattle.dg_file.specs.Headers.{IsFoundIn, Misses};
 ghost use Rattle.dg_file.specs.Images.{RefusesOpening, taken_after};
 ghost use Rattle.dg_file.specs.OpeningBytes.{TakesUpToOpening, blank_bytes};
 
 use crate::fault::{FetchFault, ReopenFault};
 use crate::header::{HEADER_BYTES, header_of, is_closed};
-use dg_directory::{LENGTHS_BYTES, Lengths};
 use dg_disk::{Disk, Failed};
 use dg_history::{Form, Params};
+use dg_segment::{LENGTHS_BYTES, Lengths};
 use std::alloc::Global;
 
 /// What the header of an index says.

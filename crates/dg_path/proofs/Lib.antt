@@ -1,3 +1,9 @@
+pub mod InstantPointNodes
+pub mod PotentialsByNode
+pub mod WrittenLineClaims
+pub mod WrittenLineCertificates
+pub mod CertificateLineVerdicts
+pub mod PlanLineVerdicts
 pub mod SearchLinks
 pub mod SearchThreads
 pub mod SearchTables

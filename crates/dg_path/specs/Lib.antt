@@ -1,1 +1,5 @@
+pub mod Claims
+pub mod Potentials
+pub mod WrittenLines
+pub mod PlanLines
 pub mod Search

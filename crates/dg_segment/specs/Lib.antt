@@ -1,2 +1,7 @@
+pub mod RowTexts
+pub mod RowKinds
+pub mod DirectoryParts
+pub mod NewNames
+pub mod Directories
 pub mod PackedRecords
 pub mod SegmentParts

@@ -3,11 +3,11 @@ ghost use Rattle.std.specs.Prelude.{◌≡◌, ◌+◌, ◌-◌, ◌<◌, ◌≤
 ghost use Rattle.dg_text.specs.declared.limits.TheConstants.{NAME_BYTES_MAX};
 ghost use Rattle.dg_index.specs.FileOfHistory.{blobs, bytes_of, delta_blobs, directory, head_of, lent, list_blobs, segment_bytes};
 ghost use Rattle.dg_index.specs.OpenedIndex.{AreUnheard, directory_of, lengths_of, lengths_size, list_row, list_size, record_row, total};
-ghost use Rattle.dg_directory.specs.DirectoryParts.{batch_text, records_text};
+ghost use Rattle.dg_segment.specs.DirectoryParts.{batch_text, records_text};
 
 use crate::piece::Piece;
 use crate::records::Records;
-use dg_directory::{NAME_LENGTH_BYTES, NewNames, put_count, put_number, put_row, put_table};
+use crate::{NAME_LENGTH_BYTES, NewNames, put_count, put_number, put_row, put_table};
 use dg_index::{BatchEntry, Ends, PerColumn, Row};
 use std::alloc::{AllocError, Global};
 use std::marker::Model;

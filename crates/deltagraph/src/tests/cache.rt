@@ -2,8 +2,7 @@
 ghost use Rattle.std.specs.Prelude.{◌≡◌, [], IfOk};
 
 use super::disk::{expects_repeats, read, write};
-use dg_cache::RangeCache;
-use dg_cached_disk::CachedDisk;
+use dg_cached_disk::{CachedDisk, RangeCache};
 use dg_disk::MemoryDisk;
 use std::alloc::{AllocError, Global};
 use std::num::NonZeroUsize;

@@ -7,7 +7,7 @@ use Rattle.dg_index.specs.declared.entry.Row.{Row}
 use Rattle.dg_index.specs.FileOfHistory.{Segment, blobs, head_of, segment_bytes}
 use Rattle.dg_index.specs.IndexGrowth.{index_with, needed_for}
 use Rattle.dg_index.specs.OpenedIndex.{Opening, directory_of, earliest_in, event_total, first_in, last_list, may_be_listed, rows_in}
-use Rattle.dg_directory.proofs.OpenedIndexLists.{listed_segment}
+use Rattle.dg_segment.proofs.OpenedIndexLists.{listed_segment}
 use Rattle.dg_index.proofs.OpenedIndexHistories.{large_parameters}
 use Rattle.dg_catalogue.specs.Additions.{Suits}
 use Rattle.dg_file.specs.declared.fault.CommitFault.{CommitFault}
@@ -17,7 +17,7 @@ use Rattle.dg_file.specs.Images.{BothTold, Fits, GainsBatchOrNot, GainsSegment}
 use Rattle.dg_file.specs.Index.{IndexState}
 use Rattle.dg_file.proofs.ImageSegments.{added_batch, added_or_not, added_segment, columns_end, index_is, needed_is, text_written, used_there}
 use Rattle.dg_file.proofs.InvariantBatches.{follows_in}
-use Rattle.dg_directory.proofs.OpenedIndexKeys.{suits_segment}
+use Rattle.dg_segment.proofs.OpenedIndexKeys.{suits_segment}
 use Rattle.dg_file.proofs.TidyWrites.{segment_tidy}
 use Rattle.dg_file.proofs.index.Index.add.Goals as goal
 

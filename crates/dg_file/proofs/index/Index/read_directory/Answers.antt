@@ -8,11 +8,11 @@ use Rattle.dg_index.specs.declared.entry.BatchEntry.{BatchEntry}
 use Rattle.dg_index.specs.declared.entry.Row.{Row}
 use Rattle.dg_index.specs.OpenedIndex.{Opening, Opened, may_follow, list_count, delta_count, keys_next, event_total, earliest_in, rows_in, are_unheard, may_be_listed}
 use Rattle.dg_index.proofs.OpenedIndexHistories.{large_parameters}
-use Rattle.dg_directory.specs.declared.names_read.DirectoryFault.TheVariants.{Broken}
+use Rattle.dg_segment.specs.declared.names_read.DirectoryFault.TheVariants.{Broken}
 use Rattle.dg_catalogue.specs.Additions.{bytes_of_rows}
 use Rattle.dg_file.specs.Index.{IndexState}
-use Rattle.dg_directory.proofs.DirectoryTests.{due_many, due_stale, due_following, due_rows, due_measured, due_listed, due_taken, due_unheard, rows_number, said}
-use Rattle.dg_directory.proofs.OpenedIndexKeys.{keys_count, keys_few}
+use Rattle.dg_segment.proofs.DirectoryTests.{due_many, due_stale, due_following, due_rows, due_measured, due_listed, due_taken, due_unheard, rows_number, said}
+use Rattle.dg_segment.proofs.OpenedIndexKeys.{keys_count, keys_few}
 use Rattle.dg_file.proofs.InvariantBatches.{follows_in}
 use Rattle.dg_file.proofs.index.Index.read_directory.Goals as goal
 

@@ -2,7 +2,7 @@ use Rattle.std.proofs.Common.{◌≡◌, ℕ, ◌+◌, List, None, Err, take, dr
 use Rattle.std.specs.Prelude.{IfSome}
 use Rattle.dg_disk.specs.Image.{HasRange}
 use Rattle.dg_index.specs.OpenedIndex.{Opening, Opened}
-use Rattle.dg_directory.specs.Directories.{TakesDirectory, directory_due}
+use Rattle.dg_segment.specs.Directories.{TakesDirectory, directory_due}
 use Rattle.dg_file.specs.Index.{IndexState}
 use Rattle.dg_file.proofs.ImageParts.{some_weaker}
 use Rattle.dg_file.proofs.IndexBytes.{after_most}

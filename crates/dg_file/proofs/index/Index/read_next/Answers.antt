@@ -6,8 +6,8 @@ use Rattle.dg_index.specs.IndexGrowth.{columns_in, name_total}
 use Rattle.dg_index.specs.OpenedIndex.{Opening, opening, keys_next, event_total, earliest_in, first_in, last_list, may_be_listed, may_follow}
 use Rattle.dg_catalogue.specs.Additions.{Suits, bytes_of_rows}
 use Rattle.dg_history.specs.declared.node.Key.{Key}
-use Rattle.dg_directory.specs.declared.lengths.Lengths.{Lengths}
-use Rattle.dg_directory.specs.Directories.{FindsDirectory, directory_due}
+use Rattle.dg_segment.specs.declared.lengths.Lengths.{Lengths}
+use Rattle.dg_segment.specs.Directories.{FindsDirectory, directory_due}
 use Rattle.dg_file.specs.Headers.{Misses, IsOpenedSoFar}
 use Rattle.dg_index.specs.ImageText.{eight_at, is_within}
 use Rattle.dg_file.specs.Index.{IndexState, opening_bytes}

@@ -2,8 +2,8 @@ use Rattle.std.proofs.Common.{ℕ, List, ◌++◌, length, ap, ◌∙◌}
 use Rattle.std.specs.List.{flat_map}
 use Rattle.dg_graph.specs.Columns.{eight, four}
 use Rattle.dg_index.specs.FileOfHistory.{name_bytes, Segment}
-use Rattle.dg_directory.specs.DirectoryParts.{batch_text}
-use Rattle.dg_directory.proofs.DirectoryPartTexts.{five_put}
+use Rattle.dg_segment.specs.DirectoryParts.{batch_text}
+use Rattle.dg_segment.proofs.DirectoryPartTexts.{five_put}
 use Rattle.dg_segment.proofs.segment.Segment.put_batch.Goals as goal
 
 pub returns : goal.returns

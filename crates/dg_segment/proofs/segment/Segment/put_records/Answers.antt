@@ -3,10 +3,10 @@ use Rattle.std.specs.List.{flat_map}
 use Rattle.dg_graph.specs.Columns.{four}
 use Rattle.dg_index.specs.declared.entry.Row.{Row}
 use Rattle.dg_index.specs.FileOfHistory.{Segment, Stored, StoredList, lengths_bytes, list_bytes}
-use Rattle.dg_directory.specs.DirectoryParts.{records_text}
-use Rattle.dg_directory.specs.RowTexts.{row_text}
+use Rattle.dg_segment.specs.DirectoryParts.{records_text}
+use Rattle.dg_segment.specs.RowTexts.{row_text}
 use Rattle.dg_segment.specs.SegmentParts.{delta_of, list_of}
-use Rattle.dg_directory.proofs.DirectoryPartTexts.{delta_table, list_table, pairs_put, piece_row}
+use Rattle.dg_segment.proofs.DirectoryPartTexts.{delta_table, list_table, pairs_put, piece_row}
 use Rattle.dg_segment.proofs.segment.Segment.put_records.Goals as goal
 
 table : Bool → List Row → List ℕ

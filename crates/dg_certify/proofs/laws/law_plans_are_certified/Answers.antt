@@ -1,5 +1,0 @@
-use Rattle.dg_certify.proofs.PlanLineVerdicts.{plans_are_certified}
-use Rattle.dg_certify.proofs.laws.law_plans_are_certified.Goals as goal
-
-pub returns : goal.returns
-returns c = plans_are_certified

@@ -1,4 +1,0 @@
-pub mod Claims
-pub mod Potentials
-pub mod WrittenLines
-pub mod PlanLines

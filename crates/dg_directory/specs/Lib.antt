@@ -1,5 +1,0 @@
-pub mod RowTexts
-pub mod RowKinds
-pub mod DirectoryParts
-pub mod NewNames
-pub mod Directories
