@@ -4,6 +4,7 @@ pub mod Ranges
 pub mod ZippedLists
 pub mod GatheredParts
 pub mod LoopSteps
+pub mod PartDamages
 pub mod PartSteps
 pub mod PartRuns
 pub mod WholeRuns
@@ -11,3 +12,4 @@ pub mod PartCommands
 pub mod PartBegins
 pub mod PartPromises
 pub mod CarriedCommands
+pub mod PartNames

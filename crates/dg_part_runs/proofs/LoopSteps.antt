@@ -14,6 +14,7 @@ use Rattle.dg_part_runs.specs.HeldParts.{AreGathered, AreParts, GathersPart, IsP
 use Rattle.dg_part_runs.specs.PartStarts.{MayBegin}
 use Rattle.dg_part_runs.specs.StartedParts.{AreStarted, IsStarted}
 use Rattle.dg_part_runs.proofs.GatheredParts.{gathered_more}
+use Rattle.dg_part_runs.proofs.PartBegins.{may_begin}
 use Rattle.dg_part_runs.proofs.ZippedLists.{get_there, take_more, zip_at, zip_length, zip_more}
 
 -- what a `?` hands out
@@ -37,7 +38,7 @@ before : (limits : Limits) (sessions : List SessionState) (told : List (Option (
 before limits sessions told zero all k x lt at = absurd (omega (arith, lt))
 before limits sessions [] (suc i) all k x lt at = absurd (cc)
 before limits [] (o ∷ told) (suc i) all k x lt at = absurd all
-before limits (s ∷ sessions) (o ∷ told) (suc i) all zero x lt at = let same : o ≡ x = cc in subst (λ v. IfSome v MayBegin) same all.0.began
+before limits (s ∷ sessions) (o ∷ told) (suc i) all zero x lt at = let same : o ≡ x = cc in subst (λ v. IfSome v MayBegin) same (may_begin s o all.0.began)
 before limits (s ∷ sessions) (o ∷ told) (suc i) all (suc k) x lt at = before limits sessions told i all.1 k x (omega (arith, lt)) at
 
 module _ {D : Type 0} (d : Ghosts D) where

@@ -13,13 +13,14 @@ use Rattle.dg_session.specs.Session.{HoldsImage, StandsFor}
 use Rattle.dg_session.specs.SessionStart.{Begins, IsNew, RefusesSession}
 use Rattle.dg_session.specs.SessionState.{SessionState}
 use Rattle.dg_start.specs.declared.fault.StartFault.TheVariants as start_fault
-use Rattle.dg_start.specs.SessionStart.{Started}
+use Rattle.dg_start.specs.SessionStart.{started_with}
 use Rattle.dg_machine.specs.MachineState.{machine_at}
 use Rattle.dg_stored.specs.StoredHistory.{IsHeldBy}
 use Rattle.dg_part_runs.specs.declared.sessions.PartSessions.{PartSessions}
 use Rattle.dg_part_runs.specs.declared.status.PartsStatus.{PartsStatus}
 use Rattle.dg_part_runs.specs.declared.status.PartsStatus.TheVariants as status
 use Rattle.dg_part_runs.specs.HeldParts.{AreParts, AreStanding, IsPart, names_kept, span_kept}
+use Rattle.dg_part_runs.specs.PartDamage.{BeginsWith}
 use Rattle.dg_part_runs.specs.PartsServed.{AreImagesOf, TellsHistory}
 use Rattle.dg_part_runs.specs.PartsStatuses.{ending_at}
 use Rattle.dg_part_runs.specs.PartStarts.{Agrees, AreTold, Differs, Each, HasIndex, IsFirstTo, IsOpenedAs, MayBegin, StartsSo, has_event, names_among}
@@ -173,6 +174,10 @@ stops_begun told (status.Mismatch part) stops = absurd stops
 
 -- ---- all parts begin
 
+-- over an image that a session was begun over, one may begin
+pub may_begin : (s : SessionState) (told : Option (List ℕ)) → IfSome told (BeginsWith s) → IfSome told MayBegin
+may_begin s told began = if_some_to (BeginsWith s) MayBegin (λ image is. (started_with s.parts.index s.parts.names s.parts.graph s.parts.recent, is)) told began
+
 module _ (limits : Limits) (sessions : List SessionState) (told : List (Option (List ℕ))) (started : AreStarted limits sessions told) where
   pub are_parts : AreParts limits sessions told
   are_parts = zip_as (IsStarted limits) (IsPart limits) (λ s o is. is.part) sessions told started
@@ -180,7 +185,7 @@ module _ (limits : Limits) (sessions : List SessionState) (told : List (Option (
   all_begin : (images : List (List ℕ)) → AreTold told images → Each MayBegin images
   all_begin images is = λ k image there.
       let at = zip_got (IsStarted limits) sessions told k (Some image) started (ap (λ (l : List (Option (List ℕ))). slice_get l k) is ∙ get_map (λ (x : List ℕ). Some x) images k image there) in
-      at.2.began
+      may_begin at.0 (Some image) at.2.began
 
 -- the session and what its image is opened as
 record Opens (s : SessionState) (x : Opened) : Type 0 where
@@ -306,11 +311,11 @@ standing limits (s ∷ sessions) (o ∷ told) (z ∷ zs) started images = (start
 
 -- ---- one part more
 
-pub started_one : (limits : Limits) (s : SessionState) (told : Option (List ℕ)) (x : Option Started) → IsNew limits s.parts → HoldsImage s.parts told → IfSome told (λ image. Begins false image (Ok x))
+pub started_one : (limits : Limits) (s : SessionState) (told : Option (List ℕ)) → IsNew limits s.parts → HoldsImage s.parts told → IfSome told (BeginsWith s)
     → IfSome told (λ image. (index : Option History) → StandsAs index image → StandsFor s.parts image (machine_at limits index)) → IsStarted limits s told
-started_one limits s told x new holds began stands = record {
+started_one limits s told new holds began stands = record {
   part = record { new = new; holds = holds };
-  began = if_some_to (λ image. Begins false image (Ok x)) MayBegin (λ image is. (x, is)) told began;
+  began = began;
   stands = λ z tells. (
     tells.0,
     tells.1,

@@ -1,5 +1,6 @@
 -- The promise of a run over parts, from its start and from the run over the script.
 use Rattle.std.proofs.Common.{arith, ◌≡◌, ℕ, ◌+◌, ◌<◌, ◌≤◌, ◌⊎◌, inl, inr, length-append, Vec, true, false, List, [], ◌∷◌, ◌++◌, Option, Some, None, IfSome, length, map, refl, sym, ap, ◌∙◌, subst}
+use Rattle.std.specs.List.{AllZip, flat_map}
 use Rattle.std.specs.Vec.{with_items}
 use Rattle.std.proofs.lemmas.List.{with_items_is}
 use Rattle.dg_disk.specs.Calls.{SyncsDisk}
@@ -16,6 +17,7 @@ use Rattle.dg_line.specs.PartGrammar.{part_command_of}
 use Rattle.dg_machine.specs.declared.command.Command.{Command}
 use Rattle.dg_machine.specs.declared.limits.Limits.{Limits}
 use Rattle.dg_machine.specs.declared.reply.Reply.{Reply}
+use Rattle.dg_machine.specs.ReplyText.{text}
 use Rattle.dg_machine.specs.Script.{Entry}
 use Rattle.dg_partition.specs.HistoryParts.{part_of}
 use Rattle.dg_partition.specs.PartLaws.{PartsMakeTheWholeWithin}
@@ -33,6 +35,7 @@ use Rattle.dg_part_runs.specs.declared.status.PartsStatus.TheVariants as status
 use Rattle.dg_part_runs.specs.Disks.{ReadsAll, RoseBy, SomeRose, SyncsAll, faults_of, images_of}
 use Rattle.dg_part_runs.specs.HeldParts.{AreParts, AreStanding, names_kept}
 use Rattle.dg_part_runs.specs.PartAnswers.{AnswersPart, AreReady, state_over}
+use Rattle.dg_part_runs.specs.PartDamage.{DamageIsNamed, NamesDamage}
 use Rattle.dg_part_runs.specs.PartsMachine.{PartsRun, PartsState, failed_reads_in, parts_at, union_shown}
 use Rattle.dg_part_runs.specs.PartsOutside.{PartsOutside}
 use Rattle.dg_part_runs.specs.PartsPromised.{NoneFailed, PartsPromised}
@@ -43,7 +46,8 @@ use Rattle.dg_part_runs.specs.StartedParts.{AreBegun, AreNotBegun}
 use Rattle.dg_part_runs.proofs.DiskLists.{rose_synced, rose_then, same_images, same_synced_images}
 use Rattle.dg_part_runs.proofs.PartBegins.{are_parts, standing}
 use Rattle.dg_part_runs.proofs.ZippedLists.{zip_length}
-use Rattle.dg_part_runs.proofs.PartRuns.{IsRunOf, run_of, run_reads}
+use Rattle.dg_part_runs.proofs.PartDamages.{are_begun}
+use Rattle.dg_part_runs.proofs.PartRuns.{IsRunOf, replies_in, run_names, run_of, run_reads, run_texts}
 use Rattle.dg_part_runs.proofs.WholeRuns.{run_as}
 
 -- what streams tell, with what the disks of the parts do
@@ -101,6 +105,7 @@ module _ (limits : Limits) (a : Streams) (told images : List (Option (List ℕ))
   promised_unbegun n same cause = record {
     served = λ run zs is. absurd (let e : true ≡ false = sym run ∙ n.unbegun in cc);
     whole = λ run z legal p some is. absurd (let e : true ≡ false = sym run ∙ n.unbegun in cc);
+    damage = λ run. absurd (let e : true ≡ false = sym run ∙ n.unbegun in cc);
     starts = n.starts;
     never_refused = n.never_refused;
     never_blank = n.never_blank;
@@ -239,6 +244,25 @@ module _ {D W : Type 0} (d : Ghosts D) (items : W → List D) (g : machine.Ghost
     pub reads_now : ReadsAll d (items w) (items v)
     reads_now = subst (λ (x : W). ReadsAll d (items w) (items x)) (sym at_last) (run_reads d items g answers_are texts_are m w ran.entries ran.turns ran.run)
 
+    -- what the replies say of damage, whatever the images are
+    damage_named : DamageIsNamed limits (status_of ending) start now
+    damage_named = record {
+      sessions = m.sessions.items;
+      begun = are_begun limits m.sessions.items (images_of d old) begun.started;
+      ending = ending;
+      ended = refl;
+      entries = ran.entries;
+      replies = replies_in ran.turns;
+      named = subst (λ (told : List (Option (List ℕ))). AllZip (NamesDamage m.sessions.items told) ran.entries (replies_in ran.turns)) same
+          (run_names d items g answers_are texts_are m w ran.entries ran.turns ran.run);
+      more = ran.more;
+      front = ran.front;
+      whole = none_left ending ran.more (last_machine m ran.turns) last n v ran.leaves;
+      gained = subst (λ (due : List ℕ). GainsFor ending a.written due b.written)
+          (run_texts d items g answers_are texts_are m w ran.entries ran.turns ran.run
+          ∙ ap (λ (ns : List (List ℕ)). flat_map (text (names_kept ns m.sessions.items)) (replies_in ran.turns)) begun.nameless) ran.gained;
+    }
+
     module _ (zs : List History) (images : AreImagesOf (images_of d old) zs) where
       stand : AreStanding limits m.sessions.items (images_of d (items w)) zs
       stand = subst (λ (l : List (Option (List ℕ))). AreStanding limits m.sessions.items l zs) (sym same) (standing limits m.sessions.items (images_of d old) zs begun.started images)
@@ -288,6 +312,7 @@ module _ {D W : Type 0} (d : Ghosts D) (items : W → List D) (g : machine.Ghost
       served = λ run zs images. served_as zs images (union_shown zs) (λ t cols silent. refl);
       whole = λ run z legal p some images. served_as (map (λ i. part_of z i p) (numbers 0 p)) images (λ t cols. shown_at (events_of z) t cols)
           (λ t cols silent. whole_shown law z legal p t cols some silent);
+      damage = λ run. damage_named;
       starts = λ images is. starts_at ending images (begun.starts images is);
       never_refused = λ zs images part f is. not_refused ending part f is;
       never_blank = λ zs images part is. not_blank ending part is;

@@ -1,6 +1,7 @@
 -- The runs of the machine of parts, from the runs of what carries out its commands.
-use Rattle.std.proofs.Common.{◌≡◌, ℕ, Bool, true, false, List, [], ◌∷◌, ◌++◌, Option, Some, refl, sym, ap, ◌∙◌, subst}
+use Rattle.std.proofs.Common.{◌≡◌, ℕ, Bool, true, false, List, [], ◌∷◌, ◌++◌, Option, Some, None, map, refl, sym, ap, ◌∙◌, subst}
 use Rattle.std.specs.Prelude.{if◌then◌else◌, is_some}
+use Rattle.std.specs.List.{AllZip, flat_map}
 use Rattle.std.proofs.lemmas.List.Sums.{sum_by-cons}
 use Rattle.dg_disk.specs.declared.disk.Disk.{Ghosts}
 use Rattle.dg_history.specs.History.{History, names_of}
@@ -16,6 +17,7 @@ use Rattle.dg_machine.specs.ReplyText.{text}
 use Rattle.dg_machine.specs.Run.{is_store_read}
 use Rattle.dg_machine.specs.Script.{Entry, Asked, No_command, Long_line}
 use Rattle.dg_session.proofs.PartStates.{are_of, instants_are}
+use Rattle.dg_session.specs.Damage.{damage_told}
 use Rattle.dg_session.specs.SessionState.{SessionState}
 use Rattle.dg_text.specs.Lines.{ScriptLine}
 use Rattle.dg_turns.specs.declared.machine.Machine as machine
@@ -24,6 +26,7 @@ use Rattle.dg_part_runs.specs.declared.sessions.PartSessions.{PartSessions}
 use Rattle.dg_part_runs.specs.Disks.{ReadsAll, RoseBy, SomeRose, faults_of, images_of}
 use Rattle.dg_part_runs.specs.HeldParts.{AreStanding, names_kept, span_kept}
 use Rattle.dg_part_runs.specs.PartAnswers.{AnswersPart, state_over}
+use Rattle.dg_part_runs.specs.PartDamage.{NamesDamage, damage_in}
 use Rattle.dg_part_runs.specs.PartsMachine.{Leaves_grammar, PartsAnswered, PartsRun, PartsStep, Too_long, failed_reads_in, names_of_parts, texts_by, union_shown}
 use Rattle.dg_part_runs.specs.PartTimes.{ends_of}
 use Rattle.dg_part_runs.proofs.DiskLists.{reads_all_none, reads_all_then, rose_never, rose_once, rose_then, same_images}
@@ -40,6 +43,10 @@ names_same limits (s ∷ sessions) (o ∷ told) (z ∷ zs) all =
     let names : s.parts.names ≡ names_of z = (are_of (Some z) s.parts all.0.2.kept).names_are in
     let more = names_same limits sessions told zs all.1 in
     λ i. if is_some (ends i) then names i else more i
+
+-- the replies of a run
+abbrev pub replies_in : {M W : Type 0} → List (Turned M W) → List Reply
+replies_in turns = map (λ t. t.reply) turns
 
 module _ {D W : Type 0} (d : Ghosts D) (items : W → List D) (g : machine.Ghosts PartSessions W)
     (answers_are : (c : Command) (got : List ScriptLine) (m : PartSessions) (w : W) (n : PartSessions) (v : W) (r : Reply) → g.answers c got m w n v r → AnswersPart d c got m (items w) n (items v) r)
@@ -73,6 +80,41 @@ module _ {D W : Type 0} (d : Ghosts D) (items : W → List D) (g : machine.Ghost
   run_reads m w (e ∷ entries) [] run = absurd run
   run_reads m w (e ∷ entries) (t ∷ turns) run =
       reads_all_then d (items w) (items t.world) (items (last_world t.world turns)) (keeps m w e t run.0).reads (run_reads t.machine t.world entries turns run.1)
+
+  -- what its reply says of damage
+  refused_quiet : (t : Turned PartSessions W) (r : Refusal) → damage_told (Some r) ≡ None → t.reply ≡ headed (head.Refused r) → damage_in t.reply ≡ None
+  refused_quiet t r none is = ap damage_in is ∙ none
+
+  names : (m : PartSessions) (w : W) (e : Entry) (t : Turned PartSessions W) → Answers g part_command_of m w e t → NamesDamage m.sessions.items (images_of d (items w)) e t.reply
+  names m w (Asked c got) t answers = (answers_are c got m w t.machine t.world t.reply answers).damage
+  names m w (No_command line) t (r, (column, is_column, is_syntax), is, same_m, same_w) = refused_quiet t r (ap (λ (x : Refusal). damage_told (Some x)) is_syntax) is
+  names m w Long_line t (r, is_long, is, same_m, same_w) = refused_quiet t r (ap (λ (x : Refusal). damage_told (Some x)) is_long) is
+
+  -- what the replies of a run say of damage
+  pub run_names : (m : PartSessions) (w : W) (entries : List Entry) (turns : List (Turned PartSessions W)) → RunOver g part_command_of m w entries turns
+      → AllZip (NamesDamage m.sessions.items (images_of d (items w))) entries (replies_in turns)
+  run_names m w [] [] run = tt
+  run_names m w [] (t ∷ turns) run = absurd run
+  run_names m w (e ∷ entries) [] run = absurd run
+  run_names m w (e ∷ entries) (t ∷ turns) run =
+      let k = keeps m w e t run.0 in (
+        names m w e t run.0,
+        subst (λ (told : List (Option (List ℕ))). AllZip (NamesDamage m.sessions.items told) entries (replies_in turns)) (same_images d (items w) (items t.world) k.reads)
+            (subst (λ (sessions : List SessionState). AllZip (NamesDamage sessions (images_of d (items t.world))) entries (replies_in turns)) k.sessions (run_names t.machine t.world entries turns run.1)),
+      )
+
+  -- and their texts, by the names with which it began
+  pub run_texts : (m : PartSessions) (w : W) (entries : List Entry) (turns : List (Turned PartSessions W)) → RunOver g part_command_of m w entries turns
+      → turn_texts g turns ≡ flat_map (text (names_kept m.nameless m.sessions.items)) (replies_in turns)
+  run_texts m w [] [] run = refl
+  run_texts m w [] (t ∷ turns) run = absurd run
+  run_texts m w (e ∷ entries) [] run = absurd run
+  run_texts m w (e ∷ entries) (t ∷ turns) run =
+      let k = keeps m w e t run.0 in
+      let kept : names_kept t.machine.nameless t.machine.sessions.items ≡ names_kept m.nameless m.sessions.items = λ i. names_kept (k.nameless i) (k.sessions i) in
+      let here = texts_are t.machine ∙ kept in
+      let more = run_texts t.machine t.world entries turns run.1 ∙ ap (λ (ns : List (List ℕ)). flat_map (text ns) (replies_in turns)) kept in
+      λ i. text (here i) t.reply ++ more i
 
   module _ (limits : Limits) (zs : List History) where
     abbrev Stand : PartSessions → W → Type 0

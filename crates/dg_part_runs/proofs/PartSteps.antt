@@ -19,15 +19,18 @@ use Rattle.dg_machine.specs.Run.{is_failed_read, is_store_read}
 use Rattle.dg_machine.specs.Script.{Asked}
 use Rattle.dg_records.specs.declared.fault.RecordFault.{RecordFault}
 use Rattle.dg_records.specs.declared.fault.RecordFault.TheVariants as fault
+use Rattle.dg_session.specs.Damage.{damage_told}
 use Rattle.dg_part_runs.specs.declared.sessions.PartSessions.{PartSessions}
 use Rattle.dg_part_runs.specs.Disks.{ReadsAll, SomeRose, faults_of, images_of}
 use Rattle.dg_part_runs.specs.HandleSets.{HandleSetsState, with_next}
 use Rattle.dg_part_runs.specs.HeldParts.{AreStanding, ReadsParts, ends_kept, refusal_for}
 use Rattle.dg_part_runs.specs.PartAnswers.{AnswersPart, ListsBy, ListsSet, released_by, released_head, state_over}
+use Rattle.dg_part_runs.specs.PartDamage.{AreWhole, NamesFirst, TellsDamage}
 use Rattle.dg_part_runs.specs.PartsMachine.{Fails_to_read, Gives, Lacks_memory, Lists, PartsState, PartsStep, Refuses, Releases, refused_of_parts, set_at, union_shown, without_handle, without_set}
 use Rattle.dg_part_runs.specs.PartTimes.{joined_all}
 use Rattle.dg_part_runs.proofs.DiskLists.{reads_all_none}
 use Rattle.dg_part_runs.proofs.GatheredParts.{ends_same}
+use Rattle.dg_part_runs.proofs.PartDamages.{tells_none}
 
 -- a refusal that is decided before anything is read tells of no read
 not_store : (ends : Option (ℕ × ℕ)) (t live next : ℕ) (r : Refusal) → earliest (without_handle ends t live next) ≡ Some r → is_failed_read r ≡ false
@@ -37,6 +40,16 @@ not_store ends t live next r is = by _ _ _ is
     by true b c at = let same : refusal.OutOfRange ends ≡ r = cc in subst (λ (x : Refusal). is_failed_read x ≡ false) same refl
     by false true c at = let same : refusal.PoolFull live 1 ≡ r = cc in subst (λ (x : Refusal). is_failed_read x ≡ false) same refl
     by false false true at = let same : refusal.HandlesSpent ≡ r = cc in subst (λ (x : Refusal). is_failed_read x ≡ false) same refl
+    by false false false at = absurd (cc)
+
+-- nor of a damage
+not_damage : (ends : Option (ℕ × ℕ)) (t live next : ℕ) (r : Refusal) → earliest (without_handle ends t live next) ≡ Some r → damage_told (Some r) ≡ None
+not_damage ends t live next r is = by _ _ _ is
+  where
+    by : (a b c : Bool) → earliest (when a (refusal.OutOfRange ends) ++ (when b (refusal.PoolFull live 1) ++ when c refusal.HandlesSpent)) ≡ Some r → damage_told (Some r) ≡ None
+    by true b c at = let same : refusal.OutOfRange ends ≡ r = cc in subst (λ (x : Refusal). damage_told (Some x) ≡ None) same refl
+    by false true c at = let same : refusal.PoolFull live 1 ≡ r = cc in subst (λ (x : Refusal). damage_told (Some x) ≡ None) same refl
+    by false false true at = let same : refusal.HandlesSpent ≡ r = cc in subst (λ (x : Refusal). damage_told (Some x) ≡ None) same refl
     by false false false at = absurd (cc)
 
 -- where the handle is not live, no entry is taken out
@@ -67,6 +80,7 @@ module _ {D : Type 0} (d : Ghosts D) where
     nameless = refl;
     reads = reads_all_none d disks;
     store_read = λ says. absurd (let no = not_store (ends_kept s.sessions.items) t (length s.handles.sets) s.handles.next r is in let e : true ≡ false = sym says ∙ no in cc);
+    damage = tells_none (command.At t cols) s.sessions.items (images_of d disks) r (not_damage (ends_kept s.sessions.items) t (length s.handles.sets) s.handles.next r is);
   }
 
   -- from here on nothing refuses it before anything is read
@@ -80,14 +94,15 @@ module _ {D : Type 0} (d : Ghosts D) where
     step_to limits zs h reply = PartsStep (union_shown zs) (state_over limits old zs) (Asked (command.At t cols) []) reply (record { limits = limits; parts = zs; table = h.sets; next = h.next })
 
     pub at_given : (handle weight : ℕ) (set : List Element) → ((limits : Limits) → ReadsParts limits old.sessions.items (images_of d before) t cols (Ok (set, weight)))
-        → new.handles ≡ with_next old.handles set → handle ≡ old.handles.next → AnswersPart d (command.At t cols) [] old before new after (headed (head.At handle weight))
-    at_given handle weight set is_read added number = record {
+        → AreWhole t cols old.sessions.items (images_of d before) → new.handles ≡ with_next old.handles set → handle ≡ old.handles.next → AnswersPart d (command.At t cols) [] old before new after (headed (head.At handle weight))
+    at_given handle weight set is_read whole added number = record {
       none = refl;
       steps = step;
       sessions = same;
       nameless = nameless_same;
       reads = reads_are;
       store_read = λ says. absurd (cc);
+      damage = record { damaged = tt; whole = λ no. whole };
     }
       where
         step : (limits : Limits) (zs : List History) → AreStanding limits old.sessions.items (images_of d before) zs
@@ -114,26 +129,29 @@ module _ {D : Type 0} (d : Ghosts D) where
         nameless = nameless_same;
         reads = reads_are;
         store_read = λ says. absurd (cc);
+        damage = tells_none (command.At t cols) old.sessions.items (images_of d before) refusal.OutOfMemory refl;
       }
 
-      pub at_fault : (f : RecordFault) → ((limits : Limits) → ReadsParts limits old.sessions.items (images_of d before) t cols (Err f)) → (f ≡ fault.Disk → SomeRose (faults_of d before) (faults_of d after))
+      pub at_fault : (f : RecordFault) → ((limits : Limits) → ReadsParts limits old.sessions.items (images_of d before) t cols (Err f)) → NamesFirst t cols old.sessions.items (images_of d before) f → (f ≡ fault.Disk → SomeRose (faults_of d before) (faults_of d after))
           → AnswersPart d (command.At t cols) [] old before new after (headed (head.Refused (refusal_for f)))
-      at_fault fault.Disk is_read cause = record {
+      at_fault fault.Disk is_read first cause = record {
         none = refl;
         steps = λ limits zs stand. stays limits zs _ (Fails_to_read t cols (free_of limits zs stand));
         sessions = same;
         nameless = nameless_same;
         reads = reads_are;
         store_read = λ says. cause refl;
+        damage = tells_none (command.At t cols) old.sessions.items (images_of d before) refusal.StoreRead refl;
       }
-      at_fault fault.Memory is_read cause = at_lacking
-      at_fault (fault.Damaged key col) is_read cause = record {
+      at_fault fault.Memory is_read first cause = at_lacking
+      at_fault (fault.Damaged key col) is_read first cause = record {
         none = refl;
         steps = λ limits zs stand. absurd (undamaged ((is_read limits).never zs stand));
         sessions = same;
         nameless = nameless_same;
         reads = reads_are;
         store_read = λ says. absurd (cc);
+        damage = record { damaged = first; whole = λ no. absurd (cc) };
       }
         where
           undamaged : (fault.Damaged key col ≡ fault.Disk) ⊎ (fault.Damaged key col ≡ fault.Memory) → ⊥
@@ -141,9 +159,9 @@ module _ {D : Type 0} (d : Ghosts D) where
           undamaged (inr is) = absurd (cc)
 
       pub at_failed : (f : RecordFault) (r : Refusal) → r ≡ refusal_for f → ((limits : Limits) → ReadsParts limits old.sessions.items (images_of d before) t cols (Err f))
-          → (f ≡ fault.Disk → SomeRose (faults_of d before) (faults_of d after)) → AnswersPart d (command.At t cols) [] old before new after (headed (head.Refused r))
-      at_failed f r is is_read cause =
-          subst (λ (x : Refusal). AnswersPart d (command.At t cols) [] old before new after (headed (head.Refused x))) (sym is) (at_fault f is_read cause)
+          → NamesFirst t cols old.sessions.items (images_of d before) f → (f ≡ fault.Disk → SomeRose (faults_of d before) (faults_of d after)) → AnswersPart d (command.At t cols) [] old before new after (headed (head.Refused r))
+      at_failed f r is is_read first cause =
+          subst (λ (x : Refusal). AnswersPart d (command.At t cols) [] old before new after (headed (head.Refused x))) (sym is) (at_fault f is_read first cause)
 
   -- ---- a handle
 
@@ -166,6 +184,7 @@ module _ {D : Type 0} (d : Ghosts D) where
       nameless = refl;
       reads = reads_all_none d disks;
       store_read = λ says. absurd (cc);
+      damage = tells_none c s.sessions.items (images_of d disks) (refusal.UnknownHandle handle) refl;
     })
 
     listed : (set : List Element) → set_at handle s.handles.sets ≡ Some set → answers_so (command.Ask handle query.List) s (listing handle set)
@@ -176,6 +195,7 @@ module _ {D : Type 0} (d : Ghosts D) where
       nameless = refl;
       reads = reads_all_none d disks;
       store_read = λ says. absurd (cc);
+      damage = record { damaged = tt; whole = λ no. tt };
     }
 
     lacked : (set : List Element) → set_at handle s.handles.sets ≡ Some set → answers_so (command.Ask handle query.List) s no_memory
@@ -186,6 +206,7 @@ module _ {D : Type 0} (d : Ghosts D) where
       nameless = refl;
       reads = reads_all_none d disks;
       store_read = λ says. absurd (cc);
+      damage = tells_none (command.Ask handle query.List) s.sessions.items (images_of d disks) refusal.OutOfMemory refl;
     }
 
     pub lists : (reply : Reply) → ListsSet s.handles.sets handle reply → answers_so (command.Ask handle query.List) s reply
@@ -205,8 +226,13 @@ module _ {D : Type 0} (d : Ghosts D) where
       nameless = names_same;
       reads = reads_all_none d disks;
       store_read = λ says. absurd (quiet (set_at handle s.handles.sets) says);
+      damage = whole (set_at handle s.handles.sets);
     })
       where
+        whole : (o : Option (List Element)) → TellsDamage (command.Release handle) s.sessions.items (images_of d disks) (headed (released_by o handle))
+        whole None = tells_none (command.Release handle) s.sessions.items (images_of d disks) (refusal.UnknownHandle handle) refl
+        whole (Some set) = record { damaged = tt; whole = λ no. tt }
+
         quiet : (o : Option (List Element)) → is_store_read (released_by o handle) ≡ true → ⊥
         quiet None says = absurd (cc)
         quiet (Some set) says = absurd (cc)

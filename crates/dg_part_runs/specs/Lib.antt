@@ -8,5 +8,7 @@ pub mod PartsServed
 pub mod PartsPromised
 pub mod HandleSets
 pub mod HeldParts
+pub mod PartDamage
 pub mod PartAnswers
 pub mod StartedParts
+pub mod PartNames

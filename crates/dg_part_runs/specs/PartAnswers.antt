@@ -16,6 +16,7 @@ use Rattle.dg_text.specs.Lines.{ScriptLine}
 use Rattle.dg_part_runs.specs.declared.sessions.PartSessions.{PartSessions}
 use Rattle.dg_part_runs.specs.Disks.{ReadsAll, SomeRose, faults_of, images_of}
 use Rattle.dg_part_runs.specs.HeldParts.{AreParts, AreStanding}
+use Rattle.dg_part_runs.specs.PartDamage.{TellsDamage}
 use Rattle.dg_part_runs.specs.PartsMachine.{PartsState, PartsStep, set_at, union_shown}
 
 -- the state of the machine, where its sessions stand for these histories
@@ -45,7 +46,8 @@ pub record AreReady {D : Type 0} (d : disk.Ghosts D) (s : PartSessions) (disks :
   pub nameless : s.nameless ≡ []
 
 -- The command is answered so. Where the sessions stand for histories, it is a step of the machine of parts. The disks are only
--- read, and a reply says that a read failed only where a call of a disk did.
+-- read. A reply says that a read failed only where a call of a disk did, and names no damage but the first one of the first part
+-- that meets one.
 pub record AnswersPart {D : Type 0} (d : disk.Ghosts D) (c : Command) (got : List ScriptLine) (old : PartSessions) (before : List D) (new : PartSessions) (after : List D) (reply : Reply) : Type 0 where
   pub none : got ≡ []
   pub steps : (limits : Limits) (parts : List History) → AreStanding limits old.sessions.items (images_of d before) parts
@@ -54,3 +56,4 @@ pub record AnswersPart {D : Type 0} (d : disk.Ghosts D) (c : Command) (got : Lis
   pub nameless : new.nameless ≡ old.nameless
   pub reads : ReadsAll d before after
   pub store_read : is_store_read reply.head ≡ true → SomeRose (faults_of d before) (faults_of d after)
+  pub damage : TellsDamage c old.sessions.items (images_of d before) reply

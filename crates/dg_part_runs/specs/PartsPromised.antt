@@ -10,6 +10,7 @@ use Rattle.dg_partition.specs.HistoryParts.{part_of}
 use Rattle.dg_part_runs.specs.declared.status.PartsStatus.{PartsStatus}
 use Rattle.dg_part_runs.specs.declared.status.PartsStatus.TheVariants as status
 use Rattle.dg_part_runs.specs.Disks.{SomeRose}
+use Rattle.dg_part_runs.specs.PartDamage.{DamageIsNamed}
 use Rattle.dg_part_runs.specs.PartsMachine.{parts_at, union_shown}
 use Rattle.dg_part_runs.specs.PartsOutside.{IsUnasked, PartsOutside}
 use Rattle.dg_part_runs.specs.PartsServed.{AreImagesOf, PartsServed}
@@ -31,6 +32,9 @@ pub record PartsPromised (limits : Limits) (s : PartsStatus) (start now : PartsO
   -- Where they are all the parts of one history, a handle lists what that history shows as of the instant of its `at`.
   pub whole : is_run s ≡ true → (z : History) → IsLegal z → (p : ℕ) → 1 ≤ p → AreImagesOf start.images (map (λ i. part_of z i p) (numbers 0 p))
       → PartsServed (λ t cols. shown_at (events_of z) t cols) (parts_at limits (map (λ i. part_of z i p) (numbers 0 p))) s start now
+  -- Whatever the images are, a reply that a column is damaged names the first damage of the first part that meets one as of the
+  -- instant of its `at`.
+  pub damage : is_run s ≡ true → DamageIsNamed limits s start now
   -- How a run begins, or why it does not, by the images alone: the least part that does not begin, then the least without an
   -- index, then the least whose names are others.
   pub starts : (images : List (List ℕ)) → AreTold start.images images → StartsSo images s

@@ -10,6 +10,7 @@ use Rattle.dg_part_runs.specs.declared.sessions.PartSessions.{PartSessions}
 use Rattle.dg_part_runs.specs.declared.status.PartsStatus.{PartsStatus}
 use Rattle.dg_part_runs.specs.declared.status.PartsStatus.TheVariants as status
 use Rattle.dg_part_runs.specs.HeldParts.{IsPart, StandsForPart, span_kept}
+use Rattle.dg_part_runs.specs.PartDamage.{BeginsWith}
 use Rattle.dg_part_runs.specs.PartStarts.{AreTold, IsFirstTo, MayBegin, StartsSo}
 use Rattle.dg_part_runs.specs.PartsServed.{AreImagesOf, TellsHistory}
 use Rattle.dg_part_runs.specs.PartsStatuses.{is_run}
@@ -17,7 +18,7 @@ use Rattle.dg_part_runs.specs.PartsStatuses.{is_run}
 -- the session was started over what the disk tells
 pub record IsStarted (limits : Limits) (session : SessionState) (told : Option (List ℕ)) : Type 0 where
   pub part : IsPart limits session told
-  pub began : IfSome told MayBegin
+  pub began : IfSome told (BeginsWith session)
   pub stands : (z : History) → TellsHistory told z → StandsForPart limits session told z
 
 abbrev pub AreStarted : Limits → List SessionState → List (Option (List ℕ)) → Type 0

@@ -5,6 +5,7 @@ ghost use Rattle.dg_gather.specs.Gathered.{shown_by};
 ghost use Rattle.dg_machine.specs.declared.limits.Limits.{Limits};
 ghost use Rattle.dg_part_runs.specs.Disks.{ReadsAll, SomeRose, faults_of, images_of};
 ghost use Rattle.dg_part_runs.specs.HeldParts.{AreGathered, AreParts, GathersPart, IsPart, NeverDamaged, ReadsParts};
+ghost use Rattle.dg_part_runs.specs.PartDamage.{TellsFirst, TellsMet};
 ghost use Rattle.dg_part_runs.specs.PartTimes.{time_within};
 
 use dg_disk::Disk;
@@ -52,6 +53,7 @@ fn gather_part<R: Threads, D: Disk>(
 
     // errors
     ensures cause { IsErrOf result RecordFault.Disk → Fails D.Disk disk.old disk.new }
+    ensures damage { TellsMet t cols session.old (D.image disk.old) result }
 
     // frame
     ensures same { session.new ≡ session.old }
@@ -79,6 +81,7 @@ fn gather_all<R: Threads, D: Disk>(
     // errors
     ensures never { (limits : Limits) → NeverDamaged limits sessions.old (images_of D.Disk disks.old) result }
     ensures cause { IsErrOf result RecordFault.Disk → SomeRose (faults_of D.Disk disks.old) (faults_of D.Disk disks.new) }
+    ensures damage { TellsFirst t cols sessions.old (images_of D.Disk disks.old) result }
 
     // frame
     ensures same { sessions.new ≡ sessions.old }
@@ -120,6 +123,7 @@ pub(crate) fn read_parts<R: Threads + Sync, D: Disk>(
 
     // errors
     ensures cause { IsErrOf result RecordFault.Disk → SomeRose (faults_of D.Disk disks.old) (faults_of D.Disk disks.new) }
+    ensures damage { TellsFirst t cols sessions.old (images_of D.Disk disks.old) result }
 
     // frame
     ensures same { sessions.new ≡ sessions.old }

@@ -5,12 +5,14 @@
 mod ends;
 mod gather;
 mod handle_sets;
+mod laws;
 mod run;
 mod sessions;
 mod start;
 mod status;
 
 pub use dg_session::SessionFault;
+pub use laws::law_parts_have_the_names_of_the_whole;
 pub use run::serve_parts;
 pub use start::PARTS_MAX;
 pub use status::PartsStatus;

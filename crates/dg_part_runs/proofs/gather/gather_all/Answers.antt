@@ -6,9 +6,11 @@ use Rattle.dg_session.specs.SessionState.{SessionState}
 use Rattle.dg_records.specs.declared.fault.RecordFault.TheVariants as fault
 use Rattle.dg_part_runs.specs.Disks.{SomeRose, faults_of, images_of}
 use Rattle.dg_part_runs.specs.HeldParts.{AreGathered, GathersPart, IsPart, NeverDamaged}
+use Rattle.dg_part_runs.specs.PartDamage.{AreWhole, IsWhole, NamesMet, TellsFirst}
 use Rattle.dg_part_runs.proofs.DiskLists.{fails_one, reads_all_none, reads_one}
 use Rattle.dg_part_runs.proofs.GatheredParts.{never_by_one}
 use Rattle.dg_part_runs.proofs.LoopSteps.{gathered_step, gathers_old, handed_out, part_at, set_same, take_all}
+use Rattle.dg_part_runs.proofs.PartDamages.{first_step, whole_step}
 use Rattle.dg_part_runs.proofs.gather.gather_all.Goals as goal
 
 pub returns-in_err-gathered-clause-disks : goal.returns-in_err-gathered-clause-disks
@@ -18,6 +20,7 @@ pub loop-part-init : goal.loop-part-init
 loop-part-init g c = record {
   same = refl;
   reads = reads_all_none g.D.Disk c.args.disks.now;
+  whole = tt;
   gathered = λ limits. subst (λ (l : List Gathered). AreGathered limits c.args.t c.args.cols [] [] l) (sym c.in_ok-gathered.ensures.items) tt;
 }
 
@@ -57,6 +60,17 @@ returns-in_err-gather_part-clause-cause g c =
     fails_one g.D.Disk c.args.disks.now l.disks l.part c.gather_part.new.disk c.index-disks-part.result l.invariant.reads
     (omega (arith, c.loop-part-test.true, l.auto.sessions, l.auto.disks, c.requires.many)) (c.in_err-gather_part.ensures.cause (ap (λ x. Err x) same)))
 
+pub returns-in_err-gather_part-clause-damage : goal.returns-in_err-gather_part-clause-damage
+returns-in_err-gather_part-clause-damage g c =
+    let l = c.loop-part in
+    let s = c.index-sessions-part.result in
+    let e = c.index-disks-part.result in
+    let f = c.in_err-gather_part.field-0.0 in
+    handed_out c.from_residual-in_err-gather_part.result f (TellsFirst c.args.t c.args.cols c.args.sessions.now (images_of g.D.Disk c.args.disks.now)) c.from_residual-in_err-gather_part.ensures
+    (first_step g.D.Disk c.args.t c.args.cols c.args.sessions.now c.args.disks.now l.disks l.part s e l.invariant.reads
+    (omega (arith, c.loop-part-test.true, ap length l.invariant.same)) (omega (arith, c.loop-part-test.true, l.auto.sessions, l.auto.disks, c.requires.many)) (omega (arith, l.auto.disks)) f l.invariant.whole
+    (subst (λ (sessions : List SessionState). NamesMet c.args.t c.args.cols (get_or sessions l.part s) (g.D.Disk.image (get_or l.disks l.part e)) f) l.invariant.same c.in_err-gather_part.ensures.damage))
+
 pub returns-in_err-gather_part-clause-disks : goal.returns-in_err-gather_part-clause-disks
 returns-in_err-gather_part-clause-disks g c =
     let l = c.loop-part in
@@ -78,6 +92,11 @@ loop-part-preserved g c =
       same = set_same l.sessions l.part s c.gather_part.new.session c.in_ok-gather_part.ensures.same ∙ l.invariant.same;
       reads = reads_one g.D.Disk c.args.disks.now l.disks l.part c.gather_part.new.disk e l.invariant.reads
           (omega (arith, c.loop-part-test.true, l.auto.sessions, l.auto.disks, c.requires.many)) c.in_ok-gather_part.ensures.disk;
+      whole = whole_step g.D.Disk c.args.t c.args.cols c.args.sessions.now c.args.disks.now l.disks l.part s e l.invariant.reads
+          (omega (arith, c.loop-part-test.true, ap length l.invariant.same)) (omega (arith, c.loop-part-test.true, l.auto.sessions, l.auto.disks, c.requires.many)) (omega (arith, l.auto.disks))
+          l.invariant.whole
+          (subst (λ (sessions : List SessionState). IsWhole c.args.t c.args.cols (get_or sessions l.part s) (g.D.Disk.image (get_or l.disks l.part e))) l.invariant.same
+          c.in_ok-gather_part.ensures.damage);
       gathered = λ limits.
           gathered_step g.D.Disk limits c.args.t c.args.cols c.args.sessions.now c.args.disks.now l.disks l.part s e l.gathered.items c.push.new.self.items c.in_ok-gather_part.field-0 l.invariant.reads
           (omega (arith, c.loop-part-test.true, ap length l.invariant.same)) (omega (arith, c.loop-part-test.true, l.auto.sessions, l.auto.disks, c.requires.many)) (omega (arith, l.auto.disks))
@@ -93,3 +112,11 @@ returns-clause-gathered g c = λ limits.
     let told_all = take_all (images_of g.D.Disk c.args.disks.now) l.part (omega (arith, c.loop-part-test.false, l.auto.sessions, c.requires.many, length-map c.args.disks.now g.D.Disk.image)) in
     subst (λ (x : List SessionState). AreGathered limits c.args.t c.args.cols x (images_of g.D.Disk c.args.disks.now) l.gathered.items) sessions_all
     (subst (λ (x : List (Option (List ℕ))). AreGathered limits c.args.t c.args.cols (take l.part c.args.sessions.now) x l.gathered.items) told_all (l.invariant.gathered limits))
+
+pub returns-clause-damage : goal.returns-clause-damage
+returns-clause-damage g c =
+    let l = c.loop-part in
+    let sessions_all = take_all c.args.sessions.now l.part (omega (arith, c.loop-part-test.false, l.auto.sessions)) in
+    let told_all = take_all (images_of g.D.Disk c.args.disks.now) l.part (omega (arith, c.loop-part-test.false, l.auto.sessions, c.requires.many, length-map c.args.disks.now g.D.Disk.image)) in
+    subst (λ (x : List SessionState). AreWhole c.args.t c.args.cols x (images_of g.D.Disk c.args.disks.now)) sessions_all
+    (subst (λ (x : List (Option (List ℕ))). AreWhole c.args.t c.args.cols (take l.part c.args.sessions.now) x) told_all l.invariant.whole)

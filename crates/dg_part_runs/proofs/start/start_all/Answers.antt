@@ -1,16 +1,16 @@
-use Rattle.std.proofs.Common.{arith, ◌≡◌, ℕ, List, Option, Ok, Err, IfSome, ap, get_or, sym, ◌∙◌, subst}
+use Rattle.std.proofs.Common.{arith, ◌≡◌, ℕ, List, Option, Err, IfSome, ap, get_or, sym, ◌∙◌, subst}
 use Rattle.std.specs.Prelude.{[], false}
 use Rattle.std.proofs.Math.ListN.{length-map}
 use Rattle.dg_history.specs.History.{History}
 use Rattle.dg_index.specs.ImageOfHistory.{StandsAs}
 use Rattle.dg_machine.specs.MachineState.{machine_at}
 use Rattle.dg_session.specs.Session.{HoldsImage, StandsFor}
-use Rattle.dg_session.specs.SessionStart.{Begins, RefusesSession}
+use Rattle.dg_session.specs.SessionStart.{RefusesSession}
 use Rattle.dg_session.specs.SessionState.{SessionState}
-use Rattle.dg_start.specs.SessionStart.{Started, started_with}
 use Rattle.dg_part_runs.specs.declared.status.PartsStatus.{PartsStatus}
 use Rattle.dg_part_runs.specs.declared.status.PartsStatus.TheVariants as status
 use Rattle.dg_part_runs.specs.Disks.{images_of}
+use Rattle.dg_part_runs.specs.PartDamage.{BeginsWith}
 use Rattle.dg_part_runs.specs.StartedParts.{AreStarted, StopsAt}
 use Rattle.dg_part_runs.proofs.DiskLists.{fails_synced, syncs_all_none, syncs_one}
 use Rattle.dg_part_runs.proofs.LoopSteps.{begin_before, started_step, synced_image_at, take_all, told_there}
@@ -60,12 +60,11 @@ loop-part-preserved g c =
     let e = c.index-disks-part.result in
     let session : SessionState = c.in-Ok-start.session in
     let at = synced_image_at d c.args.disks.now l.disks l.part e l.invariant.disks (omega (arith, c.loop-part-test.true)) in
-    let begun : Option Started = started_with session.parts.index session.parts.names session.parts.graph session.parts.recent in
     record {
       started = started_step d c.args.limits l.sessions.items c.push_reserved.new.self.items c.args.disks.now l.part e session l.invariant.started (omega (arith, c.loop-part-test.true, l.auto.disks))
-          (started_one c.args.limits session (get_or (images_of d c.args.disks.now) l.part (d.image e)) begun c.in-Ok-start.ensures.new.0
+          (started_one c.args.limits session (get_or (images_of d c.args.disks.now) l.part (d.image e)) c.in-Ok-start.ensures.new.0
           (subst (λ (o : Option (List ℕ)). HoldsImage session.parts o) (c.in-Ok-start.ensures.disk.same_image ∙ sym at) c.in-Ok-start.ensures.new.1)
-          (subst (λ (o : Option (List ℕ)). IfSome o (λ image. Begins false image (Ok begun))) (sym at) c.in-Ok-start.ensures.started)
+          (subst (λ (o : Option (List ℕ)). IfSome o (BeginsWith session)) (sym at) c.in-Ok-start.ensures.started)
           (subst (λ (o : Option (List ℕ)). IfSome o (λ image. (index : Option History) → StandsAs index image → StandsFor session.parts image (machine_at c.args.limits index))) (sym at)
           c.in-Ok-start.ensures.stands)) c.push_reserved.ensures.items;
       disks = syncs_one d c.args.disks.now l.disks l.part c.start.new.disk e l.invariant.disks (omega (arith, c.loop-part-test.true)) c.in-Ok-start.ensures.disk;

@@ -2,6 +2,7 @@ use Rattle.std.proofs.Common.{List, Ok, Err, ap, length, refl, sym, ◌∙◌, s
 use Rattle.dg_session.specs.SessionState.{SessionState}
 use Rattle.dg_part_runs.specs.Disks.{images_of}
 use Rattle.dg_part_runs.specs.HeldParts.{ReadsParts}
+use Rattle.dg_part_runs.specs.PartDamage.{AreWhole, NamesFirst}
 use Rattle.dg_part_runs.proofs.LoopSteps.{as_many}
 use Rattle.dg_part_runs.proofs.PartPromises.{written_back}
 use Rattle.dg_part_runs.proofs.PartSteps.{at_failed, at_given, at_lacking, at_refused}
@@ -22,6 +23,7 @@ returns-in-Ok-add g c = record {
       (written_back c.args.self.now.sessions c.deref_mut.result.now c.read_parts.new.sessions c.deref_mut.ensures.value (ap length c.read_parts.ensures.same)
       ∙ c.read_parts.ensures.same ∙ c.deref_mut.ensures.value) refl c.read_parts.ensures.disks c.in-Ok-add.handle c.in-Ok.weight c.in-Ok.set
       (λ limits. subst (λ (l : List SessionState). ReadsParts limits l (images_of g.D.Disk c.args.disks.now) c.args.t c.args.cols (Ok (c.in-Ok.set, c.in-Ok.weight))) c.deref_mut.ensures.value (c.in-Ok.ensures.reads limits))
+      (subst (λ (l : List SessionState). AreWhole c.args.t c.args.cols l (images_of g.D.Disk c.args.disks.now)) c.deref_mut.ensures.value c.in-Ok.ensures.damage)
       c.in-Ok-add.ensures.added c.in-Ok-add.ensures.handle;
 }
 
@@ -38,5 +40,6 @@ returns-in-Err g c = record {
       (written_back c.args.self.now.sessions c.deref_mut.result.now c.read_parts.new.sessions c.deref_mut.ensures.value (ap length c.read_parts.ensures.same)
       ∙ c.read_parts.ensures.same ∙ c.deref_mut.ensures.value) refl c.read_parts.ensures.disks refl c.in-Err.fault c.refusal_of.result c.refusal_of.ensures
       (λ limits. subst (λ (l : List SessionState). ReadsParts limits l (images_of g.D.Disk c.args.disks.now) c.args.t c.args.cols (Err c.in-Err.fault)) c.deref_mut.ensures.value (c.in-Err.ensures.reads limits))
+      (subst (λ (l : List SessionState). NamesFirst c.args.t c.args.cols l (images_of g.D.Disk c.args.disks.now) c.in-Err.fault) c.deref_mut.ensures.value c.in-Err.ensures.damage)
       (λ is. c.in-Err.ensures.cause (ap (λ x. Err x) is));
 }
