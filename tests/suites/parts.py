@@ -1,6 +1,10 @@
 """Splits histories into parts, and reads them together. Which files are due is computed here, from the events that belong to
 a part and from docs/FORMATS.md. What a listing over all parts has is due from the whole history, by replaying its events.
 
+A split is killed before each of its writes and syncs, and within each write. The index is then as it was. Each file that it
+was to write is blank, or an index without a batch, or its part, as docs/RUNNING.md says, and `deltagraph` answers over it what
+the machine of lib/machine.py answers over such a history. Another split is refused where one of the files is an index.
+
   tests/run parts -- SEEDS     random histories with the seeds below SEEDS
 """
 
@@ -8,15 +12,18 @@ from __future__ import annotations
 
 import os
 import random
+import signal
 import subprocess
 import sys
+import tempfile
 from typing import Optional, Sequence
 
+from tests.lib import runs
 from tests.lib.changes import Changes
 from tests.lib.history import EDGE, NODE, NODE_ATTR, History, replay
-from tests.lib.machine import cut, listing
+from tests.lib.machine import Due, Machine, commands_of, cut, listing, split
 from tests.lib.plans import IndexGraph, point
-from tests.lib.runs import Tests, content, in_use, lines, put
+from tests.lib.runs import Tests, content, in_use, is_blank, lines, put
 from tests.suites.model import any_history
 
 MOST_PARTS = 16
@@ -27,6 +34,20 @@ USAGE = b"dg_parts: usage: dg_parts split INDEX OUT P | read OUT P\n"
 # Kinds of calls that fail, as `fail.c` counts them.
 KINDS = ["alloc", "read", "write", "sync"]
 MOST_CALLS = 5000
+# What is killed: what the kill comes before, and what the library is told.
+KILLS = [
+    ("a write", {"fail_kind": "write"}),
+    ("the back half of a write", {"fail_kind": "write", "fail_torn": 1}),
+    ("a sync", {"fail_kind": "sync"}),
+    ("a truncation", {"fail_kind": "truncate"}),
+]
+KILLED = 3  # parts of the split that is killed
+# A history of which each of three parts has edges, values and messages.
+MIXED = ["create 3 2 balanced", "load 9", "1 +node 1", "1 +node 2", "2 +node 3", "3 nset 1 name Ada", "3 nset 2 name Bo"]
+MIXED += ["4 nset 3 kind tree", "5 +edge 1 1 2 dir", "5 +edge 2 2 3 undir", "6 +edge 3 3 1 dir", "append 10", "7 eset 1 w 5"]
+MIXED += ["7 eset 2 w 6", "8 eset 3 w 5", "9 msg 1 2 hello", "9 msg 2 3 hello", "9 msg 3 1 again", "10 ndel 1 name"]
+MIXED += ["11 edel 2 w", "12 -edge 2", "13 +node 4"]
+ASK = ["verify", "tree", "at 9 snet", "list 1", "append 1\n20 +node 9", "verify"]
 
 
 def part_of(event: tuple, parts: int) -> Optional[int]:
@@ -68,12 +89,12 @@ class Program:
             [self.path, *words], input=script, capture_output=True, cwd=self.folder, env={**os.environ, **variables}, timeout=60
         )
 
-    def outs(self, count: int) -> list[Optional[bytes]]:
-        return [content(self.place(f"out.{number}")) for number in range(count)]
+    def outs(self, count: int, name: str = "out") -> list[Optional[bytes]]:
+        return [content(self.place(f"{name}.{number}")) for number in range(count)]
 
-    def put_outs(self, images: Sequence[Optional[bytes]]) -> None:
+    def put_outs(self, images: Sequence[Optional[bytes]], name: str = "out") -> None:
         for number in range(MOST_PARTS):
-            put(self.place(f"out.{number}"), images[number] if number < len(images) else None)
+            put(self.place(f"{name}.{number}"), images[number] if number < len(images) else None)
 
 
 class Reader:
@@ -302,14 +323,96 @@ def check_failures(tests: Tests, program: Program) -> None:
             tests.check(f"{kind}: some call does not fail", False)
 
 
+class Kills:
+    """Splits of one history that are killed."""
+
+    def __init__(self, tests: Tests, program: Program, ordinary: runs.Program):
+        self.tests, self.program, self.ordinary = tests, program, ordinary
+        machine = Machine()
+        for one in commands_of(lines(MIXED)):
+            machine.answer(*split(one))
+        self.index, parts = machine.file(), parts_of(machine.history, machine.names, KILLED)
+        self.images = [part.file() for part in parts]
+        self.states = [self.states_of(part, machine.names) for part in parts]
+        self.met: set[tuple[int, bytes]] = set()  # the states in which an out was left
+
+    @staticmethod
+    def states_of(part: History, names: Sequence[bytes]) -> dict[bytes, Due]:
+        """What may be in use of the file of a part, and what the ordinary program then answers: no index is there, or one
+        without a batch, or the part."""
+        made = [Machine(), Machine(History(part.size, part.arity, part.function)), Machine(part, names)]
+        return {in_use(machine.file()): Due(machine, ASK) for machine in made}
+
+    def all(self) -> None:
+        put(self.program.place("index"), self.index)
+        counts = {what: self.in_turn(what, **failing) for what, failing in KILLS}
+        print("killed before", ", ".join(f"{what} {count} times" for what, count in counts.items()), flush=True)
+        self.tests.same("no file is cut", counts.pop("a truncation"), 0)
+        self.tests.check("all else is done more than once for each part", min(counts.values()) > KILLED, counts)
+        for number, states in enumerate(self.states):
+            left = [state for state in states if (number, state) in self.met]
+            self.tests.same(f"what kills leave of part {number}", left, list(states))
+
+    def in_turn(self, what: str, **failing: object) -> int:
+        """Kills a split before each of these calls in turn, and gives how many there are."""
+        count = 0
+        while self.is_killed(f"killed before {what}, number {count + 1}", fail_at=count + 1, **failing):
+            count += 1
+        return count
+
+    def is_killed(self, case: str, **failing: object) -> bool:
+        """Whether there is such a call, so that the split was killed."""
+        self.program.put_outs([])
+        ran = self.program.run("split", "index", "out", str(KILLED), fail_deadly=1, **failing)
+        outs = self.program.outs(KILLED)
+        if ran.returncode == 0:
+            self.tests.same(f"{case}, of which there are fewer", outs, self.images)
+            return False
+        self.tests.same(case, (ran.returncode, ran.stdout, ran.stderr), (-signal.SIGKILL, b"", b""))
+        self.tests.check(f"{case}: the index", content(self.program.place("index")) == self.index)
+        for number, image in enumerate(outs):
+            self.open(f"{case}: part {number}", number, image)
+        self.split_again(case, outs)
+        return ran.returncode == -signal.SIGKILL
+
+    def open(self, case: str, number: int, image: Optional[bytes]) -> None:
+        """What a kill has left of a part is one of its states, in which the ordinary program answers and takes a batch."""
+        held = in_use(image or b"")
+        due = self.states[number].get(held)
+        self.tests.check(f"{case} is one of its states", due is not None, held)
+        if due is None:
+            return
+        self.met.add((number, held))
+        ran, after = self.ordinary.over(image, lines(ASK))
+        self.tests.same(f"{case} is opened", (ran.status, ran.replies, ran.errors), (0, b"".join(due.replies), b""))
+        self.tests.check(f"{case} takes a batch", in_use(after) == in_use(due.machines[-1].file()))
+
+    def split_again(self, case: str, outs: Sequence[Optional[bytes]]) -> None:
+        """Behind a kill another split is refused where a part is an index. Else, and into new files, it makes all of them."""
+        taken = [number for number, image in enumerate(outs) if not is_blank(image or b"")]
+        ran, after = self.program.run("split", "index", "out", str(KILLED)), self.program.outs(KILLED)
+        if taken:
+            said = ran.stderr.startswith(b"dg_parts: an output exists\n") and f"part {taken[0]} ".encode() in ran.stderr
+            self.tests.check(f"{case}, split again: it is refused", ran.returncode == 8 and said, (ran.returncode, ran.stderr))
+            self.tests.same(f"{case}, split again: nothing is written", after, [image or b"" for image in outs])
+        else:
+            self.tests.same(f"{case}, split again", (ran.returncode, ran.stderr, after), (0, b"", self.images))
+        self.program.put_outs([], "fresh")
+        ran = self.program.run("split", "index", "fresh", str(KILLED))
+        found = ran.returncode, ran.stderr, self.program.outs(KILLED, "fresh")
+        self.tests.same(f"{case}, split into new files", found, (0, b"", self.images))
+
+
 def main() -> bool:
-    path, folder, library, *words = sys.argv[1:]
+    path, folder, library, ordinary, *words = sys.argv[1:]
     seeds = int(words[0]) if words else HISTORIES
     tests, program = Tests("parts"), Program(path, folder, library)
     check_words(tests, program)
     check_statuses(tests, program)
     check_damage(tests, program)
     check_failures(tests, program)
+    with tempfile.TemporaryDirectory(dir=folder) as other:
+        Kills(tests, program, runs.Program(ordinary, other)).all()
     for seed in range(seeds):
         check_history(tests, program, seed)
     return tests.end(f", {program.runs} runs")
