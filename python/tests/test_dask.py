@@ -18,8 +18,8 @@ from typing import Any, Callable, Iterator, Optional, Sequence
 from unittest import mock
 
 import deltagraph
-from deltagraph import Change, Span, failures, refusals
-from deltagraph.replies import Counts, Neighbour, Node
+from deltagraph import Change, Span, failures
+from deltagraph.replies import Neighbour, Node
 
 from .support import FOLDER, Case, Graph, Model, parts_of, program
 

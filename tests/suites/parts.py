@@ -20,15 +20,14 @@ from typing import Optional, Sequence
 
 from tests.lib import runs
 from tests.lib.changes import Changes
-from tests.lib.history import EDGE, NODE, NODE_ATTR, History, replay
-from tests.lib.machine import Due, Machine, commands_of, cut, listing, split
+from tests.lib.history import EDGE, NODE, NODE_ATTR, History
+from tests.lib.machine import Due, Machine, commands_of, split
 from tests.lib.plans import IndexGraph, point
 from tests.lib.runs import Tests, content, in_use, is_blank, lines, put
 from tests.suites.model import any_history
 
 MOST_PARTS = 16
 HISTORIES = 200
-MOST_HANDLES = 127
 COLUMNS = ["s", "sn", "se", "sne"]
 USAGE = b"dg_parts: usage: dg_parts split INDEX OUT P | read OUT P\n"
 # Kinds of calls that fail, as `fail.c` counts them.
@@ -98,45 +97,28 @@ class Program:
 
 
 class Reader:
-    """What a script over parts is answered. `whole` is the history that they are the parts of."""
+    """What a script over parts is answered: what the machine answers over the history that they are the parts of, but for the
+    bytes that `at` reads, and for what is no command here."""
 
     def __init__(self, parts: Sequence[History], whole: History, names: Sequence[bytes]):
-        self.parts, self.whole, self.names = [part for part in parts if part.events], whole, names
-        self.handles: dict[int, set] = {}
-        self.next = 1
+        self.parts, self.whole = [part for part in parts if part.events], Machine(whole, names)
 
-    def ends(self) -> Optional[tuple[int, int]]:
-        if not self.parts:
-            return None
-        return min(part.events[0][0] for part in self.parts), max(part.events[-1][0] for part in self.parts)
+    def reply(self, line: str) -> list[str]:
+        word, *words = line.split(" ")
+        if word not in ("at", "list", "release"):
+            return ["refused 1 syntax 1"]
+        if word == "at" and words[1] not in COLUMNS:
+            return [f"refused 1 syntax {line.index('t', 2) + 1}"]
+        reply = self.whole.reply(line)
+        if word == "at" and reply[0].startswith("ok"):
+            return [f"{reply[0].rsplit(' ', 1)[0]} {sum(self.weight(part, int(words[0]), words[1]) for part in self.parts)}"]
+        return reply
 
-    def at(self, time: int, columns: str) -> list[str]:
-        ends = self.ends()
-        if ends is None:
-            return ["refused 7 out-of-range empty"]
-        if not ends[0] <= time <= ends[1]:
-            return [f"refused 7 out-of-range {ends[0]} {ends[1]}"]
-        if len(self.handles) == MOST_HANDLES:
-            return [f"refused 9 pool-full {MOST_HANDLES} 1"]
-        weight = 0
-        for part in self.parts:
-            if part.events[0][0] <= time:
-                asked = point(part, min(time, part.events[-1][0]))
-                weight += IndexGraph(part, columns).costs[asked][0]
-        handle, self.next = self.next, self.next + 1
-        self.handles[handle] = cut(replay(event for event in self.whole.events if event[0] <= time), columns)
-        return [f"ok at {handle} {weight}"]
-
-    def list(self, handle: int) -> list[str]:
-        if handle not in self.handles:
-            return [f"refused 8 unknown-handle {handle}"]
-        graph = self.handles[handle]
-        return [f"ok list {handle} {len(graph)}", *listing(graph, self.names)]
-
-    def release(self, handle: int) -> list[str]:
-        if self.handles.pop(handle, None) is None:
-            return [f"refused 8 unknown-handle {handle}"]
-        return [f"ok release {handle}"]
+    @staticmethod
+    def weight(part: History, time: int, columns: str) -> int:
+        """What a part reads of its graph as of an instant, which may lie outside of its own."""
+        first, last = part.ends()
+        return IndexGraph(part, columns).costs[point(part, min(time, last))][0] if first <= time else 0
 
 
 def text_of(replies: Sequence[Sequence[str]]) -> bytes:
@@ -155,25 +137,18 @@ def random_history(rng: random.Random) -> tuple[History, list[bytes], bool]:
     return history, list(changes.names), changes.has_messages
 
 
-def random_script(rng: random.Random, reader: Reader) -> tuple[list[str], list[list[str]]]:
-    """Commands over parts, and what each is answered."""
-    asked, due = [], []
-    first, last = reader.ends() or (0, 0)
+def random_script(rng: random.Random, ends: Optional[tuple[int, int]]) -> list[str]:
+    """Commands over the parts of a history that has these ends."""
+    asked, (first, last) = [], ends or (0, 0)
     for _ in range(rng.choice([3, 8, 20])):
         word = rng.choice(["at", "at", "list", "list", "release", "other"])
         if word == "at":
-            time, columns = rng.randrange(max(0, first - 1), last + 2), rng.choice(COLUMNS)
-            asked.append(f"at {time} {columns}")
-            due.append(reader.at(time, columns))
+            asked.append(f"at {rng.randrange(max(0, first - 1), last + 2)} {rng.choice(COLUMNS)}")
         elif word == "other":
-            line = rng.choice(["plan 20 s", "at 20 st", "several s 20", "counts 1", "verify"])
-            asked.append(line)
-            due.append([f"refused 1 syntax {8 if line == 'at 20 st' else 1}"])
+            asked.append(rng.choice(["plan 20 s", "at 20 st", "several s 20", "counts 1", "verify"]))
         else:
-            handle = rng.randrange(1, reader.next + 1)
-            asked.append(f"{word} {handle}")
-            due.append(reader.list(handle) if word == "list" else reader.release(handle))
-    return asked, due
+            asked.append(f"{word} {rng.randrange(1, 2 + sum(line.startswith('at ') for line in asked))}")
+    return asked
 
 
 def check_history(tests: Tests, program: Program, seed: int) -> None:
@@ -191,8 +166,8 @@ def check_history(tests: Tests, program: Program, seed: int) -> None:
     for number, (part, image) in enumerate(zip(parts, program.outs(count))):
         # Behind the bytes in use those of a longer blank file may stand.
         tests.check(f"seed {seed}: part {number}", image is not None and image[: len(part.file())] == part.file())
-    reader = Reader(parts, history, names)
-    asked, due = random_script(rng, reader)
+    reader, asked = Reader(parts, history, names), random_script(rng, history.ends())
+    due = [reader.reply(line) for line in asked]
     ran = program.run("read", "out", str(count), script=lines(asked))
     tests.same(f"seed {seed}: read", (ran.returncode, ran.stdout, ran.stderr), (0, text_of(due), b""))
     tests.same(f"seed {seed}: the parts behind a reading", program.outs(count)[0][: len(parts[0].file())], parts[0].file())
