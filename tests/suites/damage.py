@@ -109,7 +109,7 @@ def questions(times, leaves, keys=("a", "bb"), values=("x", "zz")):
 
 
 def is_answered(machine, command):
-    """Whether the machine over a file that is not sound answers a command: one that goes by the lists and by what is recent alone."""
+    """Whether the machine answers a command over a file that is not sound: one that goes by lists and what is recent alone."""
     word, *words = command.split("\n")[0].split(" ")
     return word in ("interval", "index", "find") or word == "list" and int(words[0]) in machine.handles
 

@@ -125,8 +125,8 @@ def text_of(replies: Sequence[Sequence[str]]) -> bytes:
     return "".join(line + "\n" for reply in replies for line in [*reply, "end"]).encode()
 
 
-def random_history(rng: random.Random) -> tuple[History, list[bytes], bool]:
-    """A history of some batches, the names that it brings, and whether it has messages."""
+def random_history(rng: random.Random) -> tuple[History, list[bytes]]:
+    """A history of some batches, and the names that it brings."""
     history, changes = any_history(rng, rng.choice([2, 2, 3, 5]), rng.choice([2, 2, 3])), Changes(rng)
     changes.has_messages = history.is_wide
     for batch in range(rng.choice([0, 1, 1, 2, 5])):
@@ -134,7 +134,7 @@ def random_history(rng: random.Random) -> tuple[History, list[bytes], bool]:
         names: list[bytes] = []
         events = [changes.next(names)[1] for _ in range(rng.choice([1, 2, 5, 13, 60]))]
         history.add(events, names)
-    return history, list(changes.names), changes.has_messages
+    return history, list(changes.names)
 
 
 def random_script(rng: random.Random, ends: Optional[tuple[int, int]]) -> list[str]:
@@ -154,7 +154,7 @@ def random_script(rng: random.Random, ends: Optional[tuple[int, int]]) -> list[s
 def check_history(tests: Tests, program: Program, seed: int) -> None:
     """A random history is split, and read again."""
     rng = random.Random(seed)
-    history, names, _ = random_history(rng)
+    history, names = random_history(rng)
     count = rng.choice([1, 2, 2, 3, 5, 16])
     parts = parts_of(history, names, count)
     put(program.place("index"), history.file())
@@ -369,7 +369,8 @@ class Kills:
         if taken:
             said = ran.stderr.startswith(b"dg_parts: an output exists\n") and f"part {taken[0]} ".encode() in ran.stderr
             self.tests.check(f"{case}, split again: it is refused", ran.returncode == 8 and said, (ran.returncode, ran.stderr))
-            self.tests.same(f"{case}, split again: nothing is written", after, [image or b"" for image in outs])
+            found, due = ([image or b"" for image in images] for images in (after, outs))
+            self.tests.same(f"{case}, split again: nothing is written", found, due)
         else:
             self.tests.same(f"{case}, split again", (ran.returncode, ran.stderr, after), (0, b"", self.images))
         self.program.put_outs([], "fresh")
