@@ -31,7 +31,6 @@ import numpy
 import pandas
 
 from .calendar import Calendar, is_date
-from .failures import ProgramEnded
 from .process import Program, find_program
 from .refusals import NoIndex, OutOfRange
 from .replies import KINDS, Counts, Neighbour, Node, Span
@@ -267,7 +266,8 @@ def _instants_of(looks: list[Look], times: Iterable[Time]) -> list[int]:
 class _Held:
     """The store that a thread has open, if it has one. It is one, so that a worker over parts never holds them all."""
 
-    def __init__(self) -> None:
+    def __init__(self, worker: Any) -> None:
+        self.worker = worker  # whose thread it is, or None
         self.lock = threading.Lock()  # while its thread uses it
         self.store: Optional[Store] = None
         self._key: Any = None
@@ -286,11 +286,10 @@ class _Held:
         return self.store
 
     def close(self) -> None:
-        """Ends the program. How it ends is of no interest: it wrote nothing."""
+        """Ends the program at once. It writes nothing, so there is nothing to wait for."""
         store, self.store = self.store, None
         if store is not None:
-            with contextlib.suppress(ProgramEnded):
-                store.close()
+            store.kill()
 
     def end(self) -> None:
         """Closes the store of a thread that rests, and kills the program of one that is at work."""
@@ -326,29 +325,36 @@ def _opened(index: Index) -> Iterator[Store]:
     """The store of this thread over an index."""
     held = getattr(_here, "held", None)
     if held is None:
-        held = _here.held = _Held()
-        _close_with_worker()
+        held = _here.held = _Held(_worker())
     with held.lock:
         yield held.of(index)
 
 
-def _close_with_worker() -> None:
-    """Gives the worker of this thread, if there is one, the plugin that ends its programs."""
+def _worker() -> Any:
+    """The worker of this thread, which gets the plugin that ends its programs; or None in a thread of another scheduler."""
     if distributed is None:
-        return
+        return None
     try:
         worker = distributed.get_worker()
-    except ValueError:  # a thread of another scheduler
-        return
+    except ValueError:
+        return None
+    worker.loop.add_callback(_close_with, worker)
+    return worker
+
+
+async def _close_with(worker: Any) -> None:
+    """Gives a worker the plugin, if it has none: to put another in its place would tear that down, with the programs."""
     if CLOSING not in worker.plugins:
-        worker.loop.add_callback(worker.plugin_add, plugin=_Closing(), name=CLOSING)
+        await worker.plugin_add(plugin=_Closing(), name=CLOSING)
 
 
 class _Closing(distributed.WorkerPlugin if distributed is not None else object):  # type: ignore[misc]
-    """Ends the programs of a worker with the worker."""
+    """Ends the programs of a worker with the worker. Others of the same process keep theirs."""
 
     def teardown(self, worker: Any) -> None:
-        close()
+        for held in list(_all):
+            if held.worker is worker:
+                held.end()
 
 
 # On a worker: the questions.

@@ -51,6 +51,14 @@ class Case(unittest.TestCase):
     def open(self, index: Optional[Path] = None, checked: bool = False, cache: int = 0) -> deltagraph.Store:
         return deltagraph.open(index or self.index, program(), checked, cache)
 
+    def store_of(self, changes: Sequence[str], *create: Any) -> deltagraph.Store:
+        """A store over an index of these changes, which is closed with the test."""
+        store = self.open()
+        self.addCleanup(store.close)
+        store.create(*create)
+        store.load(changes)
+        return store
+
     def by_rote(self, replies: dict[str, Any]) -> deltagraph.Store:
         """A store whose program gives these replies, by the first word of the command."""
         self.index.touch()
@@ -62,6 +70,10 @@ class Case(unittest.TestCase):
         self.assertIs(type(raised.exception), kind)
         self.assertIn(raised.exception.words(), str(raised.exception))
         return raised.exception
+
+
+def lines(snapshot: deltagraph.Snapshot) -> list[bytes]:
+    return list(snapshot.lines())
 
 
 class Graph:

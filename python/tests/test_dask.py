@@ -11,14 +11,15 @@ import pickle
 import signal
 import subprocess
 import sys
+import time
 import unittest
 from pathlib import Path
-from typing import Any, Iterator, Optional, Sequence
+from typing import Any, Callable, Iterator, Optional, Sequence
 from unittest import mock
 
 import deltagraph
-from deltagraph import Change, Span, failures, refusals
-from deltagraph.replies import Counts, Neighbour, Node
+from deltagraph import Change, Span, failures
+from deltagraph.replies import Neighbour, Node
 
 from .support import FOLDER, Case, Graph, Model, parts_of, program
 
@@ -32,6 +33,8 @@ if not MISSING:
     from deltagraph import dask as over
 if CLUSTERS:
     import distributed
+
+PATIENCE = 60.0  # seconds
 
 # Part 1 of two begins late and ends early, and no part is empty.
 TIES = [
@@ -367,6 +370,16 @@ def process_of(graph: Any) -> int:
     return int(graph.store.process)
 
 
+def comes(holds: Callable[[], bool]) -> bool:
+    """Whether something comes to hold within a minute."""
+    deadline = time.monotonic() + PATIENCE
+    while not holds():
+        if time.monotonic() > deadline:
+            return False
+        time.sleep(0.05)
+    return True
+
+
 @unittest.skipIf(MISSING, f"{', '.join(MISSING)}: not installed")
 @unittest.skipUnless(CLUSTERS, "distributed: not installed")
 class OverACluster(DaskCase):
@@ -419,15 +432,67 @@ class OverACluster(DaskCase):
                 self.assertEqual([worker.returncode for worker in dead], [-signal.SIGKILL] * (1 if index is whole else 2))
                 self.assertEqual(len(client.nthreads()), 3 - len(dead))
 
-    def test_programs_end_with_their_worker(self) -> None:
+    def at_work(self) -> tuple[Any, list["subprocess.Popen[bytes]"], list[int]]:
+        """A client of a cluster that was asked something, its workers and their programs."""
         client, workers = self.cluster(2)
         history = self.history(self.made("ties.dg", TIES))
-        programs = list(set(history.map(list(range(1, 13)), process_of).compute()))
-        self.assertEqual(sorted(running(programs)), sorted(programs))
-        client.retire_workers(list(client.nthreads()), close_workers=True)
+        programs = sorted(set(history.map(list(range(1, 13)), process_of).compute()))
+        self.assertEqual(running(programs), programs)
+        return client, workers, programs
+
+    def test_programs_end_with_a_retired_worker(self) -> None:
+        client, workers, programs = self.at_work()
+
+        def are_retired() -> bool:
+            # A worker stays while it has a result that no other can take, as it has until the client gives that up.
+            client.retire_workers(list(client.nthreads()), close_workers=True)
+            return not client.nthreads()
+
+        self.assertTrue(comes(are_retired))
         for worker in workers:
-            worker.wait(120)
+            worker.wait(PATIENCE)
         self.assertEqual(running(programs), [])
+
+    def ends_by(self, number: signal.Signals) -> None:
+        _, workers, programs = self.at_work()
+        for worker in workers:
+            worker.send_signal(number)
+        for worker in workers:
+            worker.wait(PATIENCE)
+        self.assertTrue(comes(lambda: not running(programs)))
+
+    def test_programs_end_with_a_worker_that_is_told_to_end(self) -> None:
+        self.ends_by(signal.SIGTERM)
+
+    def test_programs_end_with_a_killed_worker(self) -> None:
+        self.ends_by(signal.SIGKILL)
+
+    def in_this_process(self, workers: int, threads: int) -> Any:
+        """A client of a cluster whose workers are all in this process."""
+        words = {"n_workers": workers, "threads_per_worker": threads, "processes": False}
+        found = distributed.LocalCluster(**words, dashboard_address=":0", silence_logs=logging.CRITICAL)
+        self.addCleanup(found.close)
+        client = distributed.Client(found)
+        self.addCleanup(client.close)
+        return client
+
+    def test_threads_of_a_worker_begin_at_once(self) -> None:
+        """None of them ends the programs of the others."""
+        self.in_this_process(1, 8)
+        history = self.history(self.split("part", [deltagraph.changes.change_of(line) for line in TIES], 8))
+        self.assertEqual(history.span(), Span(1, 12))
+        self.assertEqual(rows(history.counts([12]).compute()), [(12, 3, 2)])
+
+    def test_a_worker_ends_its_own_programs_alone(self) -> None:
+        client = self.in_this_process(2, 1)
+        history = self.history(self.made("ties.dg", TIES))
+        programs = set(history.map(list(range(1, 13)), process_of).compute())
+        of = {held.worker.address: process_of(held) for held in over._all if held.store is not None and not held.store.ended}
+        self.assertEqual((set(of), set(of.values())), (set(client.nthreads()), programs))
+        first, second = of
+        self.assertTrue(comes(lambda: first in client.retire_workers([first], close_workers=True)))
+        self.assertTrue(comes(lambda: not running([of[first]])))
+        self.assertEqual(running([of[second]]), [of[second]])
 
     def test_failures_come_as_they_are(self) -> None:
         self.cluster(1)

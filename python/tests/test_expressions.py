@@ -7,9 +7,9 @@ from datetime import date
 from typing import Any
 
 import deltagraph
-from deltagraph import NotAnOverlay, OutOfRange, Snapshot
+from deltagraph import NotAnOverlay, OutOfRange
 
-from .support import Case
+from .support import Case, lines
 
 CHANGES = [
     "10 +node 1",
@@ -26,17 +26,10 @@ CHANGES = [
 ]
 
 
-def lines(snapshot: Snapshot) -> list[bytes]:
-    return list(snapshot.lines())
-
-
 class Expressions(Case):
     def setUp(self) -> None:
         super().setUp()
-        self.store = self.open()
-        self.addCleanup(self.store.close)
-        self.store.create(2, 2)
-        self.store.load(CHANGES)
+        self.store = self.store_of(CHANGES, 2, 2)
 
     def test_texts_and_lists(self) -> None:
         with self.store.expression("and 30 not 10") as new:

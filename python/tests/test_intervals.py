@@ -25,7 +25,7 @@ from deltagraph import (
     UnsetNode,
 )
 
-from .support import KEYS, VALUES, Case, Model
+from .support import KEYS, VALUES, Case, Model, lines
 
 CHANGES = [
     "10 +node 1",
@@ -70,17 +70,10 @@ def added(model: Model, begin: int, end: int) -> dict[str, set[Any]]:
     return found
 
 
-def lines(snapshot: deltagraph.Snapshot) -> list[bytes]:
-    return list(snapshot.lines())
-
-
 class Intervals(Case):
     def setUp(self) -> None:
         super().setUp()
-        self.store = self.open()
-        self.addCleanup(self.store.close)
-        self.store.create(2, 2)
-        self.store.load(CHANGES)
+        self.store = self.store_of(CHANGES, 2, 2)
 
     def test_what_was_added(self) -> None:
         with self.store.interval(20, 40, "snet") as found:

@@ -28,10 +28,7 @@ def there(module: str) -> bool:
 class Snapshots(Case):
     def setUp(self) -> None:
         super().setUp()
-        self.store = self.open()
-        self.addCleanup(self.store.close)
-        self.store.create()
-        self.store.load(CHANGES)
+        self.store = self.store_of(CHANGES)
 
     def test_elements_in_their_order(self) -> None:
         found = list(self.store.at(30, "sne").elements())

@@ -154,25 +154,27 @@ class History:
 
     def heard(self, times):
         """The lists between whose times one of the instants lies, and the bytes of their columns of messages."""
-        keys = []
-        for i in range(len(self.events) // self.size):
-            of_list = self.events[i * self.size : (i + 1) * self.size]
-            if any(of_list[0][0] <= time <= of_list[-1][0] for time in times):
-                keys.append(f"list {i}")
+        keys = [key for key, (first, last) in self.lists().items() if any(first <= time <= last for time in times)]
         return keys, sum(self.sizes[key][MESSAGES] for key in keys)
 
-    def lists_between(self, begin, end):
-        """The lists that begin before the end and do not end before the beginning, where the end is the later one."""
-        times = [event[0] for event in self.events]
-        ends = [(times[i * self.size], times[(i + 1) * self.size - 1]) for i in range(len(times) // self.size)]
-        return [f"list {i}" for i, (first, last) in enumerate(ends) if begin < end and first < end and begin <= last]
+    def ends(self):
+        """The first and the last instant; nothing where there is no event."""
+        return (self.events[0][0], self.events[-1][0]) if self.events else None
 
-    def bytes_of_lists(self, keys, columns):
-        """The bytes of the asked columns of these lists."""
-        return sum(self.sizes[key][column] for key in keys for column in COLUMNS if LETTERS[column] in columns)
+    def lists(self):
+        """The lists, each with its first and its last instant."""
+        last = self.size - 1
+        starts = range(0, len(self.events) - last, self.size)
+        return {f"list {i}": (self.events[at][0], self.events[at + last][0]) for i, at in enumerate(starts)}
 
-    def all_lists(self):
-        return [f"list {i}" for i in range(len(self.events) // self.size)]
+    def events_in(self, key, column):
+        """The events in a column of a list."""
+        start = int(key.split(" ")[1]) * self.size
+        return [event for event in self.events[start : start + self.size] if column_of(event) == column]
+
+    def recent_events(self):
+        """The events behind the last list."""
+        return self.events[len(self.events) // self.size * self.size :]
 
     def node(self, height, index, made):
         """The set of a leaf, of height 0, or of an interior node."""

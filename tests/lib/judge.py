@@ -1,6 +1,8 @@
 """What an index file is opened as, whether a start goes on with it, and whether it is what its own events determine, after
 docs/FORMATS.md and docs/SCRIPT.md alone: of any bytes. The records that are due are those of history.py."""
 
+import copy
+
 from tests.lib.history import (
     COLUMNS,
     EDGE,
@@ -270,6 +272,37 @@ class Opened:
         return events
 
 
+class ToldHistory:
+    """What a file, sound or not, says of its lists and of what is recent, as `History` has it."""
+
+    def __init__(self, opened):
+        self.opened, self.sizes = opened, {key: row.sizes for key, row in opened.rows.items()}
+        self.recent = [event for _, key, _, count in opened.recent_pieces() for event in opened.events_of(key, count)]
+        self.times = [time for batch in opened.batches for time in (batch.first, batch.last)]
+
+    def copy(self):
+        other = copy.copy(self)
+        other.recent, other.times = list(self.recent), list(self.times)
+        return other
+
+    def add(self, events, names):
+        """Adds a batch that closes no list."""
+        self.recent += events
+        self.times += [events[0][0], events[-1][0]]
+
+    def ends(self):
+        return (self.times[0], self.times[-1]) if self.times else None
+
+    def lists(self):
+        return {key: row.ends for key, row in self.opened.rows.items() if row.ends is not None}
+
+    def events_in(self, key, column):
+        return [event for _, event in sorted(self.opened.placed(key, column).items())]
+
+    def recent_events(self):
+        return self.recent
+
+
 class Graph:
     """A graph, as far as it says whether an event is what some change comes to."""
 
@@ -355,8 +388,15 @@ class Judgement:
             self.soundness = f"unsound {key} {LETTERS[column]}"
 
     def machine(self):
-        """The machine over the history that the file stands for; over no index where it is blank."""
-        return Machine() if self.is_blank else Machine(self.history.copy(), self.opened.names)
+        """The machine over the history that the file stands for; over no index where it is blank. Over a file that is not sound
+        it answers what goes by the lists and by what is recent alone: `interval`, `index` and `find`."""
+        if self.is_blank:
+            return Machine()
+        if self.is_sound:
+            return Machine(self.history, self.opened.names)
+        told = ToldHistory(self.opened)
+        damaged = [(key, column) for key in told.lists() for column in COLUMNS if self.is_damaged(key, column)]
+        return Machine(told, self.opened.names, damaged)
 
     @property
     def is_sound(self):

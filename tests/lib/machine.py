@@ -1,10 +1,13 @@
 """A machine that answers commands as docs/SCRIPT.md says, over a plain list of events, and never with the program.
 
 A new command is one method of `Machine`. Its row of the grammar stands above it; it gives the lines of its reply, or raises
-`Refused` with the first refusal that holds.
+`Refused` with the first refusal that holds. `interval`, `index` and `find` go by what the history says of its lists and of what
+is recent alone, so that they answer over what any file says of these too (`ToldHistory` of judge.py).
 """
 from __future__ import annotations
 
+import copy
+from collections import Counter
 from itertools import islice
 from typing import Any, Callable, Iterable, List, NamedTuple, Optional, Sequence
 
@@ -77,7 +80,7 @@ class Machine:
         self.history, self.names, self.damaged = history, list(names), set(damaged)
         self.handles: dict[int, Held] = {}
         self.next = 1
-        self.indexed: list[int] = []  # the numbers of the keys
+        self.indexed: dict[int, list[Any]] = {}  # by the numbers of their keys, the events that indexes of values were made of
         self.graphs: dict[Any, IndexGraph] = {}
 
     def opened(self) -> Machine:
@@ -85,8 +88,10 @@ class Machine:
         return Machine(self.history, self.names, self.damaged)
 
     def copy(self) -> Machine:
-        """The same over a copy of the file."""
-        return Machine(self.history and self.history.copy(), self.names, self.damaged)
+        """The same machine, which goes on by itself. A batch does not change a history, but puts another one in its place."""
+        other = copy.copy(self)
+        other.handles, other.graphs = dict(self.handles), dict(self.graphs)
+        return other
 
     def file(self) -> bytes:
         """The bytes of the file in use, with the last gate; none where there is no index."""
@@ -127,8 +132,7 @@ class Machine:
 
     def ends(self) -> tuple[int, int]:
         """The first and the last instant; the last is before the first where there is none."""
-        events = self.index_there().events
-        return (events[0][0], events[-1][0]) if events else (0, -1)
+        return self.index_there().ends() or (0, -1)
 
     def in_range(self, *times: int, behind: int = 0) -> None:
         """Instants that are in range, or up to so many behind the last."""
@@ -160,6 +164,18 @@ class Machine:
             for column in columns:
                 if (key, column) in self.damaged:
                     raise Refused(f"15 damaged {key} {LETTERS[column]}")
+
+    def events_in(self, key: str, columns: Iterable[int]) -> list[Any]:
+        """The events in these columns of a list, which are read."""
+        found = []
+        for column in columns:
+            self.read([key], [column])
+            found += self.index_there().events_in(key, column)
+        return found
+
+    def bytes_of(self, records: Iterable[str], columns: Iterable[int]) -> int:
+        sizes = self.index_there().sizes
+        return sum(sizes[key][column] for key in records for column in columns)
 
     def give(self, held: Held) -> int:
         self.handles[self.next] = held
@@ -199,7 +215,8 @@ class Machine:
     def upgrade(self) -> Reply:
         if self.index_there().is_wide:
             raise Refused("21 new-format")
-        self.index_there().upgrade()
+        self.history = self.index_there().copy()
+        self.history.upgrade()
         return ["ok upgrade"]
 
     def is_unloaded(self) -> None:
@@ -223,10 +240,16 @@ class Machine:
         records = IndexGraph(history, GRAPH_COLUMNS, memory=False) if self.damaged and children else None
         for at in range(0, len(children), READ_AT_ONCE) if records else ():
             self.read(records.entered(children[at : at + READ_AT_ONCE]), [c for c in COLUMNS if c != MESSAGES])
+        self.enter(batch)
+        return [f"ok {word} {len(lines)} {len(history.events) + len(lines)} {batch.events[-1][0]}"]
+
+    def enter(self, batch: Batch) -> None:
+        """Adds a batch to the file, and to the indexes of values."""
         names = list(batch.numbers)
-        history.add(batch.events, names[len(self.names) :])
+        self.history = self.index_there().copy()
+        self.history.add(batch.events, names[len(self.names) :])
+        self.indexed = {number: events + batch.events for number, events in self.indexed.items()}
         self.names, self.graphs = names, {}
-        return [f"ok {word} {len(lines)} {len(history.events)} {batch.events[-1][0]}"]
 
     @command("verify")
     def verify(self) -> Reply:
@@ -303,11 +326,10 @@ class Machine:
         self.in_range(begin)
         self.in_range(end, behind=1)
         self.room_for(1)
-        lists = history.lists_between(begin, end)
-        for key in lists:
-            self.read([key], numbers_of(columns))
-        handle = self.give(Held(added(history.events, begin, end, columns), columns))
-        return [f"ok interval {handle} {history.bytes_of_lists(lists, columns)}"]
+        lists = [key for key, (first, last) in history.lists().items() if begin < end and first < end and begin <= last]
+        events = [event for key in lists for event in self.events_in(key, numbers_of(columns))] + history.recent_events()
+        handle = self.give(Held(added(events, begin, end, columns), columns))
+        return [f"ok interval {handle} {self.bytes_of(lists, numbers_of(columns))}"]
 
     @command("materialise leaf N32 COLS")
     def materialise_leaf(self, number: int, columns: str) -> Reply:
@@ -380,18 +402,23 @@ class Machine:
             raise Refused("25 already-indexed")
         if len(self.indexed) == INDEXES_MOST:
             raise Refused("26 indexes-full")
-        self.read(history.all_lists(), [NODES])
-        self.indexed.append(number)
-        return [f"ok index {additions(history.events, number)} {history.bytes_of_lists(history.all_lists(), 'n')}"]
+        found, lists = [], history.lists()
+        for key, (first, last) in lists.items():
+            events = self.events_in(key, [NODES])
+            if not all(first <= event[0] <= last for event in events):
+                raise Refused(f"15 damaged {key} {LETTERS[NODES]}")
+            found += events
+        self.indexed = {**self.indexed, number: found + history.recent_events()}
+        return [f"ok index {additions(self.indexed[number], number)} {self.bytes_of(lists, [NODES])}"]
 
     @command("find TIME KEY VALUE")
     def find(self, time: int, key: bytes, value: bytes) -> Reply:
-        history = self.index_there()
         self.in_range(time)
-        if self.name_number(key) not in self.indexed:
+        number = self.name_number(key)
+        if number not in self.indexed:
             raise Refused("24 not-indexed")
-        graph = replay(event for event in history.events if event[0] <= time)
-        nodes = nodes_with(graph, self.name_number(key), self.name_number(value))
+        graph = values_as_of(self.indexed[number], time)
+        nodes = nodes_with(graph, number, self.name_number(value))
         return [f"ok find {len(nodes)}", *(f"node {node}" for node in nodes)]
 
     # ---- the pool
@@ -468,11 +495,11 @@ class Due:
     behind each."""
 
     def __init__(self, machine: Machine, commands: Sequence[str]):
-        self.commands, self.replies, self.machines = list(commands), [], [machine.copy()]
-        run = machine.copy()
+        self.commands, self.replies, self.machines = list(commands), [], [machine.opened()]
+        run = machine.opened()
         for one in commands:
             self.replies.append(bytes_of(run.answer(*split(one))))
-            self.machines.append(run.copy())
+            self.machines.append(run.opened())
 
     def behind(self, number: int) -> Due:
         """The same of the commands behind the first ones, in a new run."""
@@ -506,6 +533,7 @@ class Batch:
         self.nodes: set[int] = set()
         self.edges: dict[int, tuple[int, int, int]] = {}
         self.values: dict[tuple[int, int, int], int] = {}
+        self.needs: Counter[tuple[int, int]] = Counter()  # how many edges and values need this node or edge
         for element in replay(events):
             self.put(element)
 
@@ -517,6 +545,7 @@ class Batch:
             self.edges[number] = tuple(rest)
         else:
             self.values[kind, number, rest[0]] = rest[1]
+        self.needs.update(needed_by(element))
 
     def drop(self, element: Any) -> None:
         kind, number, *rest = element
@@ -526,6 +555,7 @@ class Batch:
             del self.edges[number]
         else:
             del self.values[kind, number, rest[0]]
+        self.needs.subtract(needed_by(element))
 
     def take(self, line: bytes) -> None:
         """Takes a line as the next event, or raises the first reason against it."""
@@ -553,15 +583,12 @@ class Batch:
         if into:
             self.put(into)
 
-    def has_value(self, kind: int, owner: int) -> bool:
-        return any(place[:2] == (kind, owner) for place in self.values)
-
     def node(self, sign: str, node: int) -> tuple[int, ...]:
         if sign == "+" and node in self.nodes:
             raise Bad(2)
         if sign == "-" and node not in self.nodes:
             raise Bad(3)
-        if sign == "-" and (self.has_value(NODE_ATTR, node) or any(node in ends[:2] for ends in self.edges.values())):
+        if sign == "-" and self.needs[NODE, node]:
             raise Bad(4)
         return (node,)
 
@@ -575,7 +602,7 @@ class Batch:
             return edge, source, target, int(direction == "dir")
         if edge not in self.edges:
             raise Bad(6)
-        if self.has_value(EDGE_ATTR, edge):
+        if self.needs[EDGE, edge]:
             raise Bad(7)
         return (edge, *self.edges[edge])
 
@@ -596,6 +623,14 @@ class Batch:
     def number(self, text: bytes) -> int:
         """The number of a name, which is a new one where no line had it before."""
         return self.numbers.setdefault(text, len(self.numbers))
+
+
+def needed_by(element: Any) -> list[tuple[int, int]]:
+    """The nodes and edges that have to be there while an element is."""
+    kind, number, *rest = element
+    if kind == EDGE:
+        return [(NODE, end) for end in rest[:2]]
+    return {NODE: [], NODE_ATTR: [(NODE, number)], EDGE_ATTR: [(EDGE, number)]}[kind]
 
 
 def generated(seed: int, count: int) -> list[bytes]:
@@ -642,6 +677,17 @@ def added(events: Sequence[Any], begin: int, end: int, columns: str) -> set[Any]
 def additions(events: Sequence[Any], key: Optional[int]) -> int:
     """How many events put in a value of a key at a node."""
     return sum(x is not None and x[0] == NODE_ATTR and x[2] == key for x in map(put_in, events))
+
+
+def values_as_of(events: Sequence[Any], time: int) -> set[Any]:
+    """The values of nodes that events set up to an instant, which may be any."""
+    found: set[Any] = set()
+    for event in events:
+        if event[0] <= time and event[1] == NODE_ATTR:
+            out, into = effect(event)
+            found.discard(out)
+            found.add(into)
+    return found - {None}
 
 
 def nodes_with(graph: set[Any], key: Optional[int], value: Optional[int]) -> list[int]:

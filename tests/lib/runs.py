@@ -14,6 +14,9 @@ HEADER = 18  # bytes, with the gate of the first segment
 CREATE = "create 2 2 intersection"
 FIVE = "load 5\n10 +node 1\n20 +node 2\n30 +edge 5 1 2 dir\n40 nset 1 name A\n50 -edge 5"
 
+# The words of commands that a failed read or want of memory never refuses.
+NEVER_REFUSED = ["counts", "release", "clean", "pool", "upgrade"]
+
 # A file of the first form with the same changes, which an earlier program made: 496 bytes.
 FIRST_FORM = os.path.join(os.path.dirname(os.path.dirname(__file__)), "transcripts", "first_form", "five.dg")
 

@@ -13,7 +13,6 @@ is the beginning of the machine's replies.
 """
 
 import itertools
-import os
 import random
 import re
 import shutil

@@ -13,8 +13,8 @@ than before, all replies, and the file behind them, are those of the machine ove
 
 Over a file that is not sound, and without `--checked`, a reply may rest on damage. A value may then stand under a name of
 the file that no key may be, since of a delta's column only that is asked that its names are there; such lines are counted.
-An interval, and an index with what it finds, go by the lists and by what is recent alone: what is due of them is judged over
-these files too.
+An interval, and an index with what it finds, go by the lists and by what is recent alone: the machine answers them over these
+files too.
 """
 
 import random
@@ -23,8 +23,8 @@ import sys
 
 from tests.lib import judge
 from tests.lib.changes import Changes
-from tests.lib.history import COLUMNS, LETTERS, NODES, History, effect
-from tests.lib.machine import added, additions, listing, nodes_with, text_of
+from tests.lib.history import LETTERS, History
+from tests.lib.machine import Batch, text_of
 from tests.lib.runs import CREATE, FIVE, HEADER, Program, Tests, in_use, lines
 
 SEED, DAMAGES = 20, 2000
@@ -108,86 +108,24 @@ def questions(times, leaves, keys=("a", "bb"), values=("x", "zz")):
     return script + ["\n".join([f"append {ADDED}", *batch]), f"find {asked[2]} {keys[1]} {values[1]}", "verify"]
 
 
-class Lists:
-    """The replies that are due to intervals, and to indexes and what they find, over any file with which a start goes on. They go by
-    the columns of the lists, by the times that a directory gives these, and by the recent events."""
+def is_answered(machine, command):
+    """Whether the machine answers a command over a file that is not sound: one that goes by lists and what is recent alone."""
+    word, *words = command.split("\n")[0].split(" ")
+    return word in ("interval", "index", "find") or word == "list" and int(words[0]) in machine.handles
 
-    def __init__(self, opened):
-        self.opened, self.names = opened, opened.names
-        self.lists = range(opened.total // opened.size)
-        self.recent = [event for _, key, _, count in opened.recent_pieces() for event in opened.events_of(key, count)]
-        self.ends = (opened.batches[0].first, opened.batches[-1].last) if opened.batches else None
-        self.handles, self.indexes = {}, {}
 
-    def out_of_range(self):
-        return [f"refused 7 out-of-range {' '.join(map(str, self.ends)) if self.ends else 'empty'}"]
-
-    def events_of(self, number, column):
-        """The events of a column of a list; or nothing where it is in no spelling."""
-        try:
-            return [event for _, event in sorted(self.opened.placed(f"list {number}", column).items())]
-        except judge.Unread:
-            return None
-
-    def due(self, command, reply):
-        """What is due to a command; nothing where that is not judged here."""
-        word, *words = command.split("\n")[0].split(" ")
-        if word == "append" and reply[0].startswith("ok"):
-            first = int(command.split("\n")[1].split(" ")[0])
-            self.ends = self.ends[0] if self.ends else first, int(reply[0].split(" ")[-1])
-        if word == "list":
-            return self.handles.get(words[0])
-        if word in ("interval", "index", "find"):
-            return getattr(self, word)(*words, reply)
-        return None
-
-    def interval(self, begin, end, columns, reply):
-        begin, end, first, last = int(begin), int(end), *(self.ends or (0, -1))
-        if not first <= begin <= last or not first <= end <= last + 1:
-            return self.out_of_range()
-        found, weight = [event for event in self.recent], 0
-        for number in self.lists:
-            row = self.opened.rows[f"list {number}"]
-            if begin < end and row.ends[0] < end and begin <= row.ends[1]:
-                for column in (column for column in COLUMNS if LETTERS[column] in columns):
-                    events = self.events_of(number, column)
-                    if events is None:
-                        return [f"refused 15 damaged list {number} {LETTERS[column]}"]
-                    found += events
-                    weight += row.sizes[column]
-        handle = reply[0].split(" ")[2]
-        elements = added(found, begin, end, columns)
-        self.handles[handle] = [f"ok list {handle} {len(elements)}", *listing(elements, self.names)]
-        return [f"ok interval {handle} {weight}"]
-
-    def index(self, key, reply):
-        number = self.names.index(key.encode()) if key.encode() in self.names else None
-        if number is None:
-            return ["refused 23 unknown-key"]
-        found = []
-        for at in self.lists:
-            events, (first, last) = self.events_of(at, NODES), self.opened.rows[f"list {at}"].ends
-            if events is None or not all(first <= event[0] <= last for event in events):
-                return [f"refused 15 damaged list {at} n"]
-            found += events
-        weight = sum(self.opened.rows[f"list {at}"].sizes[NODES] for at in self.lists)
-        self.indexes[key] = found + self.recent
-        return [f"ok index {additions(self.indexes[key], number)} {weight}"]
-
-    def find(self, time, key, value, reply):
-        if not self.ends or not self.ends[0] <= int(time) <= self.ends[1]:
-            return self.out_of_range()
-        if key not in self.indexes:
-            return ["refused 24 not-indexed"]
-        graph = set()
-        for event in self.indexes[key]:
-            if event[0] <= int(time):
-                out, into = effect(event)
-                graph.discard(out)
-                graph.add(into)
-        number, of = (self.names.index(name.encode()) if name.encode() in self.names else None for name in (key, value))
-        found = nodes_with(graph - {None}, number, of)
-        return [f"ok find {len(found)}", *(f"node {node}" for node in found)]
+def follow(machine, command, reply):
+    """Carries over what a command did that the machine does not answer: the handles that it gave, and its batch."""
+    word, lines_behind = command.split(" ")[0], command.split("\n")[1:]
+    if not reply[0].startswith("ok"):
+        return
+    if word in ("at", "several", "expression", "materialise"):
+        machine.next += len(reply) - 1 if word == "several" else 1
+    if word == "append":
+        batch = Batch((), machine.names)
+        for line in lines_behind:
+            batch.take(line.encode())
+        machine.enter(batch)
 
 
 class Damage:
@@ -275,17 +213,17 @@ class Damage:
         return None if words and reason == unsound else f"{reason}, and not {unsound}"
 
     def fault_of_damaged(self, due, script, replies):
-        names = [text_of(name) for name in due.opened.names]
+        machine, names = due.machine(), [text_of(name) for name in due.opened.names]
         values = {f"{key} {value}" for key in names for value in names}
         keyed = {f"{key} {value}" for key in names for value in names if re.fullmatch(KEY_TEXT, key)}
-        lists = Lists(due.opened)
         for command, reply in zip(script, replies):
-            wanted = lists.due(command, reply)
-            if wanted is not None:
+            if is_answered(machine, command):
+                wanted = machine.reply(command)
                 if reply != wanted:
                     return f"{command}: {reply}, and not {wanted}"
                 self.count(f"{command.split()[0]}, {'refused' if reply[0].startswith('refused 15') else 'answered'}")
                 continue
+            follow(machine, command, reply)
             said = [found.group(1) for found in (re.fullmatch(VALUE, line, re.DOTALL) for line in reply) if found]
             told = [found.group(1) for found in (re.fullmatch(TOLD, line, re.DOTALL) for line in reply) if found]
             if not set(names).issuperset(told):

@@ -21,7 +21,7 @@ from typing import List, NamedTuple, Tuple
 
 from tests.lib.judge import Judgement
 from tests.lib.machine import Due
-from tests.lib.runs import CREATE, FIRST_FORM, FIVE, Program, Tests, content, in_use, lines, put
+from tests.lib.runs import CREATE, FIRST_FORM, FIVE, NEVER_REFUSED, Program, Tests, content, in_use, lines, put
 
 KINDS = ["alloc", "read", "write", "sync"]
 # Each kind of failure, the calls that it is of, and what the library is told besides.
@@ -34,7 +34,6 @@ TABLE = [
     ("torn", "write", {"fail_torn": 1}),
     ("sync", "sync", {}),
 ]
-NEVER_REFUSED = ["counts", "release", "clean", "pool", "upgrade"]
 CHECKED = ("--checked",)
 UNCACHED, CACHED = ("--cache", "0"), ("--cache", "64")
 MAKE = [CREATE, FIVE]

@@ -2,8 +2,9 @@
 nothing is lost. And what must not cost more: two kinds of batches, values that are found, and an instant that is named again.
 
 Each run ends with the status that docs/SCRIPT.md names, and its replies are a front of those that are due, with want of
-memory in place of a command's that is then as if it were not in the script. The file holds the batches that were answered,
-byte for byte as the machine of lib/machine.py has them, and the next run, with room, adds the others.
+memory in place of a command's that is then as if it were not in the script. What is due, and the file behind it, come from the
+machine of lib/machine.py. The file holds the batches that were answered, byte for byte, and the next run, with room, adds the
+others.
 """
 
 import os
@@ -14,10 +15,11 @@ import signal
 import subprocess
 import sys
 import tempfile
+from typing import List, NamedTuple
 
 from tests.lib.changes import Changes
 from tests.lib.machine import Due, Machine
-from tests.lib.runs import CREATE, FIVE, Program, Ran, Tests, content, in_use, lines, put
+from tests.lib.runs import CREATE, FIVE, NEVER_REFUSED, Program, Ran, Tests, content, in_use, lines, put
 
 FAILED = "the index file failed"
 TOO_LARGE = "{}: File too large (os error 27)"
@@ -33,9 +35,31 @@ NOT_LOADED = 127  # the status that the system's loader ends with, where it find
 TOLD = ["refused 16 out-of-memory"]
 
 
+class Batches(NamedTuple):
+    """Commands that make a history, the reply that is due to each, and what is in use of the file before them and behind each."""
+
+    commands: List[str]
+    replies: List[bytes]
+    states: List[bytes]
+
+
+class Foretold:
+    """What is due of commands over the file of a machine. What some scripts begin with alike is carried out once."""
+
+    def __init__(self, machine):
+        self.known = {(): (machine, [])}
+
+    def behind(self, commands):
+        """The machine behind these commands, and its replies."""
+        if commands not in self.known:
+            before, replies = self.behind(commands[:-1])
+            machine = before.copy()
+            self.known[commands] = machine, [*replies, machine.reply(commands[-1])]
+        return self.known[commands]
+
+
 def batches(seed, sizes, value=""):
-    """Commands that make a history in batches of these sizes, and what is in use of the file after each. With a value each
-    batch sets it at a node of its own, so that it takes more room."""
+    """A history in batches of these sizes. With a value each batch sets it at a node of its own, so that it takes more room."""
     changes, commands = Changes(random.Random(seed)), ["create 4 2 balanced"]
     for batch, size in enumerate(sizes):
         changes.time += 1 if batch else 0
@@ -44,13 +68,13 @@ def batches(seed, sizes, value=""):
             made.append(f"{changes.time} +node {1000 + batch}")
             made.append(f"{changes.time} nset {1000 + batch} long {value}{batch}")
         commands.append("\n".join([f"{'append' if batch else 'load'} {len(made)}", *made]))
-    return commands, [in_use(machine.file()) for machine in Due(Machine(), commands).machines]
+    due = Due(Machine(), commands)
+    return Batches(commands, due.replies, [in_use(machine.file()) for machine in due.machines])
 
 
 class Limits:
     def __init__(self, tests, program):
         self.tests, self.program = tests, program
-        self.known = {}
 
     def limited(self, index, script, prepare=None, words=()):
         """A run whose process is prepared so before it begins."""
@@ -58,35 +82,27 @@ class Limits:
         ran = subprocess.run(command, input=script, capture_output=True, preexec_fn=prepare)
         return Ran(ran.returncode, ran.stdout, ran.stderr)
 
-    def look(self, name, index, commands, states, ran, reason, by_signal=None):
+    def look(self, name, index, made, ran, reason, by_signal=None):
         """A run that may have ended before its time for this reason: the file holds what was answered, or the next batch
         too. And the rest is added by a run with room."""
         said = "".join(f"deltagraph: {line}\n" for line in (FAILED, reason.format(index))).encode()
         answered = ran.replies.count(b"end\n")
-        if answered == len(commands):
+        if answered == len(made.commands):
             self.tests.same(f"{name}: a whole run", (ran.status, ran.errors), (0, b""))
         elif by_signal:
             self.tests.same(f"{name}: it ends by the signal", ran.status, -by_signal)
         else:
             self.tests.same(f"{name}: it ends", (ran.status, ran.errors), (5, said))
-        due = b"".join(self.replies(commands)[:answered])
-        self.tests.same(f"{name}: its replies", ran.replies, due)
+        self.tests.same(f"{name}: its replies", ran.replies, b"".join(made.replies[:answered]))
         held = in_use(content(index) or b"")
-        whole = [k for k in (answered, answered + 1) if k < len(states) and states[k] == held]
+        whole = [k for k in (answered, answered + 1) if made.states[k : k + 1] == [held]]
         self.tests.check(f"{name}: the file holds what was answered", whole, (answered, len(held or b"")))
         return whole[0] if whole else 0
 
-    def replies(self, commands):
-        """What is due to each of these commands over a new file."""
-        key = tuple(commands)
-        if key not in self.known:
-            self.known[key] = Due(Machine(), commands).replies
-        return self.known[key]
-
-    def goes_on(self, name, index, commands, states, held):
+    def goes_on(self, name, index, made, held):
         """A run with room adds what is left, and the file is sound."""
-        ran = self.program.run(index, lines([*commands[held:], "verify"]))
-        self.tests.same(f"{name}: the rest is added", in_use(content(index)), states[-1])
+        ran = self.program.run(index, lines([*made.commands[held:], "verify"]))
+        self.tests.same(f"{name}: the rest is added", in_use(content(index)), made.states[-1])
         last = ran.commands()[0][-1:]
         self.tests.check(f"{name}: it is sound", ran.status == 0 and last and last[0][0].startswith("ok verify sound"), last)
 
@@ -167,9 +183,9 @@ class Limits:
 
     def size_of_file(self):
         """No file may pass a number of bytes, with the signal for it ignored or not."""
-        commands, states = batches(3, [6, 4, 1, 9, 5])
+        made = batches(3, [6, 4, 1, 9, 5])
         index = self.program.place("limited")
-        limits = range(0, len(states[-1]) + STEP + 1, STEP)
+        limits = range(0, len(made.states[-1]) + STEP + 1, STEP)
         for is_ignored in (True, False):
             for limit in limits if is_ignored else limits[::8]:
 
@@ -178,10 +194,10 @@ class Limits:
                     resource.setrlimit(resource.RLIMIT_FSIZE, (limit, limit))
 
                 put(index, None)
-                ran = self.limited(index, lines(commands), prepare)
+                ran = self.limited(index, lines(made.commands), prepare)
                 name = f"a file of at most {limit} bytes{'' if is_ignored else ', with the signal'}"
-                held = self.look(name, index, commands, states, ran, TOO_LARGE, None if is_ignored else signal.SIGXFSZ)
-                self.goes_on(name, index, commands, states, held)
+                held = self.look(name, index, made, ran, TOO_LARGE, None if is_ignored else signal.SIGXFSZ)
+                self.goes_on(name, index, made, held)
         print(f"the size of a file: {len(limits)} limits, and each eighth with the signal", flush=True)
 
     def full_disk(self):
@@ -192,17 +208,18 @@ class Limits:
             print("no mounts here: no device is filled")
             return
         try:
-            commands, states = batches(4, [8, 30, 3, 40, 12], "v" * 1000)
+            made = batches(4, [8, 30, 3, 40, 12], "v" * 1000)
+            most = len(made.states[-1]) // PAGE + 3
             index, other = os.path.join(folder, "index"), os.path.join(folder, "other")
-            for pages in range(len(states[-1]) // PAGE + 3):
+            for pages in range(most):
                 put(index, None)
                 put(other, bytes(128 * 1024 - pages * PAGE))
-                ran = self.limited(index, lines(commands))
+                ran = self.limited(index, lines(made.commands))
                 name = f"a disk with {pages} pages left"
-                held = self.look(name, index, commands, states, ran, NO_SPACE)
+                held = self.look(name, index, made, ran, NO_SPACE)
                 put(other, None)
-                self.goes_on(name, index, commands, states, held)
-            print(f"a full disk: {len(states[-1]) // PAGE + 3} rooms", flush=True)
+                self.goes_on(name, index, made, held)
+            print(f"a full disk: {most} rooms", flush=True)
         finally:
             subprocess.run(["umount", folder], check=True)
         if mounted(folder, "nr_inodes=1"):
@@ -220,33 +237,33 @@ class Limits:
         if not mounted(folder, "size=128k"):
             return
         try:
-            commands, states = batches(6, [6, 4, 9])
+            made = batches(6, [6, 4, 9])
             index = os.path.join(folder, "index")
-            self.program.run(index, lines(commands[:3]))
+            self.program.run(index, lines(made.commands[:3]))
             before = content(index)
             if subprocess.run(["mount", "-o", "remount,ro", folder], capture_output=True).returncode != 0:
                 return
-            ran = self.limited(index, lines(["verify", "counts 1", *commands[3:]]))
+            ran = self.limited(index, lines(["verify", "counts 1", *made.commands[3:]]))
             said = f"deltagraph: {FAILED}\ndeltagraph: {READ_ONLY.format(index)}\n".encode()
             self.tests.same("a disk that is read", (ran.status, ran.errors, content(index)), (5, said, before))
             replies = ran.commands()[0]
             self.tests.check("a disk that is read: it is sound", replies[0][0].startswith("ok verify sound"), replies)
             self.tests.same("a disk that is read: no more is answered", replies[1:], [["refused 8 unknown-handle 1"]])
-            self.tests.same("a disk that is read, the file", in_use(before), states[3])
+            self.tests.same("a disk that is read, the file", in_use(before), made.states[3])
         finally:
             subprocess.run(["umount", folder], check=True)
 
     def no_more_writes(self):
         """A file that may not be written from some moment of a run on. That it cannot be changed by anyone is known of a
         file system on a device, and only its owner may say so."""
-        commands, states = batches(5, [6, 4, 1, 9])
+        made = batches(5, [6, 4, 1, 9])
         with tempfile.TemporaryDirectory() as folder:
-            for before in range(1, len(commands)):
+            for before in range(1, len(made.commands)):
                 index = os.path.join(folder, f"index{before}")
                 pipe = subprocess.PIPE
                 process = subprocess.Popen([self.program.path, index], stdin=pipe, stdout=pipe, stderr=pipe)
-                answers = [self.ask(process, command) for command in commands[:before]]
-                self.tests.same(f"written {before} times", b"".join(answers), b"".join(self.replies(commands)[:before]))
+                answers = [self.ask(process, command) for command in made.commands[:before]]
+                self.tests.same(f"written {before} times", answers, made.replies[:before])
                 if not is_frozen(index, True):
                     process.communicate()
                     print("no file here that nobody may write: none turns so within a run")
@@ -255,13 +272,13 @@ class Limits:
                     name = f"no writes after {before} commands"
                     sound = self.ask(process, "verify")
                     self.tests.check(f"{name}: it is read", sound.startswith(b"ok verify sound"), sound)
-                    more, said = process.communicate(lines(commands[before:]))
+                    more, said = process.communicate(lines(made.commands[before:]))
                     ran = Ran(process.returncode, b"".join(answers) + more, said)
-                    self.tests.same(f"{name}: it is as it was", in_use(content(index)), states[before])
+                    self.tests.same(f"{name}: it is as it was", in_use(content(index)), made.states[before])
                 finally:
                     is_frozen(index, False)
-                held = self.look(name, index, commands, states, ran, NOT_PERMITTED)
-                self.goes_on(name, index, commands, states, held)
+                held = self.look(name, index, made, ran, NOT_PERMITTED)
+                self.goes_on(name, index, made, held)
 
     # ---- costs
 
@@ -333,10 +350,9 @@ class Limits:
 
     # ---- memory
 
-    def memory(self, name, script, image, words=()):
-        """Runs with so much memory each. `image` is what the file is before."""
-        index = self.program.place("little")
-        tally = {}
+    def memory(self, name, script, foretold, words=()):
+        """Runs with so much memory each, over the file of the machine that foretells them."""
+        index, image, tally = self.program.place("little"), foretold.behind(())[0].file() or None, {}
         for size in MEMORIES:
 
             def prepare():
@@ -344,40 +360,31 @@ class Limits:
 
             put(index, image)
             ran = self.limited(index, lines(script), prepare, words)
-            after = content(index)
-            case = f"{name}, {size} MB"
-            replies, rest = ran.commands()
-            if ran.status == NOT_LOADED:
-                came = "not loaded"
-            elif ran.status == 6:
-                found = ran.replies, ran.errors, after or b""
-                wanted = b"", b"deltagraph: out of memory\n", image or b""
-                self.tests.check(f"{case}: nothing is done", found == wanted, found[:2])
-                came = "status 6"
-            else:
-                self.tests.same(f"{case}: status", (ran.status, ran.errors, rest), (0, b"", b""))
-                refused = [i for i, reply in enumerate(replies) if reply == TOLD]
-                due, file = self.without(script, image, words, refused)
-                others = [reply for i, reply in enumerate(replies) if i not in refused]
-                self.tests.check(f"{case}: all else is answered", others == due, refused)
-                self.tests.check(f"{case}: the file", after == file)
-                never = [script[i] for i in refused if script[i].split()[0] in ("counts", "release", "clean", "pool", "upgrade")]
-                self.tests.same(f"{case}: what is never refused", never, [])
-                came = f"{len(refused)} refused" if refused else "whole"
+            came = self.came_of(f"{name}, {size} MB", script, image, foretold, ran, content(index))
             tally.setdefault(came, []).append(size)
         ends = [f"{came} at {', '.join(map(str, sizes))} MB" for came, sizes in tally.items()]
         print(f"{name}: {'; '.join(ends)}", flush=True)
         self.tests.check(f"{name}: a run is whole", "whole" in tally)
 
-    def without(self, script, image, words, refused):
-        """The replies and the file of a run with room over the script without these commands."""
-        key = tuple(script), tuple(refused), words, hash(image)
-        if key not in self.known:
-            left = [command for i, command in enumerate(script) if i not in refused]
-            ran, after = self.program.over(image, lines(left), words)
-            self.tests.same("a run with room", (ran.status, ran.errors), (0, b""))
-            self.known[key] = ran.commands()[0], after
-        return self.known[key]
+    def came_of(self, case, script, image, foretold, ran, after):
+        """Looks at a run with little memory, and says what came of it."""
+        if ran.status == NOT_LOADED:
+            return "not loaded"
+        if ran.status == 6:
+            found = ran.replies, ran.errors, after or b""
+            wanted = b"", b"deltagraph: out of memory\n", image or b""
+            self.tests.check(f"{case}: nothing is done", found == wanted, found[:2])
+            return "status 6"
+        replies, rest = ran.commands()
+        self.tests.same(f"{case}: status", (ran.status, ran.errors, rest), (0, b"", b""))
+        refused = [i for i, reply in enumerate(replies) if reply == TOLD]
+        never = [script[i] for i in refused if script[i].split()[0] in NEVER_REFUSED]
+        self.tests.same(f"{case}: what is never refused", never, [])
+        behind, due = foretold.behind(tuple(command for i, command in enumerate(script) if i not in refused))
+        others = [reply for i, reply in enumerate(replies) if i not in refused]
+        self.tests.check(f"{case}: all else is answered", others == due, refused)
+        self.tests.check(f"{case}: the file", after == behind.file())
+        return f"{len(refused)} refused" if refused else "whole"
 
 
 def batch_of_values(count, is_crafted):
@@ -459,11 +466,12 @@ def main():
     limits.full_disk()
     limits.disk_that_is_read()
     limits.no_more_writes()
-    limits.memory("a new file", MAKE + ASK, None)
-    _, made = limits.program.over(None, lines(MAKE))
+    new = Foretold(Machine())
+    limits.memory("a new file", MAKE + ASK, new)
+    made = Foretold(new.behind(tuple(MAKE))[0].opened())
     limits.memory("a file of 60,002 events", ASK, made)
     limits.memory("a file of 60,002 events that is checked", ASK[:3], made, ("--checked",))
-    limits.memory("an empty file", ["pool", "create 2 2 union", "load 1\n1 +node 1", "at 1 s", "list 1"], None)
+    limits.memory("an empty file", ["pool", "create 2 2 union", "load 1\n1 +node 1", "at 1 s", "list 1"], new)
     return tests.end()
 
 

@@ -139,7 +139,7 @@ def ask_values(rng, history, changes, case):
             continue
         time = rng.randrange(max(history.events[0][0] - 1, 0), history.events[-1][0] + 2)
         key, value = rng.choice([*changes.keys, UNKNOWN]), rng.choice([*changes.texts, UNKNOWN])
-        indexed = case.machine.indexed
+        indexed = list(case.machine.indexed)
         if indexed and rng.random() < 0.9:
             key = changes.names[rng.choice(indexed)]
         if rng.random() < 0.8:
@@ -332,7 +332,7 @@ def check_damage(tests, program, index, seed):
     said = case.ask("\n".join([f"append {len(made)}", *(line for line, _ in made)]))
     due = f"refused 15 damaged {damaged[0]} {LETTERS[damaged[1]]}" if damaged[0] in met and damaged[1] != MESSAGES else "ok append"
     tests.check(f"seed {seed}: a batch meets its own records", said[0].startswith(due), (said, due))
-    case.run(with_damage(history, [damaged]))
+    case.run(with_damage(case.history, [damaged]))
 
 
 def met_by_graphs(rng, history, case, damaged):
@@ -443,7 +443,7 @@ class FirstDamage:
 
     def of_lists(self):
         """Two lists, which an interval over all reads; and an index their node attributes."""
-        found = damaged_pairs(self.history, self.behind_start(self.history.all_lists()))
+        found = damaged_pairs(self.history, self.behind_start(self.history.lists()))
         if found:
             of_nodes = next((name for name in self.changes.names if is_key(name)), UNKNOWN)
             whole = f"interval {self.history.events[0][0]} {self.history.events[-1][0] + 1} snet"
