@@ -361,7 +361,7 @@ def running(pids: Sequence[Optional[int]]) -> list[int]:
             with open(f"/proc/{pid}/stat", encoding="ascii", errors="replace") as file:
                 if file.read().rsplit(")", 1)[1].split()[0] != "Z":
                     found.append(int(pid or 0))
-        except FileNotFoundError:
+        except (FileNotFoundError, ProcessLookupError):  # it ended before the file was opened, or before it was read
             pass
     return found
 
