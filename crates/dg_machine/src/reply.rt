@@ -1,5 +1,6 @@
 //! Replies: their head lines, their body lines, and the refusals.
 ghost use Rattle.std.specs.Prelude.{◌≡◌, ◌<◌, List, [], ◌∷◌, ◌++◌, Some, length, map, slice_get, OnOk, OnErr};
+ghost use Rattle.dg_machine.specs.Answer.{headed};
 ghost use Rattle.dg_machine.specs.declared.reply.BodyLine.TheVariants as line;
 
 use crate::query::QueryHead;
@@ -19,6 +20,18 @@ pub enum Reply {
     Refused(Refusal),
     /// The command was answered: a first line, and the lines of the body.
     Answered { head: Head, body: BodyLines },
+}
+
+impl Reply {
+    /// An answer of a first line alone. It takes no memory.
+    pub fn headed(alloc: Global, head: Head) -> Reply
+        ensures { result ≡ headed head }
+    {
+        Reply::Answered {
+            head,
+            body: BodyLines::new(alloc),
+        }
+    }
 }
 
 // A new first line also needs: the command that it answers, in `Answer`; its words in `ReplyText` and dg_reply; the command that
