@@ -4,7 +4,7 @@ use Rattle.dg_graph.specs.declared.element.Element.{Element}
 use Rattle.dg_graph.specs.declared.element.Element.TheVariants as element
 use Rattle.dg_graph.specs.Elements.{has}
 use Rattle.dg_machine.specs.declared.command.Command.TheVariants as command
-use Rattle.dg_machine.specs.declared.command.Query.TheVariants as query
+use Rattle.dg_machine.specs.declared.query.Query.TheVariants as query
 use Rattle.dg_machine.specs.declared.reply.BodyLine.TheVariants as line
 use Rattle.dg_machine.specs.declared.reply.Head.TheVariants as head
 use Rattle.dg_machine.specs.declared.reply.Reply.{Reply}
@@ -30,8 +30,8 @@ node_asks handle id = record {
   unplanned = λ m. refl;
   needed = λ p. refl;
   due = λ m. refl;
-  accepts = λ cols g. either (λ r. is_refusal r.head ≡ false) (has g (element.Node id)) (there g) (headed (head.NodeAbsent handle id)) refl refl;
-  fits = λ cols g. either (λ r. IsHeadOf (command.Ask handle (query.Node id)) r.head) (has g (element.Node id)) (there g) (headed (head.NodeAbsent handle id)) (refl, refl) (refl, refl);
+  accepts = λ cols g. either (λ r. is_refusal r ≡ false) (has g (element.Node id)) (there g) (headed (head.NodeAbsent handle id)) refl refl;
+  fits = λ cols g. either (λ r. IsHeadOf (command.Ask handle (query.Node id)) r) (has g (element.Node id)) (there g) (headed (head.NodeAbsent handle id)) (refl, refl) (refl, refl);
   names = λ n cols g there. node_names n handle id g there;
 }
   where

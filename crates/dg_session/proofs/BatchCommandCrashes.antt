@@ -94,7 +94,7 @@ module _ (from : Origin) (got : List ScriptLine) (p : Parts) (count limit : ℕ)
         h = (is_of p index image m asked.free.there s).1
 
         by : IsImageOf z left ⊎ IsImageOf (more_of z) left
-            → StandsAs m.index left ⊎ ((k : MachineState) × Step m (Asked (adding from count) got) reply k × StandsAs k.index left) ⊎ ((is_created reply.head ≡ true) × (m.index ≡ None) × IsFirstByte image left)
+            → StandsAs m.index left ⊎ ((k : MachineState) × Step m (Asked (adding from count) got) reply k × StandsAs k.index left) ⊎ ((is_created reply ≡ true) × (m.index ≡ None) × IsFirstByte image left)
         by (inl same) = inl (subst (λ (i : Option History). StandsAs i left) (sym h.index) same)
         by (inr more) = inr (inl (record m { index = Some (more_of z) }, step_of image at m z s h, more))
 

@@ -342,11 +342,11 @@ takes_form form events takes = by (is_wide form) (are_silent events) takes
     by false false h = absurd (false≢true (h refl))
 
 -- a batch that is refused neither for a change nor for the form is refused for a full file alone
-behind_reads : (m : MachineState) (z : History) (from : Origin) (b : HistoryBatch) → is_barred_by z.form b.events ≡ false → is_behind_reads (with_made m z from (Ok b)).reply.head ≡ true
+behind_reads : (m : MachineState) (z : History) (from : Origin) (b : HistoryBatch) → is_barred_by z.form b.events ≡ false → is_behind_reads (with_made m z from (Ok b)).reply ≡ true
 behind_reads m z from b free =
-    ap (λ bars. is_behind_reads (by_form m z from b bars).reply.head) free ∙ by (nat_lt m.limits.file_bytes (size (with_batch z b)))
+    ap (λ bars. is_behind_reads (by_form m z from b bars).reply) free ∙ by (nat_lt m.limits.file_bytes (size (with_batch z b)))
   where
-    by : (full : Bool) → is_behind_reads (by_room m z from b full).reply.head ≡ true
+    by : (full : Bool) → is_behind_reads (by_room m z from b full).reply ≡ true
     by true = refl
     by false = behind_head from (replay (events_of z ++ b.events)) (length b.events) (length (events_of z) + length b.events) (last_time_from 0 b.events)
 
@@ -567,7 +567,7 @@ module _ (from : Origin) (got : List ScriptLine) (p : Parts) (count limit : ℕ)
 
     -- the file has too little room
     full_steps : (n : ℕ) → n ≡ needed_for free.index segment → limit < n → (m : MachineState) (image : List ℕ) → told ≡ Some image → StandsFor p image m
-        → Step m (Asked (adding from count) got) (headed (head.Refused (refusal.FileFull n limit))) m
+        → Step m (Asked (adding from count) got) (replied.Refused (refusal.FileFull n limit)) m
     full_steps n n_is over m image at s =
         let found = is_of p free.index image m free.there s in
         let z : History = found.0 in
@@ -772,7 +772,7 @@ module _ (from : Origin) (got : List ScriptLine) (p : Parts) (count limit : ℕ)
         failing_denies (adding from count) got p q before after q_is f.0 (reads_records from count) a.not_refused
         (λ m image s.
         let z = is_of p free.index image m free.there s in
-        ap (λ (x : Answered). is_behind_reads x.reply.head) (answer_with image m z.0 (Ok d.events) s z.1 d.come)
+        ap (λ (x : Answered). is_behind_reads x.reply) (answer_with image m z.0 (Ok d.events) s z.1 d.come)
         ∙ behind_reads m z.0 from (batch_in z.0 Due d.events) (free_form image m z.0 d.events z.1 d.form))
     batch_failed fault.Memory fails q q_is =
         let f : after ≡ before = of_here (index_opening c.index) free.index (λ o. FailsBatch o limit b c before after fault.Memory) opening_there fails in

@@ -75,9 +75,9 @@ tree_answers p image o reply there is = record {
         (λ i. record { reply = sym due i; state = m }),
         stands_on p p x y m refl (one_image image image x y refl a b) s,
       ));
-  accepted = ap (λ (x : Reply). is_refusal x.head) is;
+  accepted = ap is_refusal is;
   free = tree_free p o there;
-  fits = subst (λ (x : Reply). IsHeadOf command.Tree x.head) (sym is) tt;
+  fits = subst (Fits command.Tree) (sym is) tt;
   held = λ h. h;
   no_index = λ h. (h, refl);
   quiet = λ h. refl;

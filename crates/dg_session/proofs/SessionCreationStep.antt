@@ -142,9 +142,9 @@ module _ (l k : ℕ) (asked : AskedFunction) (params : Params) (params_are : par
               (one_told after (λ image. IsImageOf (made_with params) image) y made b)
               (no_handle_reached (made_in m params) handles) (λ e. cc),
         ));
-    accepted = ap (λ (r : Reply). is_refusal r.head) reply_is;
+    accepted = ap is_refusal reply_is;
     free = none;
-    fits = subst (λ (r : Reply). IsHeadOf (making l k asked) r.head) (sym reply_is) (fits_head l k asked);
+    fits = subst (Fits (making l k asked)) (sym reply_is) (fits_head l k asked);
     held = λ h.
         subst (λ (x : Parts). IfSome after (λ image. IsHeldBy x.index x.names image)) (sym is)
         (subst (λ (x : Opening). IfSome after (λ image. opening image ≡ Ok (record { index = x; names = p.names }))) (sym o_is)

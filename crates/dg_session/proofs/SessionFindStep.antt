@@ -116,9 +116,9 @@ module _ (stand : TurnsStandForEvents) (there : FoundNodesAreThere) (p : Parts) 
           (λ i. record { reply = (ap found_reply (sym (found_is x m s ids are)) ∙ sym is) i; state = m }),
           stands_on p p x y m refl (one_image image image x y refl a b) s,
         ));
-    accepted = ap (λ (r : Reply). is_refusal r.head) is;
+    accepted = ap is_refusal is;
     free = free;
-    fits = subst (λ (r : Reply). IsHeadOf (command.Find t k v) r.head) (sym is) tt;
+    fits = subst (Fits (command.Find t k v)) (sym is) tt;
     held = λ h. h;
     no_index = λ h. (h, refl);
     quiet = λ h. refl;

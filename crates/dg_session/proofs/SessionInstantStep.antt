@@ -74,17 +74,17 @@ at_answers p q t cols before after weight singles bases graphs reply none same g
       }),
       handles_stand p q x y m (t ∷ []) cols weight singles bases graphs s (one_image before after x y same a b) (omega arith) none r is,
     )))
-    (ap (λ (r : Reply). is_refusal r.head) reply_is) none (subst (λ (r : Reply). IsHeadOf (command.At t cols) r.head) (sym reply_is) tt) same is (head_names (length q.names) (head.At p.next weight) reply reply_is)
+    (ap is_refusal reply_is) none (subst (Fits (command.At t cols)) (sym reply_is) tt) same is (head_names (length q.names) (head.At p.next weight) reply reply_is)
 
 -- where it fails, the bytes read are at most what its reply would tell
-pub at_fails : (p : Parts) (t : ℕ) (cols : Columns) (image : Option (List ℕ)) (h : Head) (before after : ℕ) → is_refusal h ≡ true → is_early h ≡ false → refused_by p 0 (retrieval_needs (t ∷ []) 1) ≡ None
+pub at_fails : (p : Parts) (t : ℕ) (cols : Columns) (image : Option (List ℕ)) (reply : Reply) (before after : ℕ) → is_refusal reply ≡ true → is_early reply ≡ false → refused_by p 0 (retrieval_needs (t ∷ []) 1) ≡ None
     → IfSome image (λ bytes. (m : MachineState) → StandsFor p bytes m → TakesAtMostRetrieval m (t ∷ []) cols before after)
-    → Reads (command.At t cols) p image h before after
-at_fails p t cols image h before after refuses late none most =
-    reads_failed (command.At t cols) p image h before after refl refuses late (λ m got reads. reads) (λ got. none)
+    → Reads (command.At t cols) p image reply before after
+at_fails p t cols image reply before after refuses late none most =
+    reads_failed (command.At t cols) p image reply before after refl refuses late (λ m got reads. reads) (λ got. none)
     (if_some image (λ bytes. (m : MachineState) → StandsFor p bytes m → TakesAtMostRetrieval m (t ∷ []) cols before after)
     (λ bytes. (m : MachineState) → StandsFor p bytes m → (got : List ScriptLine) (plan : Planned) → IsPlanned m (command.At t cols) plan
-    → TakesAtMost (weight_told (accepted m (command.At t cols) got plan).reply.head) before after)
+    → TakesAtMost (weight_told (accepted m (command.At t cols) got plan).reply) before after)
     (λ x f m s got plan planned.
     let tree = tree_alone (arcs_of (edges_in m cols)) (Root ∷ []) (point_for m t) plan.steps planned in
     subst (λ w. TakesAtMost (w + heard_for m cols (t ∷ [])) before after) tree.2 (f m s tree.0 tree.1)) most)

@@ -59,8 +59,8 @@ pub record Asks (c : Command) (handle : ℕ) (overlay : Bool) (answer : Columns 
   pub unplanned : IsUnplanned c
   pub needed : (p : Parts) → refused_by p 0 (needs c) ≡ earliest (when (is_unknown handle p) (refusal.UnknownHandle handle) ++ (when (overlay && is_set (stands_at handle p.table)) (refusal.NotAnOverlay handle) ++ []))
   pub due : (m : MachineState) → accepted m c [] no_plan ≡ say m (answer (columns_by m handle) (shown_by m handle))
-  pub accepts : (cols : Columns) (graph : List Element) → is_refusal (answer cols graph).head ≡ false
-  pub fits : (cols : Columns) (graph : List Element) → IsHeadOf c (answer cols graph).head
+  pub accepts : (cols : Columns) (graph : List Element) → is_refusal (answer cols graph) ≡ false
+  pub fits : (cols : Columns) (graph : List Element) → Fits c (answer cols graph)
   pub names : (n : ℕ) (cols : Columns) (graph : List Element) → NamesAreThere n graph → ReplyNamesAreThere n (answer cols graph)
 
 module _ (c : Command) (handle : ℕ) (overlay : Bool) (answer : Columns → List Element → Reply) (asks : Asks c handle overlay answer) (p : Parts) where
@@ -93,9 +93,9 @@ module _ (c : Command) (handle : ℕ) (overlay : Bool) (answer : Columns → Lis
               ∙ ap (λ t. say m (answer (columns_if (stands_at handle t)) graph)) (sym s.table) ∙ ap (say m) (sym reply_is),
           stands_on p p x y m refl (one_image image image x y refl a b) s,
         ));
-    accepted = ap (λ (r : Reply). is_refusal r.head) reply_is ∙ asks.accepts asked_columns graph;
+    accepted = ap is_refusal reply_is ∙ asks.accepts asked_columns graph;
     free = ask_free live served;
-    fits = subst (λ (r : Reply). IsHeadOf c r.head) (sym reply_is) (asks.fits asked_columns graph);
+    fits = subst (Fits c) (sym reply_is) (asks.fits asked_columns graph);
     held = λ h. h;
     no_index = λ h. (h, refl);
     quiet = λ h. refl;

@@ -70,17 +70,17 @@ module _ (p : Parts) (cols : Columns) (times : List ℕ) (count : ℕ) (number :
           }),
           handles_stand p q x y m (take count times) cols weight singles bases graphs s (one_image before after x y same a b) (subst (λ n. 1 ≤ n) (sym number) some) free r is,
         )))
-        (ap (λ (r : Reply). is_refusal r.head) reply_is) (needed ∙ free) (subst (λ (r : Reply). IsHeadOf (command.Several cols times count) r.head) (sym reply_is) tt) same is
+        (ap is_refusal reply_is) (needed ∙ free) (subst (Fits (command.Several cols times count)) (sym reply_is) tt) same is
         (subst (ReplyNamesAreThere (length q.names)) (sym reply_is)
         (subst (All (LineNamesAreThere (length q.names))) (sym lines_are) (handle_names (length q.names) p.next (take count times) singles)))
 
     -- where it fails, the bytes read are at most what its reply would tell
-    pub several_fails : (image : Option (List ℕ)) (h : Head) (before after : ℕ) → is_refusal h ≡ true → is_early h ≡ false
+    pub several_fails : (image : Option (List ℕ)) (reply : Reply) (before after : ℕ) → is_refusal reply ≡ true → is_early reply ≡ false
         → IfSome image (λ bytes. (m : MachineState) → StandsFor p bytes m → TakesAtMostRetrieval m (take count times) cols before after)
-        → Reads (command.Several cols times count) p image h before after
-    several_fails image h before after refuses late most =
-        reads_failed (command.Several cols times count) p image h before after refl refuses late (λ m got reads. reads) (λ got. needed ∙ free)
+        → Reads (command.Several cols times count) p image reply before after
+    several_fails image reply before after refuses late most =
+        reads_failed (command.Several cols times count) p image reply before after refl refuses late (λ m got reads. reads) (λ got. needed ∙ free)
         (if_some image (λ bytes. (m : MachineState) → StandsFor p bytes m → TakesAtMostRetrieval m (take count times) cols before after)
         (λ bytes. (m : MachineState) → StandsFor p bytes m → (got : List ScriptLine) (plan : Planned) → IsPlanned m (command.Several cols times count) plan
-        → TakesAtMost (weight_told (accepted m (command.Several cols times count) got plan).reply.head) before after)
+        → TakesAtMost (weight_told (accepted m (command.Several cols times count) got plan).reply) before after)
         (λ x f m s got plan planned. f m s plan.grafts planned.0) most)

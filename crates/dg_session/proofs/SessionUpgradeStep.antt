@@ -151,7 +151,7 @@ module _ (p : Parts) (limit : ℕ) (limit_is : limit ≡ p.limits.file_bytes) (n
     upgrade_steps fits = steps_as (record { reply = headed head.Upgraded; state = upgraded_in }) (answer_fits fits)
 
     -- the file has too little room
-    full_steps : limit < needed_for_marker o → Step m (Asked command.Upgrade []) (headed (head.Refused (refusal.FileFull (needed_for_marker o) limit))) m
+    full_steps : limit < needed_for_marker o → Step m (Asked command.Upgrade []) (replied.Refused (refusal.FileFull (needed_for_marker o) limit)) m
     full_steps over =
         steps_as (refuse m (refusal.FileFull (needed_for_marker o) limit))
         (answer_as true (lt-ltb m.limits.file_bytes (size (with_upgrade z)) (omega (arith, over, needed, limits)))
@@ -206,9 +206,9 @@ module _ (p : Parts) (limit : ℕ) (limit_is : limit ≡ p.limits.file_bytes) (n
           subst (λ (r : Reply). Step m (Asked command.Upgrade []) r k) (sym reply_is) (upgrade_steps x m s fits),
           stands_upgraded x m s q y is (both_told before after GainsUpgrade gained x y a b),
         );
-    accepted = ap (λ (r : Reply). is_refusal r.head) reply_is;
+    accepted = ap is_refusal reply_is;
     free = none;
-    fits = subst (λ (r : Reply). IsHeadOf command.Upgrade r.head) (sym reply_is) tt;
+    fits = subst (Fits command.Upgrade) (sym reply_is) tt;
     held = λ holds.
         subst (λ (x : Parts). HoldsImage x after) (sym is)
         (still_held before after told opened (subst (λ (i : Option Opening). IfSome before (λ x. IsHeldBy i p.names x)) free.there holds));

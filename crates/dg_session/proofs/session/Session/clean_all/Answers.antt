@@ -34,9 +34,9 @@ returns-clause-swept c =
     let s = c.self.inside in
     let old = pool_in s.held.live.pool in
     let new = pool_in c.sweep_whole.new.pool in
-    subst (λ (x : SessionState). SweepsPool command.CleanAll x.pool new c.headed.result.head) c.self.view_is
-    (whole_sweep old new (length s.held.live.history.now.graph) c.cells_left-cells.result c.headed.result.head c.sweep_whole.ensures.graphs c.sweep_whole.ensures.whole c.cells_left-cells.ensures
-    (ap (λ (r : Reply). r.head) c.headed.ensures))
+    subst (λ (x : SessionState). SweepsPool command.CleanAll x.pool new c.headed.result) c.self.view_is
+    (whole_sweep old new (length s.held.live.history.now.graph) c.cells_left-cells.result c.headed.result c.sweep_whole.ensures.graphs c.sweep_whole.ensures.whole c.cells_left-cells.ensures
+    (ap (λ (r : Reply). r) c.headed.ensures))
 
 pub invariant_of-self : goal.invariant_of-self
 invariant_of-self c =

@@ -1,6 +1,6 @@
 use Rattle.std.proofs.Common.{◌≡◌, Option, subst, ◌∙◌, length, ap, false, refl}
 use Rattle.dg_machine.specs.declared.command.Command.TheVariants as command
-use Rattle.dg_machine.specs.declared.command.Query.TheVariants as query
+use Rattle.dg_machine.specs.declared.query.Query.TheVariants as query
 use Rattle.dg_machine.specs.declared.reply.Head.TheVariants as head
 use Rattle.dg_machine.specs.declared.stands.Stands.{Stands}
 use Rattle.dg_machine.specs.Answer.{columns_if, counting, headed}

@@ -1,7 +1,7 @@
 use Rattle.std.proofs.Common.{subst, ◌≡◌, List, length, map, refl, ◌∙◌, ap, rules, false}
 use Rattle.dg_graph.specs.declared.element.Element.{Element}
 use Rattle.dg_machine.specs.declared.command.Command.TheVariants as command
-use Rattle.dg_machine.specs.declared.command.Query.TheVariants as query
+use Rattle.dg_machine.specs.declared.query.Query.TheVariants as query
 use Rattle.dg_machine.specs.declared.reply.BodyLine.{BodyLine}
 use Rattle.dg_machine.specs.declared.reply.BodyLine.TheVariants as line
 use Rattle.dg_machine.specs.declared.reply.Head.TheVariants as head

@@ -3,7 +3,7 @@ use Rattle.std.specs.Prelude.{is_some}
 use Rattle.dg_append.specs.Overlays.{pool_of}
 use Rattle.dg_handles.specs.Handles.{graph_among, slot_graphs}
 use Rattle.dg_machine.specs.declared.command.Command.TheVariants as command
-use Rattle.dg_machine.specs.declared.command.Query.TheVariants as query
+use Rattle.dg_machine.specs.declared.query.Query.TheVariants as query
 use Rattle.dg_machine.specs.Answer.{neighbours_reply}
 use Rattle.dg_machine.specs.MachineState.{stands_at}
 use Rattle.dg_machine.specs.Needs.{is_set}
