@@ -23,13 +23,14 @@ use Rattle.dg_history.specs.declared.node.NodeId.{NodeId}
 use Rattle.dg_history.specs.declared.node.NodeId.TheVariants.{Root}
 use Rattle.dg_history.specs.History.{History}
 use Rattle.dg_index.specs.OpenedIndex.{Opening, earliest_in}
-use Rattle.dg_machine.specs.declared.reply.Head.{Head}
-use Rattle.dg_machine.specs.declared.reply.Head.TheVariants as head
 use Rattle.dg_machine.specs.declared.reply.Refusal.{Refusal}
 use Rattle.dg_machine.specs.declared.reply.Refusal.TheVariants as refusal
+use Rattle.dg_machine.specs.declared.reply.Reply.TheVariants as replied
+use Rattle.dg_machine.specs.declared.reply.Reply.{Reply}
 use Rattle.dg_machine.specs.MachineState.{MachineState}
 use Rattle.dg_machine.specs.Needs.{needs}
 use Rattle.dg_machine.specs.Planning.{record_edges_in}
+use Rattle.dg_machine.specs.Answer.{headed}
 use Rattle.dg_plan.specs.declared.edge.Edge.{Edge}
 use Rattle.dg_plan.specs.HistoryGraph.{all_columns}
 use Rattle.dg_plan.specs.IndexGraph.{arcs_of}
@@ -109,15 +110,10 @@ failed_reads from count p image fault.Read before after older none = batch_reads
 failed_reads from count p image fault.Memory before after older none = batch_reads from count p image _ before after older (λ e. absurd (false≢true e))
 failed_reads from count p image fault.Store before after older none = stopped_reads from count p image before after older
 
-not_early : (from : Origin) (graph : List Element) (events total last : ℕ) → is_early (head_over from graph events total last) ≡ false
-not_early (Lines_of Load) graph events total last = refl
-not_early (Lines_of Append) graph events total last = refl
-not_early (Seed seed) graph events total last = refl
-
 pub added_reads : (from : Origin) (count : ℕ) (p : Parts) (image : Option (List ℕ)) (graph : List Element) (events total last before after : ℕ) → ReadsNoMore p image count before after
-    → Reads (adding from count) p image (head_over from graph events total last) before after
+    → Reads (adding from count) p image (headed (head_over from graph events total last)) before after
 added_reads from count p image graph events total last before after older =
-    batch_reads from count p image (head_over from graph events total last) before after older (λ e. absurd (false≢true (sym (not_early from graph events total last) ∙ e)))
+    batch_reads from count p image (headed (head_over from graph events total last)) before after older (λ e. absurd (false≢true e))
 
 -- ---- why nothing is told of a read
 

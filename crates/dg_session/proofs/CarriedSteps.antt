@@ -13,19 +13,18 @@ use Rattle.dg_text.specs.Lines.{ScriptLine}
 use Rattle.dg_io.specs.declared.source.Source as source
 use Rattle.dg_io.specs.LinesState.{LinesState}
 use Rattle.dg_machine.proofs.Refusals.{store_read_refuses}
-use Rattle.dg_machine.specs.Answer.{headed}
 use Rattle.dg_machine.specs.declared.command.Command.{Command}
-use Rattle.dg_machine.specs.declared.reply.Head.TheVariants as head
 use Rattle.dg_machine.specs.declared.reply.Refusal.{Refusal}
 use Rattle.dg_machine.specs.declared.reply.Refusal.TheVariants as refusal
 use Rattle.dg_machine.specs.declared.reply.Reply.{Reply}
+use Rattle.dg_machine.specs.declared.reply.Reply.TheVariants as replied
 use Rattle.dg_machine.specs.Needs.{following, is_writing, needs}
 use Rattle.dg_session.proofs.CommandCrashes.{OnlyNow, reading_left, refused_left}
 use Rattle.dg_file.specs.TidyImages.{StaysTidy}
 use Rattle.dg_session.proofs.CommandDisks.{every_answer, every_err, reading_tidy}
 use Rattle.dg_session.proofs.DamageStep.{met_nothing, never_for_damage, reads_undamaged}
 use Rattle.dg_session.proofs.ReadsStep.{fails_no_read, followed_by_none, reads_none, reads_nothing, store_read_is}
-use Rattle.dg_session.proofs.ReplyNames.{head_names, names_stay}
+use Rattle.dg_session.proofs.ReplyNames.{names_stay}
 use Rattle.dg_session.proofs.SessionPoolStep.{nothing_swept}
 use Rattle.dg_session.proofs.SessionSteps.{Carried, HasItsLines, alone, answered, refused_so}
 use Rattle.dg_session.proofs.VerifiedStep.{refused_verifies, unverified}
@@ -127,17 +126,16 @@ module _ {S D : Type 0} {s : source.Ghosts S} {d : disk.Ghosts D} {c : Command} 
       }
 
   -- it is refused
-  pub refused_answers : (r : Result Reply Halt) (why : Refusal) (reply : Reply) → r ≡ Err (halt.Refusal why) → reply ≡ replied.Refused why → HoldsImage old.parts (d.image before)
-      → CarriesOut s d c lines from then_lines then_from old before new after r → AnswersCommand s d c lines from then_lines then_from old before new after reply
-  refused_answers r why reply is reply_is holds carries =
+  pub refused_answers : (r : Result Reply Halt) (why : Refusal) → r ≡ Err (halt.Refusal why) → HoldsImage old.parts (d.image before)
+      → CarriesOut s d c lines from then_lines then_from old before new after r → AnswersCommand s d c lines from then_lines then_from old before new after (replied.Refused why)
+  refused_answers r why is holds carries =
       let k = subst (CarriesOut s d c lines from then_lines then_from old before new after) is carries in
-      let n : Denies c k.comes.0 old.parts (d.image before) new.parts (d.image after) why = k.comes.2 in
-      subst (AnswersCommand s d c lines from then_lines then_from old before new after) (sym reply_is) (record {
+      let n : Denies c k.comes.0 old.parts (d.image before) new.parts (d.image after) why = k.comes.2 in record {
         step = refused_so c (TakesFollowing s c lines from then_lines then_from) (CutsFollowing s c lines from then_lines then_from) old.parts (d.image before) new.parts (d.image after) why (LeftByCrash d before after)
             (λ got left. refused_left d before after c got old.parts (replied.Refused why) left) k.comes;
         held = still_held old.parts new.parts (d.image before) (d.image after) n.as_before holds;
         refused = λ e. n.as_before;
-        named = head_names (length new.parts.names) (replied.Refused why) (replied.Refused why) refl;
+        named = tt;
         keeps_names = names_stay old.parts.names new.parts.names (ap (λ (x : Parts). x.names) n.as_before.same);
         no_index = λ none. (ap (λ (x : Parts). x.index) (sym n.as_before.same) ∙ none, n.as_before.same_image);
         store_read = λ e. k.causes.store_read (ap (λ (x : Refusal). Err (halt.Refusal x)) (store_read_is why e));
@@ -149,7 +147,7 @@ module _ {S D : Type 0} {s : source.Ghosts S} {d : disk.Ghosts D} {c : Command} 
         settled = frames.reads_stay before after (k.unwritten (λ e. cc));
         exact = reading_tidy d before after (k.unwritten (λ e. cc));
         unwritten = λ refuses. k.unwritten (λ e. cc);
-      })
+      }
 
   -- it is stopped
   pub stopped_so : (r : Result Reply Halt) (why : Stop) → r ≡ Err (halt.Stop why)

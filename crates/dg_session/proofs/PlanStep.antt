@@ -46,7 +46,7 @@ use Rattle.dg_batch.specs.declared.stop.Stop.{Stop}
 use Rattle.dg_batch.specs.declared.stop.Stop.TheVariants as stop
 use Rattle.dg_session.proofs.SessionSteps.{Comes, lacking_denies, moved, moved_by, refused_denies}
 use Rattle.dg_batch.specs.BatchLines.{first_refusal}
-use Rattle.dg_session.specs.Decided.{IsHeadOf}
+use Rattle.dg_session.specs.Decided.{Fits}
 use Rattle.dg_session.specs.Parts.{Parts}
 use Rattle.dg_retrieval.specs.KeptGraph.{holding, index_edges, kept_edges, kept_nodes, record_edges, shape_with}
 use Rattle.dg_ask.specs.HeldIndex.{catalogue_of, point_over, span_held}

@@ -31,7 +31,7 @@ use Rattle.dg_session.proofs.PartStates.{AreOf, are_of, both_told, graph_in, no_
 use Rattle.dg_session.proofs.SessionSteps.{accepted_is, accepted_steps, is_accepted, lacking_denies, moved}
 use Rattle.dg_batch.specs.Halt.{creation_halt}
 use Rattle.dg_session.specs.CreationCommand.{making, params_asked, share_asked}
-use Rattle.dg_session.specs.Decided.{IsHeadOf}
+use Rattle.dg_session.specs.Decided.{Fits, IsHeadOf}
 use Rattle.dg_session.specs.declared.creation_command.AskedFunction.{AskedFunction}
 use Rattle.dg_session.specs.declared.creation_command.AskedFunction.TheVariants.{Named, Share}
 use Rattle.dg_session.specs.Parts.{Parts}

@@ -15,7 +15,6 @@ use Rattle.dg_index.specs.OpenedIndex.{Opening, opened_of}
 use Rattle.dg_machine.specs.declared.command.Command.{Command}
 use Rattle.dg_machine.specs.declared.command.Command.TheVariants as command
 use Rattle.dg_machine.specs.declared.limits.TheConstants.{INDEXES_MAX}
-use Rattle.dg_machine.specs.declared.reply.Head.{Head}
 use Rattle.dg_machine.specs.declared.reply.Head.TheVariants as head
 use Rattle.dg_machine.specs.declared.reply.Refusal.TheVariants as refusal
 use Rattle.dg_machine.specs.declared.reply.Reply.{Reply}
@@ -36,7 +35,7 @@ use Rattle.dg_session.proofs.ReplyNames.{head_names, names_stay}
 use Rattle.dg_session.proofs.SessionRetrievals.{IsSession, if_some, moved_with, reads_failed, z_of}
 use Rattle.dg_session.specs.BatchReads.{is_early}
 use Rattle.dg_session.specs.Damage.{TellsListDamage}
-use Rattle.dg_session.specs.Decided.{IsHeadOf}
+use Rattle.dg_session.specs.Decided.{Fits}
 use Rattle.dg_session.specs.Parts.{Parts}
 use Rattle.dg_session.specs.Reads.{IndexesFor, Reads, with_new_index}
 use Rattle.dg_session.specs.Session.{Accepts, HoldsImage, StandsFor, index_needs, indexed_keys, is_indexed_by, refused_by}

@@ -10,7 +10,6 @@ use Rattle.dg_handles.specs.Handles.{overlays_on}
 use Rattle.dg_history.specs.declared.node.NodeId.{NodeId}
 use Rattle.dg_history.specs.declared.node.NodeId.TheVariants.{Root}
 use Rattle.dg_machine.specs.declared.command.Command.TheVariants as command
-use Rattle.dg_machine.specs.declared.reply.Head.{Head}
 use Rattle.dg_machine.specs.declared.reply.Head.TheVariants as head
 use Rattle.dg_machine.specs.declared.reply.Reply.{Reply}
 use Rattle.dg_machine.specs.Answer.{accepted, base_for, headed, heard_for, is_refusal, overlays, weight_told, with_handles}
@@ -22,7 +21,7 @@ use Rattle.dg_plan.specs.Walks.{Arc, Graft, IsPlan, IsTree, steps_of, tree_weigh
 use Rattle.dg_session.proofs.ReplyNames.{head_names}
 use Rattle.dg_session.proofs.SessionRetrievals.{handles_stand, if_some, moved_with, overlays_same, reads_failed, retrieval_accepted}
 use Rattle.dg_session.proofs.PartStates.{one_image, one_told}
-use Rattle.dg_session.specs.Decided.{IsHeadOf}
+use Rattle.dg_session.specs.Decided.{Fits}
 use Rattle.dg_session.specs.Parts.{Parts}
 use Rattle.dg_session.specs.BatchReads.{is_early}
 use Rattle.dg_session.specs.Reads.{IsRetrieved, Reads, TakesAtMostRetrieval, with_new_handles}

@@ -13,7 +13,6 @@ use Rattle.dg_history.specs.declared.node.NodeId.TheVariants.{Root}
 use Rattle.dg_history.specs.History.{History}
 use Rattle.dg_machine.specs.declared.command.Command.TheVariants as command
 use Rattle.dg_machine.specs.declared.limits.TheConstants.{HANDLE_MAX, LIVE_HANDLES_MAX}
-use Rattle.dg_machine.specs.declared.reply.Head.{Head}
 use Rattle.dg_machine.specs.declared.reply.Head.TheVariants as head
 use Rattle.dg_machine.specs.declared.reply.Refusal.TheVariants as refusal
 use Rattle.dg_machine.specs.declared.reply.Reply.{Reply}
@@ -41,7 +40,7 @@ use Rattle.dg_session.proofs.PlanStep.{records_edges_in}
 use Rattle.dg_session.proofs.SessionRetrievals.{every_some, handles_taken, if_some, moved_with, reads_failed, retrieval_accepted, z_of}
 use Rattle.dg_session.proofs.PartStates.{events_are, events_there, hit, is_of, last_passes, miss, one_image, one_told, params_are, passes}
 use Rattle.dg_ask.specs.HeldIndex.{has_node_held}
-use Rattle.dg_session.specs.Decided.{IsHeadOf}
+use Rattle.dg_session.specs.Decided.{Fits}
 use Rattle.dg_session.specs.Parts.{Parts}
 use Rattle.dg_retrieval.specs.Calls.{LeadsToNode, LeadsToNodeOver}
 use Rattle.dg_retrieval.specs.NamesThere.{NamesAreThere}

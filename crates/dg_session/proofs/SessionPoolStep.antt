@@ -5,7 +5,6 @@ use Rattle.dg_append.specs.Overlays.{SameOverlay}
 use Rattle.dg_handles.specs.Handles.{IsSweptWhole}
 use Rattle.dg_machine.specs.declared.command.Command.{Command}
 use Rattle.dg_machine.specs.declared.command.Command.TheVariants as command
-use Rattle.dg_machine.specs.declared.reply.Head.{Head}
 use Rattle.dg_machine.specs.declared.reply.Head.TheVariants as head
 use Rattle.dg_machine.specs.declared.reply.Reply.{Reply}
 use Rattle.dg_machine.specs.Answer.{accepted, headed, is_refusal, say}
@@ -15,14 +14,14 @@ use Rattle.dg_machine.specs.Planning.{no_plan}
 use Rattle.dg_pool.specs.Graphs.{PoolState}
 use Rattle.dg_pool.specs.Sweeps.{cells_of}
 use Rattle.dg_session.proofs.ReplyNames.{head_names, names_stay}
-use Rattle.dg_session.specs.ReplyNames.{ReplyNamesAreThere}
 use Rattle.dg_session.proofs.PartStates.{kept, one_image, stands_on}
 use Rattle.dg_session.proofs.SessionSteps.{IsUnplanned, moved}
-use Rattle.dg_session.specs.Decided.{IsHeadOf}
+use Rattle.dg_session.specs.Decided.{Fits}
 use Rattle.dg_session.specs.Parts.{Parts}
 use Rattle.dg_session.specs.Session.{Accepts, StandsFor, refused_by}
 use Rattle.dg_session.specs.Sweeps.{All_cells, IsNoSweep, No_cell, Some_cells, Sweep, SweepsOverlay, SweepsPool}
 use Rattle.dg_stored.specs.StoredHistory.{IsHeldBy}
+use Rattle.dg_ask.specs.ReplyNames.{ReplyNamesAreThere}
 
 -- a command that needs nothing and changes nothing that the machine knows
 stays : (c : Command) (p q : Parts) (image : Option (List ℕ)) (reply : Reply) → IsUnplanned c → refused_by p 0 (needs c) ≡ None → q ≡ p

@@ -27,7 +27,7 @@ use Rattle.dg_ask.proofs.HeldIndexHandles.{kept_same}
 use Rattle.dg_session.proofs.ReplyNames.{head_names, names_stay}
 use Rattle.dg_session.proofs.PartStates.{hit, kept, miss, one_image, parts_of, stands}
 use Rattle.dg_session.proofs.SessionSteps.{moved}
-use Rattle.dg_session.specs.Decided.{IsHeadOf}
+use Rattle.dg_session.specs.Decided.{Fits}
 use Rattle.dg_session.specs.Parts.{Parts}
 use Rattle.dg_session.specs.Session.{Accepts, StandsFor, is_of_node, is_reached, refused_by}
 use Rattle.dg_stored.specs.StoredHistory.{IsHeldBy}

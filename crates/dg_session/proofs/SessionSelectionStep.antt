@@ -26,7 +26,6 @@ use Rattle.dg_history.specs.History.{History, events_of, span_of}
 use Rattle.dg_index.specs.OpenedIndex.{Opening}
 use Rattle.dg_machine.specs.declared.command.Command.{Command}
 use Rattle.dg_machine.specs.declared.command.Command.TheVariants as command
-use Rattle.dg_machine.specs.declared.reply.Head.{Head}
 use Rattle.dg_machine.specs.declared.reply.Head.TheVariants as head
 use Rattle.dg_machine.specs.declared.reply.Reply.{Reply}
 use Rattle.dg_machine.specs.declared.selection.Selection.{Selection}
@@ -46,7 +45,7 @@ use Rattle.dg_session.proofs.PartStates.{events_there, instants_are, one_image, 
 use Rattle.dg_session.proofs.ReplyNames.{head_names}
 use Rattle.dg_session.proofs.SessionRetrievals.{handles_taken, if_some, is_out, moved_with, reads_failed, retrieval_accepted, retrieval_free}
 use Rattle.dg_session.specs.BatchReads.{is_early}
-use Rattle.dg_session.specs.Decided.{IsHeadOf}
+use Rattle.dg_session.specs.Decided.{Fits}
 use Rattle.dg_session.specs.Parts.{Parts}
 use Rattle.dg_session.specs.Reads.{IsRetrieved, Reads, TakesAtMostRetrieval, with_new_handles}
 use Rattle.dg_session.specs.Session.{Accepts, StandsFor, is_reached, refused_by, retrieval_needs}

@@ -6,12 +6,11 @@ use Rattle.std.proofs.lemmas.Option.{none-some}
 use Rattle.dg_graph.specs.declared.limits.TheConstants.{SKEW_MAX}
 use Rattle.dg_text.specs.Lines.{ScriptLine}
 use Rattle.dg_machine.specs.declared.command.Command.{Command}
-use Rattle.dg_machine.specs.declared.reply.Head.{Head}
-use Rattle.dg_machine.specs.declared.reply.Head.TheVariants as head
 use Rattle.dg_machine.specs.declared.reply.Refusal.{Refusal}
 use Rattle.dg_machine.specs.declared.reply.Refusal.TheVariants as refusal
 use Rattle.dg_machine.specs.declared.reply.Reply.{Reply}
-use Rattle.dg_machine.specs.Answer.{Answered, IsPlannedBy, accepted, answer, answer_by, headed, is_begun, is_behind_reads, no_memory, is_refusal, refusal_of, store_read}
+use Rattle.dg_machine.specs.declared.reply.Reply.TheVariants as replied
+use Rattle.dg_machine.specs.Answer.{Answered, IsPlannedBy, accepted, answer, answer_by, is_begun, is_behind_reads, no_memory, is_refusal, refusal_of, store_read}
 use Rattle.dg_machine.specs.CutImage.{IsAcceptedWrite}
 use Rattle.dg_machine.specs.MachineState.{MachineState, stands_at, dependent_on}
 use Rattle.dg_history.specs.History.{are_parameters}
@@ -30,7 +29,7 @@ use Rattle.dg_session.specs.Parts.{Parts}
 use Rattle.dg_batch.specs.declared.halt.Halt.{Halt}
 use Rattle.dg_batch.specs.declared.halt.Halt.TheVariants as halt
 use Rattle.dg_batch.specs.declared.stop.Stop.TheVariants as stop
-use Rattle.dg_session.specs.Decided.{IsHeadOf}
+use Rattle.dg_session.specs.Decided.{Fits}
 use Rattle.dg_session.specs.Session.{Accepts, ComesTo, Decides, Denies, IsDecided, LeavesAnswered, LeavesCommand, MayRead, Moves, StandsFor, Steps, TakesLines, WhereBothTold, is_indexed_by, is_of_read, is_too_full, is_wide_held, refused_by}
 
 -- ---- of the machine

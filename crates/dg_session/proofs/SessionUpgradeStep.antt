@@ -25,6 +25,7 @@ use Rattle.dg_machine.specs.declared.limits.Limits.{Limits}
 use Rattle.dg_machine.specs.declared.reply.Head.TheVariants as head
 use Rattle.dg_machine.specs.declared.reply.Refusal.TheVariants as refusal
 use Rattle.dg_machine.specs.declared.reply.Reply.{Reply}
+use Rattle.dg_machine.specs.declared.reply.Reply.TheVariants as replied
 use Rattle.dg_machine.specs.declared.stands.Stands.{Stands}
 use Rattle.dg_machine.specs.declared.stands.Stands.TheVariants.{Overlay, Base, Selected}
 use Rattle.dg_machine.specs.declared.selection.Selection.TheVariants.{Chosen, Added}
@@ -38,7 +39,7 @@ use Rattle.dg_machine.specs.Script.{Asked}
 use Rattle.dg_session.proofs.PartStates.{IsOf, both_told, is_of, opening_of, passes, refused_is, stands}
 use Rattle.dg_session.proofs.ReplyNames.{head_names, names_stay}
 use Rattle.dg_session.proofs.SessionSteps.{accepted_is, accepted_steps, denied_at, is_accepted}
-use Rattle.dg_session.specs.Decided.{IsHeadOf}
+use Rattle.dg_session.specs.Decided.{Fits}
 use Rattle.dg_session.specs.Parts.{Parts}
 use Rattle.dg_session.specs.Session.{Accepts, ComesTo, CutsOff, Denies, HoldsImage, StandsFor, is_reached, is_wide_held, refused_by}
 use Rattle.dg_session.specs.Upgrade.{MarksHeld, upgrade_halt}

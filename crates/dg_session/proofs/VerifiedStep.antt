@@ -27,11 +27,11 @@ use Rattle.dg_index.specs.OpenedIndex.{Opened, Opening, bare, directory_of, entr
 use Rattle.dg_index.proofs.OpenedIndexRecords.{told_at}
 use Rattle.dg_machine.specs.declared.command.Command.{Command}
 use Rattle.dg_machine.specs.declared.command.Command.TheVariants as command
-use Rattle.dg_machine.specs.declared.reply.Head.{Head}
 use Rattle.dg_machine.specs.declared.reply.Head.TheVariants as head
 use Rattle.dg_machine.specs.declared.reply.Refusal.{Refusal}
 use Rattle.dg_machine.specs.declared.reply.Refusal.TheVariants as refusal
 use Rattle.dg_machine.specs.declared.reply.Reply.{Reply}
+use Rattle.dg_machine.specs.declared.reply.Reply.TheVariants as replied
 use Rattle.dg_machine.specs.Answer.{headed, is_refusal, verify_reply}
 use Rattle.dg_machine.specs.MachineState.{MachineState, history_in}
 use Rattle.dg_machine.specs.Needs.{needs}
@@ -45,7 +45,7 @@ use Rattle.dg_session.proofs.SessionRetrievals.{every_some}
 use Rattle.dg_session.proofs.PartStates.{IsOf, hit, is_of, miss, one_image, one_told, stands_on}
 use Rattle.dg_session.proofs.SessionSteps.{failing_accepted, lacking_denies, moved}
 use Rattle.dg_session.specs.Damage.{DamageIn}
-use Rattle.dg_session.specs.Decided.{IsHeadOf}
+use Rattle.dg_session.specs.Decided.{Fits}
 use Rattle.dg_session.specs.Parts.{Parts}
 use Rattle.dg_session.specs.BatchReads.{is_early}
 use Rattle.dg_session.specs.HistoryBytes.{record_length, records_length}
@@ -208,8 +208,8 @@ verify_unread p image reply before after same =
     (every_some image (λ bytes. (m : MachineState) → StandsFor p bytes m → TakesAtMost (records_length (history_in m.index)) before after)
     (λ bytes m s. none_read (records_length (history_in m.index)) before after same))
 
-pub verified_reads : (p : Parts) (image : Option (List ℕ)) (s : Soundness) (before after : ℕ) → ReadsRecords p image before after → Reads command.Verify p image (head.Verified s) before after
-verified_reads p image s before after reads = verify_reads p image (head.Verified s) before after (λ e. absurd (false≢true e)) (records_read p image before after reads)
+pub verified_reads : (p : Parts) (image : Option (List ℕ)) (s : Soundness) (before after : ℕ) → ReadsRecords p image before after → Reads command.Verify p image (headed (head.Verified s)) before after
+verified_reads p image s before after reads = verify_reads p image (headed (head.Verified s)) before after (λ e. absurd (false≢true e)) (records_read p image before after reads)
 
 pub failed_reads : (p : Parts) (image : Option (List ℕ)) (f : VerifyFault) (before after : ℕ) → ReadsRecords p image before after → ReadsIn command.Verify p image (Err (verify_halt f)) before after
 failed_reads p image fault.Disk before after reads = verify_reads p image (replied.Refused refusal.StoreRead) before after (λ e. absurd (false≢true e)) (records_read p image before after reads)

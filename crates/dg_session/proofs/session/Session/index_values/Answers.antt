@@ -3,9 +3,9 @@ use Rattle.dg_batch.specs.declared.halt.Halt.TheVariants as halt
 use Rattle.dg_batch.specs.Halt.{retrieval_halt}
 use Rattle.dg_machine.specs.declared.command.Command.{Command}
 use Rattle.dg_machine.specs.declared.command.Command.TheVariants as command
-use Rattle.dg_machine.specs.declared.reply.Head.TheVariants as head
 use Rattle.dg_machine.specs.declared.reply.Refusal.TheVariants as refusal
 use Rattle.dg_machine.specs.declared.reply.Reply.{Reply}
+use Rattle.dg_machine.specs.declared.reply.Reply.TheVariants as replied
 use Rattle.dg_machine.specs.Needs.{needs}
 use Rattle.dg_machine.specs.ValueIndex.{key_text}
 use Rattle.dg_range.specs.ListValues.{values_along}

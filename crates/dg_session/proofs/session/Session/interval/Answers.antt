@@ -7,6 +7,7 @@ use Rattle.dg_machine.specs.declared.command.Command.TheVariants as command
 use Rattle.dg_machine.specs.declared.reply.Head.TheVariants as head
 use Rattle.dg_machine.specs.declared.reply.Refusal.TheVariants as refusal
 use Rattle.dg_machine.specs.declared.reply.Reply.{Reply}
+use Rattle.dg_machine.specs.declared.reply.Reply.TheVariants as replied
 use Rattle.dg_machine.specs.declared.selection.Selection.TheVariants.{Added}
 use Rattle.dg_machine.specs.Needs.{needs}
 use Rattle.dg_session.proofs.DamageStep.{list_damage_in, none_met, tells_no_damage}

@@ -3,6 +3,7 @@ use Rattle.std.specs.Prelude.{IfSome}
 use Rattle.dg_machine.specs.declared.command.Command.TheVariants as command
 use Rattle.dg_machine.specs.declared.reply.Head.TheVariants as head
 use Rattle.dg_machine.specs.declared.reply.Refusal.TheVariants as refusal
+use Rattle.dg_machine.specs.declared.reply.Reply.TheVariants as replied
 use Rattle.dg_handles.specs.Handles.{overlays_on}
 use Rattle.dg_machine.specs.Answer.{handle_lines}
 use Rattle.dg_machine.specs.MachineState.{MachineState}
@@ -79,7 +80,7 @@ returns-clause-comes g c =
     (c.in_ok-add_handles.ensures.added ∙ (λ i. with_new_handles (same i) (overlays_on cols (asked i) (bases_of (leads_in r.leads))) (map (led_to (same i).graph (listed_by (same i)) cols) (leads_in r.leads))))
     c.in_ok-retrieved.ensures.done.sum
     (c.in_ok-lines.ensures ∙ (let singles : c.deref.result.now ≡ r.singles.items = c.deref.ensures.value in λ i. handle_lines (next i) (asked i) (singles i)))
-    (let body = c.from_vec.ensures in λ i. record { head = head.Several r.weight r.sum; body = body i })
+    (let body = c.from_vec.ensures in λ i. replied.Answered (head.Several r.weight r.sum) (body i))
 
 pub returns-in-Some-clause-file : goal.returns-in-Some-clause-file
 returns-in-Some-clause-file g c = record {
