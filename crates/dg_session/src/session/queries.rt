@@ -30,8 +30,7 @@ impl Session {
         ensures no_stop { (stop : Stop) → result ≡ Err (Halt.Stop stop) → ⊥ }
     {
         let asked = asked_graph(&self.held.handles, &self.held.live.pool, handle, query)?;
-        let reply = answer(self.alloc, &mut self.held.adjacency, &asked, query)?;
-        Ok(reply)
+        Ok(answer(self.alloc, &mut self.held.adjacency, &asked, query)?)
     }
 }
 
