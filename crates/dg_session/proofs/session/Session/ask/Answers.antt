@@ -1,6 +1,6 @@
 use Rattle.std.proofs.Common.{[], sym, subst}
 use Rattle.dg_machine.specs.declared.command.Command.TheVariants as command
-use Rattle.dg_machine.specs.declared.command.Query.{Query}
+use Rattle.dg_machine.specs.declared.query.Query.{Query}
 use Rattle.dg_session.specs.Session.{ComesTo}
 use Rattle.dg_session.proofs.session.Session.ask.Goals as goal
 

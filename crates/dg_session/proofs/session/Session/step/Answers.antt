@@ -15,7 +15,7 @@ returns-clause-answers g c =
           (carried_as c.forget_after.new.self r (c.forget_after.ensures.kept (λ e. not_ok r w.in-Ok.reply (halt.Stop stop.Store) e w.in-Ok.is)) c.carry_out-outcome.ensures.carries))
       | in-Err-Refusal w ↦ rw w.result-is
           (let is = w.in-Err-Refusal.is ∙ ap (λ h. Err h) (rw w.in-Err-Refusal.is at w.in-Err-Refusal.field-0-is) in
-          refused_answers r w.in-Err-Refusal.refusal w.headed.result is w.headed.ensures c.requires.image
+          refused_answers r w.in-Err-Refusal.refusal is c.requires.image
           (carried_as c.forget_after.new.self r (c.forget_after.ensures.kept (refused_not_store r w.in-Err-Refusal.refusal is)) c.carry_out-outcome.ensures.carries))
       | in-Err-Stop w ↦ rw w.result-is tt
     ]
