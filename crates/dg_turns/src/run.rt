@@ -37,7 +37,7 @@ pub fn answer_script<R: Threads + Sync, S: Source, K: Sink, W, M: Machine<W>>(
 {
     let mut lines = Lines::new(limit);
     loop {
-        match next_turn(rt, alloc, commands, machine, world, &mut lines, source) {
+        match next_turn(rt, commands, machine, world, &mut lines, source) {
             Ok(Turn::Skipped) => {}
             Ok(Turn::Replied(reply)) => {
                 if write_reply(sink, machine.names(), &reply).is_err() {
