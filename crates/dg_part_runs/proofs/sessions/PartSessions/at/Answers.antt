@@ -22,7 +22,7 @@ returns-in-Ok-add g c = record {
       (written_back c.args.self.now.sessions c.deref_mut.result.now c.read_parts.new.sessions c.deref_mut.ensures.value (ap length c.read_parts.ensures.same)
       ∙ c.read_parts.ensures.same ∙ c.deref_mut.ensures.value) refl c.read_parts.ensures.disks c.in-Ok-add.handle c.in-Ok.weight c.in-Ok.set
       (λ limits. subst (λ (l : List SessionState). ReadsParts limits l (images_of g.D.Disk c.args.disks.now) c.args.t c.args.cols (Ok (c.in-Ok.set, c.in-Ok.weight))) c.deref_mut.ensures.value (c.in-Ok.ensures.reads limits))
-      c.in-Ok-add.ensures.added c.in-Ok-add.ensures.handle;
+      c.in-Ok-add.ensures.added c.in-Ok-add.ensures.handle c.headed.result c.headed.ensures;
 }
 
 pub returns-in-Err-add : goal.returns-in-Err-add
