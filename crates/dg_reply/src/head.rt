@@ -1,20 +1,17 @@
-//! The head lines of replies, by what a command came to.
-ghost use Rattle.std.specs.Prelude.{◌≡◌, ◌≤◌, ◌++◌, [], ◌∷◌, map, take, codes, decimal, if◌then◌else◌};
+//! The first lines of answers, by what a command came to.
+ghost use Rattle.std.specs.Prelude.{◌≡◌, ◌≤◌, ◌++◌, [], ◌∷◌, map, take, codes, decimal};
 ghost use Rattle.dg_machine.specs.ReplyText.{head_words, function_words, soundness_words, verdict_words};
 ghost use Rattle.dg_reply.specs.Buffered.{word_bytes};
 
-use crate::refusal::refusal_line;
+use crate::query::query_line;
 use crate::reply_buffer::Word;
-use crate::reply_line::{ReplyLine, WORDS_MAX, column_letter};
+use crate::reply_line::{OK, ReplyLine, WORDS_MAX, column_letter};
 use dg_graph::Function;
 use dg_machine::Head;
 use dg_plan::Verdict;
-use dg_query::Counts;
 use dg_sound::Soundness;
 
-const OK: Word<'static> = Word::Text(b"ok");
-
-/// The line of a head.
+/// The first line of an answer.
 pub(crate) fn head_line(head: &Head) -> ReplyLine<'static>
     ensures words { map word_bytes (take result.len result.words) ≡ head_words head.now }
     ensures len { result.len ≤ WORDS_MAX }
@@ -37,15 +34,7 @@ pub(crate) fn head_line(head: &Head) -> ReplyLine<'static>
         Head::Materialised { handle, weight } => {
             numbers_line(b"materialise", u64::from(handle), weight)
         }
-        Head::List { handle, lines } => numbers_line(b"list", u64::from(handle), lines),
-        Head::Counts {
-            handle,
-            counts,
-            with_messages,
-        } => counts_line(handle, counts, with_messages),
-        Head::NodeThere { handle, id, degree } => node_there_line(handle, id, degree),
-        Head::NodeAbsent { handle, id } => node_absent_line(handle, id),
-        Head::Neighbours { handle, id, lines } => neighbours_line(handle, id, lines),
+        Head::Asked { handle, told } => query_line(handle, told),
         Head::Released { handle } => {
             ReplyLine::of(&[OK, Word::Text(b"release"), Word::Number(u64::from(handle))])
         }
@@ -75,11 +64,10 @@ pub(crate) fn head_line(head: &Head) -> ReplyLine<'static>
         Head::Added { handle, weight } => numbers_line(b"interval", u64::from(handle), weight),
         Head::Indexed { spans, weight } => numbers_line(b"index", spans, weight),
         Head::Found { lines } => ReplyLine::of(&[OK, Word::Text(b"find"), Word::Number(lines)]),
-        Head::Refused(refusal) => refusal_line(refusal),
     }
 }
 
-// The head line of a batch: its events, those of the history, and the last instant.
+// The first line of a batch: its events, those of the history, and the last instant.
 fn batch_line(verb: &'static [u8], events: u64, total: u64, last: u64) -> ReplyLine<'static>
     ensures words { map word_bytes (take result.len result.words) ≡ codes "ok" ∷ verb.now ∷ decimal events ∷ decimal total ∷ decimal last ∷ [] }
     ensures len { result.len ≤ WORDS_MAX }
@@ -93,7 +81,7 @@ fn batch_line(verb: &'static [u8], events: u64, total: u64, last: u64) -> ReplyL
     ])
 }
 
-// The head line of a command with two numbers: a handle, a weight or how many handles live, and another.
+// The first line of a command with two numbers: a handle, a weight or how many handles live, and another.
 fn numbers_line(verb: &'static [u8], first: u64, second: u64) -> ReplyLine<'static>
     ensures words { map word_bytes (take result.len result.words) ≡ codes "ok" ∷ verb.now ∷ decimal first ∷ decimal second ∷ [] }
     ensures len { result.len ≤ WORDS_MAX }
@@ -106,70 +94,7 @@ fn numbers_line(verb: &'static [u8], first: u64, second: u64) -> ReplyLine<'stat
     ])
 }
 
-// The head line of how many elements of each kind a handle has, and how many messages where its columns have these.
-fn counts_line(handle: u32, counts: Counts, with_messages: bool) -> ReplyLine<'static>
-    ensures words { map word_bytes (take result.len result.words) ≡ codes "ok" ∷ codes "counts" ∷ decimal handle ∷ decimal counts.nodes ∷ decimal counts.edges ∷ decimal counts.node_attrs ∷ decimal counts.edge_attrs ∷ (if with_messages then decimal counts.messages ∷ [] else []) }
-    ensures len { result.len ≤ WORDS_MAX }
-{
-    let mut line = ReplyLine::of(&[
-        OK,
-        Word::Text(b"counts"),
-        Word::Number(u64::from(handle)),
-        Word::Number(counts.nodes),
-        Word::Number(counts.edges),
-        Word::Number(counts.node_attrs),
-        Word::Number(counts.edge_attrs),
-    ]);
-    if with_messages {
-        line.put(Word::Number(counts.messages));
-    }
-    line
-}
-
-// The head line of a node that is in a handle's graph: how many edges it has.
-fn node_there_line(handle: u32, id: u64, degree: u64) -> ReplyLine<'static>
-    ensures words { map word_bytes (take result.len result.words) ≡ codes "ok" ∷ codes "node" ∷ decimal handle ∷ decimal id ∷ codes "yes" ∷ decimal degree ∷ [] }
-    ensures len { result.len ≤ WORDS_MAX }
-{
-    ReplyLine::of(&[
-        OK,
-        Word::Text(b"node"),
-        Word::Number(u64::from(handle)),
-        Word::Number(id),
-        Word::Text(b"yes"),
-        Word::Number(degree),
-    ])
-}
-
-// The head line of a node that is not in a handle's graph.
-fn node_absent_line(handle: u32, id: u64) -> ReplyLine<'static>
-    ensures words { map word_bytes (take result.len result.words) ≡ codes "ok" ∷ codes "node" ∷ decimal handle ∷ decimal id ∷ codes "no" ∷ [] }
-    ensures len { result.len ≤ WORDS_MAX }
-{
-    ReplyLine::of(&[
-        OK,
-        Word::Text(b"node"),
-        Word::Number(u64::from(handle)),
-        Word::Number(id),
-        Word::Text(b"no"),
-    ])
-}
-
-// The head line of the edges at a node: how many lines follow.
-fn neighbours_line(handle: u32, id: u64, lines: u64) -> ReplyLine<'static>
-    ensures words { map word_bytes (take result.len result.words) ≡ codes "ok" ∷ codes "neighbours" ∷ decimal handle ∷ decimal id ∷ decimal lines ∷ [] }
-    ensures len { result.len ≤ WORDS_MAX }
-{
-    ReplyLine::of(&[
-        OK,
-        Word::Text(b"neighbours"),
-        Word::Number(u64::from(handle)),
-        Word::Number(id),
-        Word::Number(lines),
-    ])
-}
-
-// The head line of a sweep of all cells: how many are left.
+// The first line of a sweep of all cells: how many are left.
 fn cleaned_all_line(cells: u64) -> ReplyLine<'static>
     ensures words { map word_bytes (take result.len result.words) ≡ codes "ok" ∷ codes "clean" ∷ codes "all" ∷ decimal cells ∷ [] }
     ensures len { result.len ≤ WORDS_MAX }
@@ -182,7 +107,7 @@ fn cleaned_all_line(cells: u64) -> ReplyLine<'static>
     ])
 }
 
-// The head line of what is said of a certificate.
+// The first line of what is said of a certificate.
 fn verdict_line(verdict: Verdict) -> ReplyLine<'static>
     ensures words { map word_bytes (take result.len result.words) ≡ codes "ok" ∷ codes "certify" ∷ verdict_words verdict }
     ensures len { result.len ≤ WORDS_MAX }
@@ -201,7 +126,7 @@ fn verdict_line(verdict: Verdict) -> ReplyLine<'static>
     line
 }
 
-// The head line of what is said of the file.
+// The first line of what is said of the file.
 fn soundness_line(soundness: Soundness) -> ReplyLine<'static>
     ensures words { map word_bytes (take result.len result.words) ≡ codes "ok" ∷ codes "verify" ∷ soundness_words soundness }
     ensures len { result.len ≤ WORDS_MAX }
@@ -221,7 +146,7 @@ fn soundness_line(soundness: Soundness) -> ReplyLine<'static>
     line
 }
 
-// The head line of a generated batch: its events, the last instant, and the nodes and edges of the graph behind it.
+// The first line of a generated batch: its events, the last instant, and the nodes and edges of the graph behind it.
 fn generated_line(events: u64, last: u64, nodes: u64, edges: u64) -> ReplyLine<'static>
     ensures words { map word_bytes (take result.len result.words) ≡ codes "ok" ∷ codes "workload" ∷ decimal events ∷ decimal last ∷ decimal nodes ∷ decimal edges ∷ [] }
     ensures len { result.len ≤ WORDS_MAX }
@@ -236,7 +161,7 @@ fn generated_line(events: u64, last: u64, nodes: u64, edges: u64) -> ReplyLine<'
     ])
 }
 
-// The head line of the parameters of the index, its events, leaves and records.
+// The first line of the parameters of the index, its events, leaves and records.
 fn tree_line(
     l: u32,
     k: u32,
@@ -266,7 +191,7 @@ fn tree_line(
     }
 }
 
-// The head line of the parameters of an index whose differential function has one word.
+// The first line of the parameters of an index whose differential function has one word.
 fn plain_tree_line(
     l: u32,
     k: u32,

@@ -12,6 +12,9 @@ use dg_history::{Key, NodeId};
 /// The most words that a line of a reply has.
 pub(crate) const WORDS_MAX: usize = 9;
 
+/// The first word of an answer.
+pub(crate) const OK: Word<'static> = Word::Text(b"ok");
+
 /// What stands behind the last word of a line.
 const NO_WORD: Word<'static> = Word::Text(b"");
 
