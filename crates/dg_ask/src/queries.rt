@@ -1,14 +1,12 @@
 //! The answer to what is asked of a handle's graph.
 
-ghost use Rattle.std.specs.Prelude.{◌≡◌, true, List, IfOk, OnErr, map};
-ghost use Rattle.dg_graph.specs.declared.element.Element.{Element};
+ghost use Rattle.std.specs.Prelude.{◌≡◌, true, IfOk, OnErr, map};
 ghost use Rattle.dg_machine.specs.declared.query.Query.TheVariants as query;
 ghost use Rattle.dg_machine.specs.declared.reply.BodyLine.TheVariants as line;
 ghost use Rattle.dg_machine.specs.declared.reply.Head.TheVariants as head;
 ghost use Rattle.dg_machine.specs.declared.reply.Reply.TheVariants as replied;
 ghost use Rattle.dg_machine.specs.Answer.{query_reply};
 ghost use Rattle.dg_machine.specs.QueryTable.{is_of_nodes, takes_memory};
-ghost use Rattle.dg_graph.specs.declared.element.Columns.{Columns};
 ghost use Rattle.dg_ask.specs.KeptAdjacency.{BothServe, MayTurnTo, TurnsTo};
 ghost use Rattle.dg_view.specs.NodeAnswer.{IsNodeOf};
 
@@ -103,27 +101,28 @@ fn node(
     ensures kept { TurnsTo asked.now.handle asked.now.graph kept.old kept.new }
 {
     let node = kept.node(alloc, asked.handle, &asked.graph, id)?;
-    node_reply(alloc, asked.handle, id, node)
+    node_reply(alloc, asked, id, node)
 }
 
-// The node, or that the graph has none of this id.
+// The answer about this node of the graph, or that the graph has none of this id.
 fn node_reply(
     alloc: Global,
-    handle: u32,
+    asked: &AskedGraph<'_>,
     id: u64,
     node: Option<NodeView>,
 ) -> Result<Reply, AllocError>
-    ensures { IfOk result (λ reply. (cols : Columns) (graph : List Element) → IsNodeOf graph id node → reply ≡ query_reply (query.Node id) handle cols graph) }
+    requires node { IsNodeOf asked.now.graph id node }
+    ensures { IfOk result (λ reply. reply ≡ query_reply (query.Node id) asked.now.handle asked.now.cols asked.now.graph) }
 {
     match node {
         Some(NodeView { degree, attributes }) => {
             let lines = attribute_lines(alloc, &attributes)?;
             let told = QueryHead::NodeThere { id, degree };
-            Ok(reply_about(handle, told, BodyLines::from_vec(lines)))
+            Ok(reply_about(asked.handle, told, BodyLines::from_vec(lines)))
         }
         None => {
             let told = QueryHead::NodeAbsent { id };
-            Ok(reply_about(handle, told, BodyLines::new(alloc)))
+            Ok(reply_about(asked.handle, told, BodyLines::new(alloc)))
         }
     }
 }

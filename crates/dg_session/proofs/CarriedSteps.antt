@@ -77,8 +77,8 @@ every_ok (Ok x) P each = each x
 every_ok (Err e) P each = tt
 
 -- a command that does not verify says nothing of it, whatever it comes to
-pub unverified_all : (c : Command) (p : Parts) (image : Option (List ℕ)) (r : Result Reply Halt) → is_verify c ≡ false → IfOk r (λ (reply : Reply). VerifiesFile c p image reply)
-unverified_all c p image r plain = every_ok r (λ (reply : Reply). VerifiesFile c p image reply) (λ reply. unverified (is_verify c) p image (soundness_told reply) plain)
+pub unverified_all : (c : Command) (p : Parts) (image : Option (List ℕ)) (r : Result Reply Halt) → is_verify c ≡ false → IfOk r (VerifiesFile c p image)
+unverified_all c p image r plain = every_ok r (VerifiesFile c p image) (λ reply. unverified (is_verify c) p image (soundness_told reply) plain)
 
 -- nor one that does not sweep of a sweep
 unswept_all : (c : Command) (old new : SessionState) (r : Result Reply Halt) → SweepsNothing c → IfOk r (λ (reply : Reply). SweepsPool c old.pool new.pool reply)
@@ -235,7 +235,7 @@ module _ {S D : Type 0} {s : source.Ghosts S} {d : disk.Ghosts D} {lines : Lines
 
   -- of one that reads the disk alone, and takes no line
   pub reading_carries : OnlyNow d → (c x : Command) → c ≡ x → following x ≡ 0 → SweepsNothing x → ComesTo x [] old.parts (d.image before) new.parts (d.image after) r
-      → ((why : Stop) → r ≡ Err (halt.Stop why) → ⊥) → IfOk r (λ (reply : Reply). VerifiesFile x old.parts (d.image before) reply)
+      → ((why : Stop) → r ≡ Err (halt.Stop why) → ⊥) → IfOk r (VerifiesFile x old.parts (d.image before))
       → (r ≡ Err (halt.Refusal refusal.StoreRead) → Fails d before after) → ReadsDisk d before after → ReadsFile d x old.parts before after r
       → CarriesOut s d c lines from lines from old before new after r
   reading_carries only c x is alone_is still comes no_stop verified cause frame file =

@@ -1,6 +1,5 @@
 -- The answer to a query of a handle's graph.
-use Rattle.std.proofs.Common.{◌≡◌, ℕ, Bool, true, false, ◌==◌, not, List, [], ◌∷◌, ◌++◌, Option, Some, None, if◌then◌else◌, map, length, refl, sym, ◌∙◌, ap, subst}
-use Rattle.std.specs.Prelude.{◌&&◌, is_some}
+use Rattle.std.proofs.Common.{◌≡◌, ℕ, Bool, true, false, ◌==◌, List, [], ◌∷◌, Option, Some, None, if◌then◌else◌, map, length, refl, sym, ◌∙◌, ap, subst}
 use Rattle.std.specs.List.{All}
 use Rattle.std.proofs.lemmas.Option.{none-some}
 use Rattle.dg_ask.proofs.ReplyNames.{told_names}
@@ -11,16 +10,14 @@ use Rattle.dg_handles.specs.Handles.{graph_among}
 use Rattle.dg_history.specs.History.{History}
 use Rattle.dg_machine.specs.declared.command.Command.TheVariants as command
 use Rattle.dg_machine.specs.declared.query.Query.{Query}
-use Rattle.dg_machine.specs.declared.reply.Refusal.TheVariants as refusal
 use Rattle.dg_machine.specs.declared.reply.Reply.{Reply}
 use Rattle.dg_machine.specs.declared.stands.Stands.{Stands}
 use Rattle.dg_machine.specs.Answer.{columns_by, columns_if, elements_if, is_refusal, query_reply, say, shown_by}
 use Rattle.dg_machine.specs.MachineState.{MachineState, elements, stands_at, history_in}
-use Rattle.dg_machine.specs.Needs.{is_set, needs, when}
-use Rattle.dg_machine.specs.QueryTable.{is_of_nodes}
+use Rattle.dg_machine.specs.Needs.{needs}
 use Rattle.dg_retrieval.specs.NamesThere.{NamesAreThere}
 use Rattle.dg_session.proofs.GraphNames.{there_among}
-use Rattle.dg_session.proofs.PartStates.{hit, miss, one_image, stands_on}
+use Rattle.dg_session.proofs.PartStates.{one_image, stands_on}
 use Rattle.dg_session.proofs.ReplyNames.{names_stay}
 use Rattle.dg_session.proofs.SessionSteps.{moved}
 use Rattle.dg_session.specs.Decided.{Fits}
@@ -48,47 +45,25 @@ shown_are p image m handle graph s is =
 
 -- ---- what is asked
 
-module _ (handle : ℕ) (q : Query) (p : Parts) where
-  -- the handle is not live
-  abbrev pub is_unknown : Bool
-  is_unknown = not (is_some (stands_at handle p.table))
-
-  -- it stands for a set, and the query is of nodes
-  abbrev pub is_barred : Bool
-  is_barred = is_of_nodes q && is_set (stands_at handle p.table)
-
-  pub ask_unknown : is_some (stands_at handle p.table) ≡ false → refused_by p 0 (needs (command.Ask handle q)) ≡ Some (refusal.UnknownHandle handle)
-  ask_unknown none = hit is_unknown (refusal.UnknownHandle handle) (when is_barred (refusal.NotAnOverlay handle) ++ []) (ap not none)
-
-  pub ask_barred : is_some (stands_at handle p.table) ≡ true → is_barred ≡ true → refused_by p 0 (needs (command.Ask handle q)) ≡ Some (refusal.NotAnOverlay handle)
-  ask_barred some bars =
-      miss is_unknown (refusal.UnknownHandle handle) (when is_barred (refusal.NotAnOverlay handle) ++ []) (ap not some)
-      ∙ hit is_barred (refusal.NotAnOverlay handle) [] bars
-
-  pub ask_free : is_some (stands_at handle p.table) ≡ true → is_barred ≡ false → refused_by p 0 (needs (command.Ask handle q)) ≡ None
-  ask_free some none_bars =
-      miss is_unknown (refusal.UnknownHandle handle) (when is_barred (refusal.NotAnOverlay handle) ++ []) (ap not some)
-      ∙ miss is_barred (refusal.NotAnOverlay handle) [] none_bars
-
-  pub ask_answers : (graph : List Element) (image : Option (List ℕ)) (reply : Reply) → refused_by p 0 (needs (command.Ask handle q)) ≡ None → graph_among handle p.table p.graphs ≡ Some graph
-      → reply ≡ query_reply q handle (columns_if (stands_at handle p.table)) graph → All (NamesAreThere (length p.names)) p.graphs → Accepts (command.Ask handle q) [] p image p image reply
-  ask_answers graph image reply free found is there =
-      let cols : Columns = columns_if (stands_at handle p.table) in
-      record {
-        moves =
-            moved (command.Ask handle q) [] p p image image reply (λ m. refl) free
-            (λ m x y a b s none. (
-              m,
-              ap (λ g. say m (query_reply q handle (columns_by m handle) g)) (shown_are p x m handle graph s found)
-                  ∙ ap (λ t. say m (query_reply q handle (columns_if (stands_at handle t)) graph)) (sym s.table) ∙ ap (say m) (sym is),
-              stands_on p p x y m refl (one_image image image x y refl a b) s,
-            ));
-        accepted = ap is_refusal is;
-        free = free;
-        fits = subst (Fits (command.Ask handle q)) (sym is) (refl, cols, graph, refl);
-        held = λ h. h;
-        no_index = λ h. (h, refl);
-        quiet = λ h. refl;
-        named = subst (ReplyNamesAreThere (length p.names)) (sym is) (told_names (length p.names) q handle cols graph (there_among (length p.names) handle p.table p.graphs graph there found));
-        keeps_names = names_stay p.names p.names refl;
-      }
+pub ask_answers : (handle : ℕ) (q : Query) (p : Parts) (graph : List Element) (image : Option (List ℕ)) (reply : Reply) → refused_by p 0 (needs (command.Ask handle q)) ≡ None → graph_among handle p.table p.graphs ≡ Some graph
+    → reply ≡ query_reply q handle (columns_if (stands_at handle p.table)) graph → All (NamesAreThere (length p.names)) p.graphs → Accepts (command.Ask handle q) [] p image p image reply
+ask_answers handle q p graph image reply free found is there =
+    let cols : Columns = columns_if (stands_at handle p.table) in
+    record {
+      moves =
+          moved (command.Ask handle q) [] p p image image reply (λ m. refl) free
+          (λ m x y a b s none. (
+            m,
+            ap (λ g. say m (query_reply q handle (columns_by m handle) g)) (shown_are p x m handle graph s found)
+                ∙ ap (λ t. say m (query_reply q handle (columns_if (stands_at handle t)) graph)) (sym s.table) ∙ ap (say m) (sym is),
+            stands_on p p x y m refl (one_image image image x y refl a b) s,
+          ));
+      accepted = ap is_refusal is;
+      free = free;
+      fits = subst (Fits (command.Ask handle q)) (sym is) (refl, cols, graph, refl);
+      held = λ h. h;
+      no_index = λ h. (h, refl);
+      quiet = λ h. refl;
+      named = subst (ReplyNamesAreThere (length p.names)) (sym is) (told_names (length p.names) q handle cols graph (there_among (length p.names) handle p.table p.graphs graph there found));
+      keeps_names = names_stay p.names p.names refl;
+    }

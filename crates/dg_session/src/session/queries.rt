@@ -1,14 +1,12 @@
 //! What is asked of a handle's graph.
 
-ghost use Rattle.std.specs.Prelude.{◌≡◌, ◌&&◌, ℕ, IfErr, List, [], Option, None, Some, is_some, true, false, IfOk, OnOk};
+ghost use Rattle.std.specs.Prelude.{◌≡◌, ℕ, IfErr, IfOk, List, [], OnOk, Option, None, Some, is_some};
 ghost use Rattle.dg_append.specs.Overlays.{pool_of};
-ghost use Rattle.dg_ask.specs.KeptAdjacency.{BothServe, MayTurnTo};
 ghost use Rattle.dg_handles.specs.Handles.{IsTied, graph_among, slot_graphs};
-ghost use Rattle.dg_machine.specs.Answer.{columns_if, query_reply};
+ghost use Rattle.dg_machine.specs.Answer.{columns_if};
 ghost use Rattle.dg_machine.specs.declared.stands.Stands.TheVariants as Stands;
 ghost use Rattle.dg_machine.specs.Needs.{is_set, needs};
 ghost use Rattle.dg_machine.specs.MachineState.{stands_at};
-ghost use Rattle.dg_machine.specs.QueryTable.{is_of_nodes, takes_memory};
 ghost use Rattle.dg_session.specs.Parts.{Parts};
 ghost use Rattle.dg_session.specs.Session.{ComesTo, refused_by};
 ghost use Rattle.dg_batch.specs.declared.stop.Stop.TheVariants as stop;
@@ -30,8 +28,7 @@ impl Session {
         ensures no_stop { (stop : Stop) → result ≡ Err (Halt.Stop stop) → ⊥ }
     {
         let asked = asked_graph(&self.held.handles, &self.held.live.pool, handle, query)?;
-        let reply = answer(self.alloc, &mut self.held.adjacency, &asked, query)?;
-        Ok(reply)
+        Ok(answer(self.alloc, &mut self.held.adjacency, &asked, query)?)
     }
 }
 

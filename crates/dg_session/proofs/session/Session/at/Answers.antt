@@ -93,7 +93,7 @@ returns-in_err-add_handles-clause-file g c = record {
 
 pub returns-clause-file : goal.returns-clause-file
 returns-clause-file g c = record {
-  damaged = subst (λ (x : Reply). DamageIs (command.At c.args.t c.args.cols) c.args.self.now.parts (g.D.Disk.image c.args.disk.now) x) (sym c.headed.ensures) tt;
+  damaged = subst (DamageIs (command.At c.args.t c.args.cols) c.args.self.now.parts (g.D.Disk.image c.args.disk.now)) (sym c.headed.ensures) tt;
   undamaged = c.in_ok-leads.ensures.damage;
   reads =
       subst (λ (x : Reply). Reads (command.At c.args.t c.args.cols) c.args.self.now.parts (g.D.Disk.image c.args.disk.now) x (g.D.Disk.taken c.args.disk.now) (g.D.Disk.taken c.retrieve.new.disk)) (sym c.headed.ensures)

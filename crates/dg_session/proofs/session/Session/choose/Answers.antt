@@ -194,7 +194,7 @@ returns-clause-file g c =
     let read = graph_columns c.args.cols in
     let asked : c.first_of-times.result.now ≡ instants_of (words_of c.args.expr) = c.first_of-times.ensures.times ∙ c.instants-instants.ensures.times in
     record {
-      damaged = subst (λ (x : Reply). DamageIs done p image x) (sym c.headed.ensures) tt;
+      damaged = subst (DamageIs done p image) (sym c.headed.ensures) tt;
       undamaged = subst (λ ts. MeetsNone (Graphs ts read) p image) asked c.in_ok-leads.ensures.damage;
       reads = subst (λ (x : Reply). Reads done p image x (g.D.Disk.taken c.args.disk.now) (g.D.Disk.taken c.retrieve.new.disk)) (sym c.headed.ensures)
           (reads_exactly done p image _ (g.D.Disk.taken c.args.disk.now) (g.D.Disk.taken c.retrieve.new.disk) refl refl (λ m got takes. takes)

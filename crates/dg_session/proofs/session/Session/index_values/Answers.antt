@@ -173,7 +173,7 @@ returns-clause-file g c =
     let before = g.D.Disk.taken c.args.disk.now in
     let after = g.D.Disk.taken c.read_values.new.disk in
     record {
-      damaged = subst (λ (x : Reply). DamageIs done c.args.self.now.parts image x) (sym c.headed.ensures) tt;
+      damaged = subst (DamageIs done c.args.self.now.parts image) (sym c.headed.ensures) tt;
       undamaged = subst (λ (x : Parts). MeetsNone (reads_for done) x image) (same g here) c.in_ok-values.ensures.damage;
       reads = subst (λ (x : Parts). Reads done x image c.headed.result before after) (same g here)
           (subst (λ (x : Reply). Reads done p image x before after) (sym c.headed.ensures)

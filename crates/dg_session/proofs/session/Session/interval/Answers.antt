@@ -120,7 +120,7 @@ returns-clause-file g c =
     let before = g.D.Disk.taken c.args.disk.now in
     let after = g.D.Disk.taken c.read_interval.new.disk in
     record {
-      damaged = subst (λ (x : Reply). DamageIs done p image x) (sym c.headed.ensures) tt;
+      damaged = subst (DamageIs done p image) (sym c.headed.ensures) tt;
       undamaged = c.in_ok-elements.ensures.damage;
       reads = subst (λ (x : Reply). Reads done p image x before after) (sym c.headed.ensures)
           (reads_exactly done p image _ before after refl refl (λ m got takes. takes)

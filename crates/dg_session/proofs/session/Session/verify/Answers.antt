@@ -37,7 +37,7 @@ returns-clause-comes g c =
 
 pub returns-clause-verified : goal.returns-clause-verified
 returns-clause-verified g c =
-    subst (λ (r : Reply). VerifiesFile command.Verify c.args.self.now.parts (g.D.Disk.image c.args.disk.now) r) (sym c.headed.ensures) c.in-Ok.ensures.sound
+    subst (VerifiesFile command.Verify c.args.self.now.parts (g.D.Disk.image c.args.disk.now)) (sym c.headed.ensures) c.in-Ok.ensures.sound
 
 pub returns-in_err-index-clause-file : goal.returns-in_err-index-clause-file
 returns-in_err-index-clause-file g c = record {
@@ -64,7 +64,7 @@ returns-in-Err-clause-file g c = record {
 
 pub returns-clause-file : goal.returns-clause-file
 returns-clause-file g c = record {
-  damaged = subst (λ (r : Reply). DamageIs command.Verify c.args.self.now.parts (g.D.Disk.image c.args.disk.now) r) (sym c.headed.ensures) tt;
+  damaged = subst (DamageIs command.Verify c.args.self.now.parts (g.D.Disk.image c.args.disk.now)) (sym c.headed.ensures) tt;
   undamaged = tt;
   reads =
       subst (λ (r : Reply). Reads command.Verify c.args.self.now.parts (g.D.Disk.image c.args.disk.now) r (g.D.Disk.taken c.args.disk.now) (g.D.Disk.taken c.soundness.new.disk)) (sym c.headed.ensures)

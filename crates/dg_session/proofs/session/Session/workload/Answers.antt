@@ -220,7 +220,7 @@ returns-in_err-added-clause-file g c = record {
 
 pub returns-clause-file : goal.returns-clause-file
 returns-clause-file g c = record {
-  damaged = subst (λ (x : Reply). DamageIs (command.Workload c.args.seed c.args.count) c.args.self.now.parts (g.D.Disk.image c.args.disk.now) x) (sym c.headed.ensures) tt;
+  damaged = subst (DamageIs (command.Workload c.args.seed c.args.count) c.args.self.now.parts (g.D.Disk.image c.args.disk.now)) (sym c.headed.ensures) tt;
   undamaged =
       let made : List AuxState = lent c.self.inside.indexes.len c.self.inside.indexes.items c.reserve.new.indexes in
       let kept : map kept_of made ≡ map kept_of c.self.inside.indexes.items = made_kept c.self.inside.indexes c.deref_mut.result.now c.reserve.new.indexes c.deref_mut.ensures.value c.reserve.ensures.kept in
