@@ -81,7 +81,7 @@ module _ {D W : Type 0} (d : Ghosts D) (items : W → List D) (g : machine.Ghost
       reads_all_then d (items w) (items t.world) (items (last_world t.world turns)) (keeps m w e t run.0).reads (run_reads t.machine t.world entries turns run.1)
 
   -- what its reply says of damage
-  refused_quiet : (t : Turned PartSessions W) (r : Refusal) → damage_told (Some r) ≡ None → t.reply ≡ headed (head.Refused r) → damage_in t.reply ≡ None
+  refused_quiet : (t : Turned PartSessions W) (r : Refusal) → damage_told (Some r) ≡ None → t.reply ≡ replied.Refused r → damage_in t.reply ≡ None
   refused_quiet t r none is = ap damage_in is ∙ none
 
   names : (m : PartSessions) (w : W) (e : Entry) (t : Turned PartSessions W) → Answers g part_command_of m w e t → NamesDamage m.sessions.items (images_of d (items w)) e t.reply

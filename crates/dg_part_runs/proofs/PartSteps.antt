@@ -25,14 +25,9 @@ use Rattle.dg_part_runs.specs.declared.sessions.PartSessions.{PartSessions}
 use Rattle.dg_part_runs.specs.Disks.{ReadsAll, SomeRose, faults_of, images_of}
 use Rattle.dg_part_runs.specs.HandleSets.{HandleSetsState, with_next}
 use Rattle.dg_part_runs.specs.HeldParts.{AreStanding, ReadsParts, ends_kept, refusal_for}
-<<<<<<< HEAD
-use Rattle.dg_part_runs.specs.PartAnswers.{AnswersPart, ListsBy, ListsSet, released_by, released_head, state_over}
-use Rattle.dg_part_runs.specs.PartDamage.{AreWhole, NamesFirst, TellsDamage}
-use Rattle.dg_part_runs.specs.PartsMachine.{Fails_to_read, Gives, Lacks_memory, Lists, PartsState, PartsStep, Refuses, Releases, refused_of_parts, set_at, union_shown, without_handle, without_set}
-=======
 use Rattle.dg_part_runs.specs.PartAnswers.{AnswersPart, ListsBy, ListsSet, release_reply, released_by, state_over}
+use Rattle.dg_part_runs.specs.PartDamage.{AreWhole, NamesFirst, TellsDamage}
 use Rattle.dg_part_runs.specs.PartsMachine.{Fails_to_read, Gives, Lacks_memory, Lists, PartsState, PartsStep, Refuses, Releases, listing, refused_of_parts, set_at, union_shown, without_handle, without_set}
->>>>>>> 81f9d75ca27a1218293ac8fa446cbab6d7dd6b6b
 use Rattle.dg_part_runs.specs.PartTimes.{joined_all}
 use Rattle.dg_part_runs.proofs.DiskLists.{reads_all_none}
 use Rattle.dg_part_runs.proofs.GatheredParts.{ends_same}
@@ -100,26 +95,17 @@ module _ {D : Type 0} (d : Ghosts D) where
     step_to limits zs h reply = PartsStep (union_shown zs) (state_over limits old zs) (Asked (command.At t cols) []) reply (record { limits = limits; parts = zs; table = h.sets; next = h.next })
 
     pub at_given : (handle weight : ℕ) (set : List Element) → ((limits : Limits) → ReadsParts limits old.sessions.items (images_of d before) t cols (Ok (set, weight)))
-<<<<<<< HEAD
-        → AreWhole t cols old.sessions.items (images_of d before) → new.handles ≡ with_next old.handles set → handle ≡ old.handles.next → AnswersPart d (command.At t cols) [] old before new after (headed (head.At handle weight))
-    at_given handle weight set is_read whole added number = record {
-=======
-        → new.handles ≡ with_next old.handles set → handle ≡ old.handles.next → (reply : Reply) → reply ≡ headed (head.At handle weight)
+        → AreWhole t cols old.sessions.items (images_of d before) → new.handles ≡ with_next old.handles set → handle ≡ old.handles.next → (reply : Reply) → reply ≡ headed (head.At handle weight)
         → AnswersPart d (command.At t cols) [] old before new after reply
-    at_given handle weight set is_read added number reply is = subst (λ (r : Reply). AnswersPart d (command.At t cols) [] old before new after r) (sym is) (record {
->>>>>>> 81f9d75ca27a1218293ac8fa446cbab6d7dd6b6b
+    at_given handle weight set is_read whole added number reply is = subst (λ (r : Reply). AnswersPart d (command.At t cols) [] old before new after r) (sym is) (record {
       none = refl;
       steps = step;
       sessions = same;
       nameless = nameless_same;
       reads = reads_are;
       store_read = λ says. absurd (cc);
-<<<<<<< HEAD
       damage = record { damaged = tt; whole = λ no. whole };
-    }
-=======
     })
->>>>>>> 81f9d75ca27a1218293ac8fa446cbab6d7dd6b6b
       where
         step : (limits : Limits) (zs : List History) → AreStanding limits old.sessions.items (images_of d before) zs
             → PartsStep (union_shown zs) (state_over limits old zs) (Asked (command.At t cols) []) (headed (head.At handle weight)) (state_over limits new zs)
@@ -148,15 +134,9 @@ module _ {D : Type 0} (d : Ghosts D) where
         damage = tells_none (command.At t cols) old.sessions.items (images_of d before) refusal.OutOfMemory refl;
       }
 
-<<<<<<< HEAD
       pub at_fault : (f : RecordFault) → ((limits : Limits) → ReadsParts limits old.sessions.items (images_of d before) t cols (Err f)) → NamesFirst t cols old.sessions.items (images_of d before) f → (f ≡ fault.Disk → SomeRose (faults_of d before) (faults_of d after))
-          → AnswersPart d (command.At t cols) [] old before new after (headed (head.Refused (refusal_for f)))
-      at_fault fault.Disk is_read first cause = record {
-=======
-      pub at_fault : (f : RecordFault) → ((limits : Limits) → ReadsParts limits old.sessions.items (images_of d before) t cols (Err f)) → (f ≡ fault.Disk → SomeRose (faults_of d before) (faults_of d after))
           → AnswersPart d (command.At t cols) [] old before new after (replied.Refused (refusal_for f))
-      at_fault fault.Disk is_read cause = record {
->>>>>>> 81f9d75ca27a1218293ac8fa446cbab6d7dd6b6b
+      at_fault fault.Disk is_read first cause = record {
         none = refl;
         steps = λ limits zs stand. stays limits zs _ (Fails_to_read t cols (free_of limits zs stand));
         sessions = same;
@@ -181,15 +161,9 @@ module _ {D : Type 0} (d : Ghosts D) where
           undamaged (inr is) = absurd (cc)
 
       pub at_failed : (f : RecordFault) (r : Refusal) → r ≡ refusal_for f → ((limits : Limits) → ReadsParts limits old.sessions.items (images_of d before) t cols (Err f))
-<<<<<<< HEAD
-          → NamesFirst t cols old.sessions.items (images_of d before) f → (f ≡ fault.Disk → SomeRose (faults_of d before) (faults_of d after)) → AnswersPart d (command.At t cols) [] old before new after (headed (head.Refused r))
+          → NamesFirst t cols old.sessions.items (images_of d before) f → (f ≡ fault.Disk → SomeRose (faults_of d before) (faults_of d after)) → AnswersPart d (command.At t cols) [] old before new after (replied.Refused r)
       at_failed f r is is_read first cause =
-          subst (λ (x : Refusal). AnswersPart d (command.At t cols) [] old before new after (headed (head.Refused x))) (sym is) (at_fault f is_read first cause)
-=======
-          → (f ≡ fault.Disk → SomeRose (faults_of d before) (faults_of d after)) → AnswersPart d (command.At t cols) [] old before new after (replied.Refused r)
-      at_failed f r is is_read cause =
-          subst (λ (x : Refusal). AnswersPart d (command.At t cols) [] old before new after (replied.Refused x)) (sym is) (at_fault f is_read cause)
->>>>>>> 81f9d75ca27a1218293ac8fa446cbab6d7dd6b6b
+          subst (λ (x : Refusal). AnswersPart d (command.At t cols) [] old before new after (replied.Refused x)) (sym is) (at_fault f is_read first cause)
 
   -- ---- a handle
 
@@ -257,7 +231,7 @@ module _ {D : Type 0} (d : Ghosts D) where
       damage = whole (set_at handle s.handles.sets);
     })
       where
-        whole : (o : Option (List Element)) → TellsDamage (command.Release handle) s.sessions.items (images_of d disks) (headed (released_by o handle))
+        whole : (o : Option (List Element)) → TellsDamage (command.Release handle) s.sessions.items (images_of d disks) (released_by o handle)
         whole None = tells_none (command.Release handle) s.sessions.items (images_of d disks) (refusal.UnknownHandle handle) refl
         whole (Some set) = record { damaged = tt; whole = λ no. tt }
 

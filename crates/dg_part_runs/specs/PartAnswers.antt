@@ -16,12 +16,8 @@ use Rattle.dg_text.specs.Lines.{ScriptLine}
 use Rattle.dg_part_runs.specs.declared.sessions.PartSessions.{PartSessions}
 use Rattle.dg_part_runs.specs.Disks.{ReadsAll, SomeRose, faults_of, images_of}
 use Rattle.dg_part_runs.specs.HeldParts.{AreParts, AreStanding}
-<<<<<<< HEAD
 use Rattle.dg_part_runs.specs.PartDamage.{TellsDamage}
-use Rattle.dg_part_runs.specs.PartsMachine.{PartsState, PartsStep, set_at, union_shown}
-=======
 use Rattle.dg_part_runs.specs.PartsMachine.{PartsState, PartsStep, listing, set_at, union_shown}
->>>>>>> 81f9d75ca27a1218293ac8fa446cbab6d7dd6b6b
 
 -- the state of the machine, where its sessions stand for these histories
 abbrev pub state_over : Limits → PartSessions → List History → PartsState
@@ -59,9 +55,5 @@ pub record AnswersPart {D : Type 0} (d : disk.Ghosts D) (c : Command) (got : Lis
   pub sessions : new.sessions.items ≡ old.sessions.items
   pub nameless : new.nameless ≡ old.nameless
   pub reads : ReadsAll d before after
-<<<<<<< HEAD
-  pub store_read : is_store_read reply.head ≡ true → SomeRose (faults_of d before) (faults_of d after)
-  pub damage : TellsDamage c old.sessions.items (images_of d before) reply
-=======
   pub store_read : is_store_read reply ≡ true → SomeRose (faults_of d before) (faults_of d after)
->>>>>>> 81f9d75ca27a1218293ac8fa446cbab6d7dd6b6b
+  pub damage : TellsDamage c old.sessions.items (images_of d before) reply

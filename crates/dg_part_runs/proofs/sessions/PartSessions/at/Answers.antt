@@ -23,12 +23,8 @@ returns-in-Ok-add g c = record {
       (written_back c.args.self.now.sessions c.deref_mut.result.now c.read_parts.new.sessions c.deref_mut.ensures.value (ap length c.read_parts.ensures.same)
       ∙ c.read_parts.ensures.same ∙ c.deref_mut.ensures.value) refl c.read_parts.ensures.disks c.in-Ok-add.handle c.in-Ok.weight c.in-Ok.set
       (λ limits. subst (λ (l : List SessionState). ReadsParts limits l (images_of g.D.Disk c.args.disks.now) c.args.t c.args.cols (Ok (c.in-Ok.set, c.in-Ok.weight))) c.deref_mut.ensures.value (c.in-Ok.ensures.reads limits))
-<<<<<<< HEAD
       (subst (λ (l : List SessionState). AreWhole c.args.t c.args.cols l (images_of g.D.Disk c.args.disks.now)) c.deref_mut.ensures.value c.in-Ok.ensures.damage)
-      c.in-Ok-add.ensures.added c.in-Ok-add.ensures.handle;
-=======
       c.in-Ok-add.ensures.added c.in-Ok-add.ensures.handle c.headed.result c.headed.ensures;
->>>>>>> 81f9d75ca27a1218293ac8fa446cbab6d7dd6b6b
 }
 
 pub returns-in-Err-add : goal.returns-in-Err-add
