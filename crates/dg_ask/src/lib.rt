@@ -13,5 +13,5 @@ pub use kept_adjacency::KeptAdjacency;
 pub use kept_planner::KeptPlanner;
 pub use laws::law_printed_plans_are_valid;
 pub use plans::{has_node, judge, plan_reply, point_of, span};
-pub use queries::{AskedGraph, answer};
+pub use queries::{AskedGraph, answer, is_of_nodes};
 pub use record_listing::tree_reply;

@@ -6,7 +6,7 @@ ghost use Rattle.dg_machine.specs.declared.reply.BodyLine.TheVariants as line;
 ghost use Rattle.dg_machine.specs.declared.reply.Head.TheVariants as head;
 ghost use Rattle.dg_machine.specs.declared.reply.Reply.TheVariants as replied;
 ghost use Rattle.dg_machine.specs.Answer.{query_reply};
-ghost use Rattle.dg_machine.specs.QueryTable.{takes_memory};
+ghost use Rattle.dg_machine.specs.QueryTable.{is_of_nodes, takes_memory};
 ghost use Rattle.dg_ask.specs.KeptAdjacency.{BothServe, MayTurnTo, TurnsTo};
 ghost use Rattle.dg_view.specs.NodeAnswer.{IsNodeOf};
 
@@ -26,6 +26,13 @@ pub struct AskedGraph<'a> {
     pub graph: View<'a>,
     /// The columns of what the handle stands for.
     pub cols: Columns,
+}
+
+/// Whether the query is of the nodes of a graph as of an instant: it is refused of a handle that stands for a set.
+pub fn is_of_nodes(query: Query) -> bool
+    ensures { result ≡ is_of_nodes query }
+{
+    matches!(query, Query::Node(_) | Query::Neighbours(_))
 }
 
 // A new query also needs an arm here, and a function for it.
