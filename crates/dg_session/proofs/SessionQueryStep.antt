@@ -2,8 +2,12 @@
 use Rattle.std.proofs.Common.{◌≡◌, ℕ, Bool, true, false, ◌==◌, List, [], ◌∷◌, Option, Some, None, if◌then◌else◌, map, length, refl, sym, ◌∙◌, ap, subst}
 use Rattle.std.specs.List.{All}
 use Rattle.std.proofs.lemmas.Option.{none-some}
+use Rattle.dg_ask.proofs.KeptAdjacencies.{kept_asked}
 use Rattle.dg_ask.proofs.ReplyNames.{told_names}
+use Rattle.dg_ask.specs.KeptAdjacency.{KeptEnds, MayTurnTo}
 use Rattle.dg_ask.specs.ReplyNames.{ReplyNamesAreThere}
+use Rattle.dg_batch.specs.Held.{IsHeld, graphs_held}
+use Rattle.dg_batch.specs.declared.held.Held.{Held}
 use Rattle.dg_graph.specs.declared.element.Columns.{Columns}
 use Rattle.dg_graph.specs.declared.element.Element.{Element}
 use Rattle.dg_handles.specs.Handles.{graph_among}
@@ -67,3 +71,17 @@ ask_answers handle q p graph image reply free found is there =
       named = subst (ReplyNamesAreThere (length p.names)) (sym is) (told_names (length p.names) q handle cols graph (there_among (length p.names) handle p.table p.graphs graph there found));
       keeps_names = names_stay p.names p.names refl;
     }
+
+-- what is held is held with what is kept behind a query of a live handle
+pub held_asked : (h : Held) (handle asked : ℕ) (graph : List Element) (kept : KeptEnds × KeptEnds) → IsHeld h → graph_among handle h.handles.table (graphs_held h) ≡ Some graph → asked ≡ handle
+    → MayTurnTo asked graph h.adjacency kept → IsHeld (record { live = record { history = h.live.history; pool = h.live.pool }; handles = h.handles; adjacency = kept })
+held_asked h handle asked graph kept held is same turns = record {
+  live = record { sound = held.live.sound; pool = held.live.pool };
+  handles = record {
+    tied = held.handles.tied;
+    nodes = held.handles.nodes;
+    adjacency =
+        kept_asked handle h.handles.table (graphs_held h) graph h.adjacency kept is held.handles.adjacency (subst (λ (n : ℕ). MayTurnTo n graph h.adjacency kept) same turns);
+    named = held.handles.named;
+  };
+}

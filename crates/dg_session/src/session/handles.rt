@@ -102,7 +102,7 @@ fn give_up(handles: &mut Handles, pool: &mut Option<Box<Pool>>, handle: u32)
 fn sweep(pool: &mut Option<Box<Pool>>, cells: u32)
     requires { 1 ≤ cells }
     ensures graphs { SameOverlay (pool_in pool.old) (pool_in pool.new) }
-    ensures swept { SweepsPool (Command.Clean cells) (pool_in pool.old) (pool_in pool.new) Head.Cleaned }
+    ensures swept { SweepsPool (Command.Clean cells) (pool_in pool.old) (pool_in pool.new) (headed Head.Cleaned) }
 {
     if let Some(pool) = pool {
         pool.clean(cells);

@@ -1,8 +1,8 @@
 use Rattle.std.proofs.Common.{◌≡◌, ℕ, [], length, refl, sym, ◌∙◌, ap, subst}
 use Rattle.std.specs.List.{All}
 use Rattle.dg_append.specs.Overlays.{pool_of}
-use Rattle.dg_ask.proofs.KeptAdjacencies.{kept_asked, serves}
-use Rattle.dg_ask.specs.KeptAdjacency.{BothServe, MayTurnTo}
+use Rattle.dg_ask.proofs.KeptAdjacencies.{serves}
+use Rattle.dg_ask.specs.KeptAdjacency.{BothServe}
 use Rattle.dg_batch.specs.declared.halt.Halt.TheVariants as halt
 use Rattle.dg_handles.specs.Handles.{graph_among, slot_graphs}
 use Rattle.dg_machine.specs.declared.command.Command.TheVariants as command
@@ -10,7 +10,7 @@ use Rattle.dg_machine.specs.declared.reply.Refusal.TheVariants as refusal
 use Rattle.dg_machine.specs.Answer.{columns_if, query_reply}
 use Rattle.dg_machine.specs.MachineState.{stands_at}
 use Rattle.dg_retrieval.specs.NamesThere.{NamesAreThere}
-use Rattle.dg_session.proofs.SessionQueryStep.{ask_answers}
+use Rattle.dg_session.proofs.SessionQueryStep.{ask_answers, held_asked}
 use Rattle.dg_session.proofs.SessionSteps.{handed_out, lacking_denies, refused_denies}
 use Rattle.dg_session.specs.Parts.{Parts}
 use Rattle.dg_session.specs.Session.{Accepts, ComesTo}
@@ -64,19 +64,16 @@ returns-clause-comes c image =
 
 pub invariant_of-self : goal.invariant_of-self
 invariant_of-self c =
-    let s = c.self.inside in
     let a = c.in_ok-asked in (
       c.self.invariant.0,
-      record {
-        live = record { sound = c.self.invariant.1.live.sound; pool = c.self.invariant.1.live.pool };
-        handles = record {
-          tied = c.self.invariant.1.handles.tied;
-          nodes = c.self.invariant.1.handles.nodes;
-          adjacency = kept_asked c.args.handle s.held.handles.table (slot_graphs (pool_of s.held.live.pool) s.held.handles.slots) a.asked.graph s.held.adjacency c.answer.new.kept
-              a.ensures.graph c.self.invariant.1.handles.adjacency
-              (subst (λ (n : ℕ). MayTurnTo n a.asked.graph s.held.adjacency c.answer.new.kept) a.ensures.handle c.answer.ensures.kept);
-          named = c.self.invariant.1.handles.named;
-        };
-      },
+      held_asked c.self.inside.held c.args.handle a.asked.handle a.asked.graph c.answer.new.kept c.self.invariant.1 a.ensures.graph a.ensures.handle c.answer.ensures.kept,
+      c.self.invariant.2,
+    )
+
+pub invariant_of-self-2 : goal.invariant_of-self-2
+invariant_of-self-2 c =
+    let a = c.in_ok-asked in (
+      c.self.invariant.0,
+      held_asked c.self.inside.held c.args.handle a.asked.handle a.asked.graph c.answer.new.kept c.self.invariant.1 a.ensures.graph a.ensures.handle c.answer.ensures.kept,
       c.self.invariant.2,
     )
