@@ -9,7 +9,7 @@ use Rattle.dg_machine.specs.declared.stands.Stands.{Stands}
 use Rattle.dg_machine.specs.MachineState.{without_handle}
 use Rattle.dg_pool.specs.Graphs.{PoolState, SameGraphs, slot_graph}
 use Rattle.dg_pool.specs.Sweeps.{members_as}
-use Rattle.dg_ask.specs.KeptAdjacency.{AreTurned, BothServe, IsOfLiveHandle, KeepsAdjacency, KeepsAlone, KeptEnds, ServesFor, TurnsTo, both_but, kept_but}
+use Rattle.dg_ask.specs.KeptAdjacency.{AreTurned, BothServe, IsOfLiveHandle, KeepsAdjacency, KeepsAlone, KeptEnds, MayTurnTo, ServesFor, TurnsTo, both_but, kept_but}
 use Rattle.dg_view.specs.EdgeEnds.{IsAdjacencyOf}
 
 -- ---- graphs
@@ -46,6 +46,12 @@ kept_turned_to handle table graphs set old new is h turned = (kept_alone handle 
     by : (new.1 ≡ old.0) ⊎ (new.1 ≡ old.1) → IsOfLiveHandle table graphs new.1
     by (inl e) = subst (IsOfLiveHandle table graphs) (sym e) h.0
     by (inr e) = subst (IsOfLiveHandle table graphs) (sym e) h.1
+
+-- what is kept after any query of a live handle
+pub kept_asked : (handle : ℕ) (table : List (ℕ × Stands)) (graphs : List (List Element)) (set : List Element) (old new : KeptEnds × KeptEnds)
+    → graph_among handle table graphs ≡ Some set → KeepsAdjacency table graphs old → MayTurnTo handle set old new → KeepsAdjacency table graphs new
+kept_asked handle table graphs set old new is h (inl stays) = subst (KeepsAdjacency table graphs) (sym stays) h
+kept_asked handle table graphs set old new is h (inr turns) = kept_turned_to handle table graphs set old new is h turns
 
 -- ---- the same graphs
 

@@ -8,3 +8,4 @@ pub mod PointNodes
 pub mod IndexNodes
 pub mod PlanLineTexts
 pub mod PrintedPlanLines
+pub mod ReplyNames

@@ -8,7 +8,7 @@ use Rattle.dg_history.specs.declared.node.NodeId.TheVariants.{Root}
 use Rattle.dg_index.specs.OpenedIndex.{Opening, event_total}
 use Rattle.dg_machine.specs.declared.reply.BodyLine.{BodyLine}
 use Rattle.dg_machine.specs.declared.reply.Head.TheVariants as head
-use Rattle.dg_machine.specs.declared.reply.Reply.{Reply}
+use Rattle.dg_machine.specs.declared.reply.Reply.TheVariants as replied
 use Rattle.dg_machine.specs.Answer.{plan_reply, potential_lines, step_lines}
 use Rattle.dg_plan.specs.declared.edge.Edge.{Edge}
 use Rattle.dg_plan.specs.IndexGraph.{arcs_of}
@@ -22,7 +22,7 @@ pub reply_is : (o : Opening) (recent : List Event) (bases : List (ℕ × NodeId)
     → edges ≡ kept_edges o (event_total o.batches) cols bases → nodes ≡ kept_nodes o (event_total o.batches) cols → target ≡ point_over o recent t
     → IsPlan (arcs_of edges) (Root ∷ []) target steps → weight ≡ weight_of (arcs_of edges) steps → AllZip (IsPotential (arcs_of edges) (Root ∷ []) weight) nodes potentials
     → lines ≡ step_lines edges steps ++ potential_lines weight nodes potentials → count ≡ length steps
-    → IsPlanReply o recent bases t cols (record { head = head.Plan weight count; body = lines })
+    → IsPlanReply o recent bases t cols (replied.Answered (head.Plan weight count) lines)
 reply_is o recent bases t cols edges nodes target steps potentials weight count lines e n at plan w zip l c = record {
   plan = record no_plan { steps = steps; potentials = potentials };
   least =
@@ -33,8 +33,8 @@ reply_is o recent bases t cols edges nodes target steps potentials weight count 
       (subst (λ (es : List Edge). AllZip (IsPotential (arcs_of es) (Root ∷ []) (weight_of (arcs_of es) steps)) nodes potentials) e
       (subst (λ (x : ℕ). AllZip (IsPotential (arcs_of edges) (Root ∷ []) x) nodes potentials) w zip));
   says =
-      ap (λ (xs : List BodyLine). let r : Reply = record { head = head.Plan weight count; body = xs } in r) l
-      ∙ ap (λ (k : ℕ). let r : Reply = record { head = head.Plan weight k; body = step_lines edges steps ++ potential_lines weight nodes potentials } in r) c
+      ap (λ (xs : List BodyLine). replied.Answered (head.Plan weight count) xs) l
+      ∙ ap (λ (k : ℕ). replied.Answered (head.Plan weight k) (step_lines edges steps ++ potential_lines weight nodes potentials)) c
       ∙ ap (λ (x : ℕ). plan_reply edges nodes x steps potentials) w
       ∙ (λ i. plan_reply (e i) (n i) (weight_of (arcs_of (e i)) steps) steps potentials);
 }

@@ -47,6 +47,10 @@ BothServe handle set kept = ServesFor handle set kept.0 × ServesFor handle set 
 abbrev pub TurnsTo : ℕ → List Element → KeptEnds × KeptEnds → KeptEnds × KeptEnds → Type 0
 TurnsTo handle set old new = KeepsAlone handle set new.0 × ((new.1 ≡ old.0) ⊎ (new.1 ≡ old.1))
 
+-- what is kept is as before, or as after a query of a node of this handle, whose graph is the set
+abbrev pub MayTurnTo : ℕ → List Element → KeptEnds × KeptEnds → KeptEnds × KeptEnds → Type 0
+MayTurnTo handle set old new = (new ≡ old) ⊎ TurnsTo handle set old new
+
 -- what is kept of each is that of a live handle's graph
 abbrev pub KeepsAdjacency : List (ℕ × Stands) → List (List Element) → KeptEnds × KeptEnds → Type 0
 KeepsAdjacency table graphs kept = IsOfLiveHandle table graphs kept.0 × IsOfLiveHandle table graphs kept.1

@@ -4,3 +4,4 @@ pub mod KeptPlanner
 pub mod Plans
 pub mod PrintedPlans
 pub mod RecordListing
+pub mod ReplyNames

@@ -7,6 +7,7 @@ use Rattle.dg_history.specs.LegalHistory.{IsLegal}
 use Rattle.dg_machine.specs.declared.command.Command.TheVariants as command
 use Rattle.dg_machine.specs.declared.reply.Head.TheVariants.{Certified}
 use Rattle.dg_machine.specs.declared.reply.Reply.{Reply}
+use Rattle.dg_machine.specs.declared.reply.Reply.TheVariants as replied
 use Rattle.dg_machine.specs.Answer.{Answered, answer, headed, say}
 use Rattle.dg_machine.specs.MachineState.{MachineState, history_in}
 use Rattle.dg_machine.specs.Needs.{refused}
@@ -17,9 +18,10 @@ use Rattle.dg_plan.specs.IndexGraph.{arcs_of}
 use Rattle.dg_plan.specs.Walks.{weight_of}
 use Rattle.dg_planner.specs.Bases.{HasBases}
 
--- the text of a reply's body, cut into the lines of a script
+-- the text of an answer's body, cut into the lines of a script; a refusal has no body
 abbrev pub printed_lines : List (List ℕ) → Reply → List ScriptLine
-printed_lines names r = lines_of (body_text names r.body)
+printed_lines names (replied.Refused r) = []
+printed_lines names (replied.Answered h body) = lines_of (body_text names body)
 
 -- the answer to `certify` where it is followed by these lines
 abbrev pub certify_answer : MachineState → ℕ → Columns → List ScriptLine → Answered

@@ -13,6 +13,7 @@ use Rattle.dg_machine.specs.declared.reply.BodyLine.{BodyLine}
 use Rattle.dg_machine.specs.declared.reply.BodyLine.TheVariants as line
 use Rattle.dg_machine.specs.declared.reply.Head.TheVariants as head
 use Rattle.dg_machine.specs.declared.reply.Reply.{Reply}
+use Rattle.dg_machine.specs.declared.reply.Reply.TheVariants as replied
 
 -- the bytes of each column of a record, and none where the key is not held
 abbrev pub lengths_held : Option Entry → PerColumn ℕ
@@ -29,7 +30,5 @@ down_keys arity leaves h = map (λ c. key.Down h c) (numbers 1 (leaves / arity ^
 
 -- the reply of an index with so many events
 abbrev pub listing_of : Opening → ℕ → Reply
-listing_of o n = record {
-  head = head.Tree o.params.l o.params.k o.params.function n (leaves o.params n) (length (keys_of o.params n));
-  body = map (held_line o.records) (keys_of o.params n);
-}
+listing_of o n =
+    replied.Answered (head.Tree o.params.l o.params.k o.params.function n (leaves o.params n) (length (keys_of o.params n))) (map (held_line o.records) (keys_of o.params n))

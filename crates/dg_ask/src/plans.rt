@@ -181,7 +181,7 @@ pub fn plan_reply(
     let nodes = planner.nodes(alloc)?;
     let route = planner.plan(alloc, point_of(index, recent, t))?;
     let lines = plan_lines(alloc, planner.edges(), &nodes, &route)?;
-    Ok(Reply {
+    Ok(Reply::Answered {
         head: Head::Plan {
             weight: route.weight,
             steps: route.steps.len() as u64,

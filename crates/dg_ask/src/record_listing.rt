@@ -148,7 +148,7 @@ pub fn tree_reply(alloc: Global, index: &Index) -> Result<Reply, AllocError>
     let shape = shape_of(index);
     let lines = record_lines(alloc, shape, index.catalogue())?;
     let Params { l, k, function } = index.params();
-    Ok(Reply {
+    Ok(Reply::Answered {
         head: Head::Tree {
             l,
             k,

@@ -42,11 +42,11 @@ use Rattle.dg_dump.proofs.LinesBack.{IsWord, above, number_back, number_is_word,
 pub record Goes (m : MachineState) (lines : List ScriptLine) (n : MachineState) : Type 0 where
   pub answers : List Answered
   pub run : Run m (entries_of lines) answers
-  pub ok : All (λ (a : Answered). is_refusal a.reply.head ≡ false) answers
+  pub ok : All (λ (a : Answered). is_refusal a.reply ≡ false) answers
   pub ends : last_state m answers ≡ n
 
 pub goes_nowhere : (m : MachineState) → Goes m [] m
-goes_nowhere m = record { answers = []; run = tt; ok = All-nil (λ (a : Answered). is_refusal a.reply.head ≡ false); ends = refl }
+goes_nowhere m = record { answers = []; run = tt; ok = All-nil (λ (a : Answered). is_refusal a.reply ≡ false); ends = refl }
 
 -- a command with the lines that follow it, and the lines behind them
 entry_here : (line : ScriptLine) (c : Command) (got rest : List ScriptLine) → meaning line ≡ Command_is c → following c ≡ length got
@@ -59,7 +59,7 @@ entry_here line c got rest is count =
 
 -- one more command in front: its answer is ok, and the run goes on from the state behind it
 pub goes_on : (m n : MachineState) (line : ScriptLine) (c : Command) (got rest : List ScriptLine) (a : Answered) → meaning line ≡ Command_is c → following c ≡ length got
-    → refused m c got ≡ None → (IsPlanned m c no_plan) → accepted m c got no_plan ≡ a → is_refusal a.reply.head ≡ false
+    → refused m c got ≡ None → (IsPlanned m c no_plan) → accepted m c got no_plan ≡ a → is_refusal a.reply ≡ false
     → Goes a.state rest n → Goes m (line ∷ got ++ rest) n
 goes_on m n line c got rest a is count free planned says ok g =
     let answers : answer m c got no_plan ≡ a = ap (λ o. answer_by o m c got no_plan) free ∙ says in
@@ -68,7 +68,7 @@ goes_on m n line c got rest a is count free planned says ok g =
     record {
       answers = a ∷ g.answers;
       run = subst (λ es. Run m es (a ∷ g.answers)) (sym (entry_here line c got rest is count)) (step, g.run);
-      ok = All-cons (λ (a : Answered). is_refusal a.reply.head ≡ false) a g.answers ok g.ok;
+      ok = All-cons (λ (a : Answered). is_refusal a.reply ≡ false) a g.answers ok g.ok;
       ends = g.ends;
     }
 

@@ -14,13 +14,13 @@ use Rattle.dg_dump.specs.ScriptOfHistory.{script_of}
 use Rattle.dg_dump.proofs.HistoryRuns.{scripts_make_histories}
 
 -- a free reply is a refusal
-free_refuses : (r : Reply) → is_refusal r.head ≡ false → IsFree r → ⊥
+free_refuses : (r : Reply) → is_refusal r ≡ false → IsFree r → ⊥
 free_refuses r ok free =
-    ⊎_elim (λ (e : r ≡ no_memory). false≢true (sym ok ∙ ap (λ (r : Reply). is_refusal r.head) e))
-    (λ (e : r ≡ store_read). false≢true (sym ok ∙ ap (λ (r : Reply). is_refusal r.head) e)) free
+    ⊎_elim (λ (e : r ≡ no_memory). false≢true (sym ok ∙ ap (λ (r : Reply). is_refusal r) e))
+    (λ (e : r ≡ store_read). false≢true (sym ok ∙ ap (λ (r : Reply). is_refusal r) e)) free
 
 -- two runs over the same entries, in one of which each reply is ok, and in the other none is free
-one_run : IsDetermined → (m : MachineState) (entries : List Entry) (xs ys : List Answered) → Run m entries xs → All (λ (a : Answered). is_refusal a.reply.head ≡ false) xs
+one_run : IsDetermined → (m : MachineState) (entries : List Entry) (xs ys : List Answered) → Run m entries xs → All (λ (a : Answered). is_refusal a.reply ≡ false) xs
     → Run m entries ys → All (λ (a : Answered). IsFree a.reply → ⊥) ys → xs ≡ ys
 one_run det m [] [] [] run ok other bound = refl
 one_run det m [] [] (y ∷ ys) run ok other bound = absurd other
@@ -28,7 +28,7 @@ one_run det m [] (x ∷ xs) ys run ok other bound = absurd run
 one_run det m (e ∷ entries) [] ys run ok other bound = absurd run
 one_run det m (e ∷ entries) (x ∷ xs) [] run ok other bound = absurd other
 one_run det m (e ∷ entries) (x ∷ xs) (y ∷ ys) run ok other bound =
-    let P : Answered → Type 0 = λ a. is_refusal a.reply.head ≡ false in
+    let P : Answered → Type 0 = λ a. is_refusal a.reply ≡ false in
     let Q : Answered → Type 0 = λ a. IsFree a.reply → ⊥ in
     ⊎_elim
     (λ free. ⊎_elim (λ f. absurd (free_refuses x.reply (All-head P x xs ok) f)) (λ f. absurd (All-head Q y ys bound f)) free)

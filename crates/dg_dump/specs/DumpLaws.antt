@@ -84,7 +84,7 @@ in_second_form z = record z { form = form.Two }
 -- a run of the machine over the script from no index, in which each reply is ok, and which ends with the history
 pub record Makes (limits : Limits) (z : History) (answers : List Answered) : Type 0 where
   pub run : Run (machine_at limits None) (script (script_of z)) answers
-  pub ok : All (λ (a : Answered). is_refusal a.reply.head ≡ false) answers
+  pub ok : All (λ (a : Answered). is_refusal a.reply ≡ false) answers
   pub ends : last_state (machine_at limits None) answers ≡ machine_at limits (Some (in_second_form z))
 
 -- The script of a legal history whose names are those of its lines makes this history, in the second form.

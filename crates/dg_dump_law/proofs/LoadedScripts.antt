@@ -71,9 +71,9 @@ not_counted false n e = (refl, omega (arith, e))
 none_says : (answers : List Answered) → failed_reads answers ≡ 0 → NoneFailsToRead answers
 none_says [] none = All-nil (λ (a : Answered). a.reply ≡ store_read → ⊥)
 none_says (a ∷ answers) none =
-    let parts = not_counted (is_store_read a.reply.head) (failed_reads answers) (sym (sum_by-cons (λ (a : Answered). cond (is_store_read a.reply.head) 1 0) a answers) ∙ none) in
+    let parts = not_counted (is_store_read a.reply) (failed_reads answers) (sym (sum_by-cons (λ (a : Answered). cond (is_store_read a.reply) 1 0) a answers) ∙ none) in
     All-cons (λ (a : Answered). a.reply ≡ store_read → ⊥) a answers
-    (λ is. false≢true (sym parts.0 ∙ ap (λ (r : Reply). is_store_read r.head) is)) (none_says answers parts.1)
+    (λ is. false≢true (sym parts.0 ∙ ap is_store_read is)) (none_says answers parts.1)
 
 -- a count that has not risen counts none
 none_rose : (n before after : ℕ) → raised_by (n + 0) before ≤ after → (DiskRose before after → ⊥) → n ≡ 0

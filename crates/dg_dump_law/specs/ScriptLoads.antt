@@ -44,7 +44,7 @@ NoneFailsToRead answers = All (λ (a : Answered). a.reply ≡ store_read → ⊥
 -- The history was made: no reply refuses, and the index file is just the bytes of the history's file and a closed gate of 0,
 -- so that it stands for the history.
 pub record IsMade (z : History) (answers : List Answered) (now : Outside) : Type 0 where
-  pub ok : All (λ (a : Answered). is_refusal a.reply.head ≡ false) answers
+  pub ok : All (λ (a : Answered). is_refusal a.reply ≡ false) answers
   pub image : now.image ≡ Some (file z ++ 0 ∷ [])
   pub stands : IsImageOf z (file z ++ 0 ∷ [])
 

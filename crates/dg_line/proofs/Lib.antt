@@ -1,9 +1,9 @@
 pub mod TailTexts
-pub mod LineTails
-pub mod Verbs
+pub mod Readers
 pub mod VerbReaders
-pub mod CommandTails
-pub mod CommandGrammarInstants
-pub mod CommandGrammar
-pub mod CommandGrammarSteps
-pub mod PartGrammar
+pub mod Instants
+pub mod Steps
+pub mod LineTails
+pub mod CommandRows
+pub mod RowLines
+pub mod Loops

@@ -1,16 +1,20 @@
 -- How far a line goes along with some words and what comes behind them.
-use Rattle.std.proofs.Common.{◌≡◌, ℕ, ◌+◌, ◌*◌, ◌<◌, ◌≤◌, List, [], ◌∷◌, ◌++◌, length, get_or, take, drop, codes, refl, ap, arith, length-append}
+use Rattle.std.proofs.Common.{◌≡◌, ℕ, ◌+◌, ◌*◌, ◌<◌, ◌≤◌, List, [], ◌∷◌, ◌++◌, length, get_or, replicate, take, drop, codes, refl, ap, arith, length-append}
 use Rattle.std.proofs.lemmas.List.{length-take-le}
 use Rattle.dg_expr.specs.Owing.{start}
 use Rattle.dg_expr.proofs.ExpressionTexts.{complete_is, complete_short, is_complete, sample}
 use Rattle.dg_grammar.specs.Prefixes.{IsLongestPrefix}
-use Rattle.dg_grammar.specs.Symbols.{Terminal, IsWordOf}
+use Rattle.dg_grammar.specs.Symbols.{Terminal, Number, IsLineOf, IsWordOf}
+use Rattle.dg_graph.specs.declared.limits.TheConstants.{TIME_MAX}
+use Rattle.dg_machine.specs.declared.command.TheConstants.{TIMES_MAX}
 use Rattle.dg_grammar.proofs.Prefixes.{goes_on, stops}
-use Rattle.dg_grammar.proofs.Symbols.{AreWellFormed, fine_word, parted_at, sample_word, space_is, well_formed_first}
+use Rattle.dg_grammar.proofs.ListElements.{any_first}
+use Rattle.dg_grammar.proofs.Symbols.{AreWellFormed, fine_word, lines_short, parted_at, sample_word, space_is, well_formed_first}
 use Rattle.dg_line.specs.declared.tails.Tail.{Tail}
 use Rattle.dg_line.specs.declared.tails.Tail.TheVariants as tail
 use Rattle.dg_line.specs.Tails.{IsLineThen, IsTail}
 use Rattle.dg_line.proofs.TailTexts.{key_parts, value_parts}
+use Rattle.dg_line.proofs.Instants.{instants_sample}
 
 -- ---- samples
 
@@ -18,6 +22,7 @@ pub tail_sample : (t : Tail) → (line : List ℕ) × IsTail t line
 tail_sample tail.Expression = let s = sample start (omega arith) refl in (s.0, complete_is s.0 s.1)
 tail_sample tail.Key = (codes "k", refl)
 tail_sample tail.Search = (codes "k ", record { word = codes "k"; after = []; parts = refl; taken = refl; goes_on = refl })
+tail_sample tail.Instants = instants_sample
 
 pub then_sample : (row : List Terminal) (t : Tail) → AreWellFormed row → (line : List ℕ) × IsLineThen row (IsTail t) line
 then_sample [] t e = tail_sample t
@@ -56,6 +61,10 @@ tail_short tail.Search line h =
     let key = (key_parts h.word h.taken).few in
     let value = (value_parts h.after h.goes_on).few in
     omega (arith, ap length h.parts, length-append h.word (32 ∷ h.after))
+tail_short tail.Instants line h =
+    let row = replicate TIMES_MAX (Number 0 TIME_MAX) in
+    let short = lines_short (row ∷ []) line TIMES_MAX refl refl (any_first (λ (r : List Terminal). IsLineOf r line) row [] h) in
+    omega arith
 
 pub then_short : (row : List Terminal) (t : Tail) (line : List ℕ) → AreWellFormed row → IsLineThen row (IsTail t) line → length line ≤ 21 * length row + 1200
 then_short [] t line e h = let short = tail_short t line h in omega arith

@@ -1,3 +1,4 @@
 pub mod TextChange
 pub mod Tails
 pub mod PartGrammar
+pub mod Table

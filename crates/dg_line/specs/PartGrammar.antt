@@ -3,7 +3,7 @@ use Rattle.std.specs.Prelude.{ℕ, List, [], ◌∷◌, Option, codes}
 use Rattle.dg_changes.specs.ChangeGrammar.{time_of}
 use Rattle.dg_machine.specs.declared.command.Command.{Command}
 use Rattle.dg_machine.specs.declared.command.Command.TheVariants as command
-use Rattle.dg_machine.specs.declared.command.Query.TheVariants as query
+use Rattle.dg_machine.specs.declared.query.Query.TheVariants as query
 use Rattle.dg_machine.specs.CommandGrammar.{columns_of, handle_of}
 use Rattle.dg_text.specs.Verbs.{Verb, verb, one, read_by, two_words}
 use Rattle.dg_text.specs.Words.{words}

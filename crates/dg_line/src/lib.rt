@@ -4,22 +4,17 @@
 
 mod change;
 mod command;
-mod command_words;
-mod handle_parsers;
-mod index_parsers;
-mod part_command;
 mod plan_line;
-mod selection_parsers;
-mod symbols;
+mod rows;
+mod table;
 mod tails;
 mod text_change;
 mod words;
 
 pub use change::{ChangeFault, read_change};
-pub use command::{Syntax, read_command};
+pub use command::{Syntax, read_command, read_part_command};
 pub use dg_graph::{Change, Columns, Function, What};
 pub use dg_history::NodeId;
 pub use dg_machine::{Command, Query, TIMES_MAX};
 pub use dg_plan::PlanLine;
-pub use part_command::read_part_command;
 pub use plan_line::read_plan_line;

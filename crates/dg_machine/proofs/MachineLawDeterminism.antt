@@ -12,11 +12,11 @@ use Rattle.dg_plan.proofs.WalkLeastCosts.{least_is_one}
 use Rattle.dg_plan.proofs.WalkPlans.{one_plan}
 use Rattle.dg_machine.specs.declared.command.Command.{Command}
 use Rattle.dg_machine.specs.declared.command.Command.TheVariants as command
-use Rattle.dg_machine.specs.declared.reply.Head.TheVariants as head
+use Rattle.dg_machine.specs.declared.reply.Reply.TheVariants as replied
 use Rattle.dg_machine.specs.declared.selection.Selection.TheVariants.{Chosen}
 use Rattle.dg_machine.specs.declared.reply.Refusal.{Refusal}
 use Rattle.dg_machine.specs.declared.reply.Refusal.TheVariants as refusal
-use Rattle.dg_machine.specs.Answer.{Answered, IsPlannedBy, answer_by, accepted, headed}
+use Rattle.dg_machine.specs.Answer.{Answered, IsPlannedBy, answer_by, accepted}
 use Rattle.dg_machine.specs.CommandGrammar.{IsColumn}
 use Rattle.dg_machine.specs.MachineLaws.{IsDetermined}
 use Rattle.dg_machine.specs.MachineState.{MachineState}
@@ -106,5 +106,5 @@ determined m e r s k n (Fails_to_read c lines t) y = inl (inl (inr refl))
 determined m e r s k n (Answers c lines p x) (Lacks_memory d others t) = inl (inr (inl refl))
 determined m e r s k n (Answers c lines p x) (Fails_to_read d others t) = inl (inr (inr refl))
 determined m e r s k n (Leaves_grammar line column x) (Leaves_grammar same other y) =
-    inr (ap (λ d. headed (head.Refused (refusal.Syntax d))) (one_column line column other x y), refl)
+    inr (ap (λ d. replied.Refused (refusal.Syntax d)) (one_column line column other x y), refl)
 determined m e r s k n Too_long Too_long = inr (refl, refl)

@@ -2,8 +2,8 @@
 use Rattle.std.proofs.Common.{◌≡◌, Bool, true, false, Option, Some, None, sym}
 use Rattle.std.specs.Prelude.{is_some}
 use Rattle.std.proofs.lemmas.Bool.{false≢true}
-use Rattle.dg_machine.specs.declared.reply.Head.{Head}
 use Rattle.dg_machine.specs.declared.reply.Refusal.{Refusal}
+use Rattle.dg_machine.specs.declared.reply.Reply.{Reply}
 use Rattle.dg_machine.specs.Answer.{is_refusal, refusal_of, refuses}
 use Rattle.dg_machine.specs.Run.{is_failed_read, is_store_read}
 
@@ -12,5 +12,5 @@ refuses_none test None accepts e = false≢true e
 refuses_none test (Some r) accepts e = false≢true (sym accepts)
 
 -- a reply that is no refusal does not say that a read failed
-pub store_read_refuses : (h : Head) → is_refusal h ≡ false → is_store_read h ≡ true → ⊥
-store_read_refuses h accepts e = refuses_none is_failed_read (refusal_of h) accepts e
+pub store_read_refuses : (r : Reply) → is_refusal r ≡ false → is_store_read r ≡ true → ⊥
+store_read_refuses r accepts e = refuses_none is_failed_read (refusal_of r) accepts e

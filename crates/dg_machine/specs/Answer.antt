@@ -6,7 +6,6 @@ use Rattle.dg_graph.specs.declared.element.Column.TheVariants as column
 use Rattle.dg_graph.specs.declared.element.Columns.{Columns}
 use Rattle.dg_graph.specs.declared.element.Element.{Element}
 use Rattle.dg_graph.specs.declared.element.Element.TheVariants as element
-use Rattle.dg_graph.specs.Elements.{has}
 use Rattle.dg_text.specs.Lines.{ScriptLine}
 use Rattle.dg_graph.specs.Replay.{replay}
 use Rattle.dg_changes.specs.Batch.{batch_of}
@@ -18,8 +17,7 @@ use Rattle.dg_history.specs.LegalHistory.{are_silent}
 use Rattle.dg_index.specs.HeardLists.{heard_length}
 use Rattle.dg_machine.specs.declared.command.Command.{Command}
 use Rattle.dg_machine.specs.declared.command.Command.TheVariants as command
-use Rattle.dg_machine.specs.declared.command.Query.{Query}
-use Rattle.dg_machine.specs.declared.command.Query.TheVariants as query
+use Rattle.dg_machine.specs.declared.query.Query.{Query}
 use Rattle.dg_history.specs.declared.node.Key.{Key}
 use Rattle.dg_history.specs.declared.node.NodeId.{NodeId}
 use Rattle.dg_index.specs.Hierarchy.{leaves}
@@ -36,6 +34,8 @@ use Rattle.dg_machine.specs.declared.reply.Head.TheVariants as head
 use Rattle.dg_machine.specs.declared.reply.Refusal.{Refusal}
 use Rattle.dg_machine.specs.declared.reply.Refusal.TheVariants as refusal
 use Rattle.dg_machine.specs.declared.reply.Reply.{Reply}
+use Rattle.dg_machine.specs.declared.reply.Reply.TheVariants as replied
+use Rattle.dg_machine.specs.QueryTable.{Told, told_of}
 use Rattle.dg_machine.specs.declared.selection.Selection.{Selection}
 use Rattle.dg_machine.specs.declared.selection.Selection.TheVariants.{Chosen, Added}
 use Rattle.dg_machine.specs.declared.stands.Stands.{Stands}
@@ -47,7 +47,7 @@ use Rattle.dg_text.specs.Names.{number_in}
 use Rattle.dg_machine.specs.MachineState.{MachineState, elements, elements_held, names_in, stands_at, history_in, without_handle}
 use Rattle.dg_machine.specs.CommandGrammar.{plan_line_in}
 use Rattle.dg_changes.specs.GeneratedChanges.{batch_of_changes, generated}
-use Rattle.dg_query.specs.Queries.{counts_of, degree_of, neighbours_of, values_of}
+use Rattle.dg_query.specs.Queries.{counts_of}
 use Rattle.dg_sound.specs.declared.soundness.Soundness.TheVariants.{Sound}
 use Rattle.dg_sound.specs.Soundness.{record_total}
 use Rattle.dg_machine.specs.Needs.{needs, number_in_index, refused, is_followed}
@@ -57,13 +57,13 @@ pub record Answered : Type 0 where
   pub reply : Reply
   pub state : MachineState
 
--- a reply of a head line alone
+-- an answer of a first line alone
 abbrev pub headed : Head → Reply
-headed h = record { head = h; body = [] }
+headed h = replied.Answered h []
 
 -- the refusal, and the state as before
 abbrev pub refuse : MachineState → Refusal → Answered
-refuse m r = record { reply = headed (head.Refused r); state = m }
+refuse m r = record { reply = replied.Refused r; state = m }
 
 -- the reply, and the state as before
 abbrev pub say : MachineState → Reply → Answered
@@ -132,10 +132,6 @@ columns_by m handle = columns_if (stands_at handle m.table)
 abbrev pub shown_by : MachineState → ℕ → List Element
 shown_by m handle = elements_if (history_in m.index) (stands_at handle m.table)
 
--- the listing of a set
-abbrev pub listing : ℕ → List Element → Reply
-listing handle set = record { head = head.List handle (length set); body = map (λ x. line.Element x) set }
-
 -- the lines of new handles from this number on: each with its instant and the weight of its single plan
 abbrev pub handle_lines : ℕ → List ℕ → List ℕ → List BodyLine
 handle_lines next [] singles = []
@@ -144,30 +140,13 @@ handle_lines next (t ∷ times) (single ∷ singles) = line.Handle next t single
 
 -- ---- what is asked of a handle's graph
 
--- how many elements of each kind the set has, messages among them where these columns have them
-abbrev pub counting : ℕ → Columns → List Element → Reply
-counting handle cols set = headed (head.Counts handle (counts_of set) cols.transient)
+-- the answer about a handle
+abbrev pub asked : ℕ → Told → Reply
+asked handle told = replied.Answered (head.Asked handle told.head) told.body
 
--- the node of the set, with a line for each attribute; or that it is not in the set
-abbrev pub node_reply : ℕ → ℕ → List Element → Reply
-node_reply handle id set =
-    if has set (element.Node id)
-    then record { head = head.NodeThere handle id (degree_of set id); body = map (λ v. line.Attribute v) (values_of set id) }
-    else headed (head.NodeAbsent handle id)
-
--- a line for each edge at the node
-abbrev pub neighbours_reply : ℕ → ℕ → List Element → Reply
-neighbours_reply handle id set = record {
-  head = head.Neighbours handle id (length (neighbours_of set id));
-  body = map (λ n. line.Neighbour n) (neighbours_of set id);
-}
-
--- the reply to a query of this set, which has these columns
+-- the answer to a query of this set, which has these columns
 abbrev pub query_reply : Query → ℕ → Columns → List Element → Reply
-query_reply query.List handle cols set = listing handle set
-query_reply query.Counts handle cols set = counting handle cols set
-query_reply (query.Node id) handle cols set = node_reply handle id set
-query_reply (query.Neighbours id) handle cols set = neighbours_reply handle id set
+query_reply q handle cols set = asked handle (told_of q cols set)
 
 -- ---- new handles
 
@@ -183,7 +162,7 @@ with_heard m cols (t ∷ times) (single ∷ singles) = (single + heard_for m col
 
 -- the reply of a tree that weighs so much, with the weights of the single plans, for handles from this number on
 abbrev pub several_reply : ℕ → ℕ → List ℕ → List ℕ → Reply
-several_reply next weight times singles = record { head = head.Several weight (sum singles); body = handle_lines next times singles }
+several_reply next weight times singles = replied.Answered (head.Several weight (sum singles)) (handle_lines next times singles)
 
 -- ---- what is selected
 
@@ -208,7 +187,7 @@ with_index m key = record {
 
 -- a line for each node that was found
 abbrev pub found_reply : List ℕ → Reply
-found_reply ids = record { head = head.Found (length ids); body = map (λ id. line.Element (element.Node id)) ids }
+found_reply ids = replied.Answered (head.Found (length ids)) (map (λ id. line.Element (element.Node id)) ids)
 
 -- ---- plans
 
@@ -233,10 +212,8 @@ potential_lines weight (node ∷ nodes) (p ∷ potentials) = potential_line weig
 
 -- the reply of a plan with these steps and potentials, which weighs so much
 abbrev pub plan_reply : List Edge → List NodeId → ℕ → List ℕ → List ℕ → Reply
-plan_reply edges nodes weight steps potentials = record {
-  head = head.Plan weight (length steps);
-  body = step_lines edges steps ++ potential_lines weight nodes potentials;
-}
+plan_reply edges nodes weight steps potentials =
+    replied.Answered (head.Plan weight (length steps)) (step_lines edges steps ++ potential_lines weight nodes potentials)
 
 -- ---- records
 
@@ -252,10 +229,9 @@ record_line z k =
 
 -- the parameters, and a line for each list, top and down
 abbrev pub tree_reply : History → Reply
-tree_reply z = record {
-  head = head.Tree z.params.l z.params.k z.params.function (length (events_of z)) (leaves z.params (length (events_of z))) (length (keys_of z.params (length (events_of z))));
-  body = map (record_line z) (keys_of z.params (length (events_of z)));
-}
+tree_reply z =
+    replied.Answered (head.Tree z.params.l z.params.k z.params.function (length (events_of z)) (leaves z.params (length (events_of z))) (length (keys_of z.params (length (events_of z)))))
+    (map (record_line z) (keys_of z.params (length (events_of z))))
 
 -- ---- the file
 
@@ -335,15 +311,15 @@ IsPlannedBy None m c p = IsPlanned m c p
 
 -- want of memory
 abbrev pub no_memory : Reply
-no_memory = headed (head.Refused refusal.OutOfMemory)
+no_memory = replied.Refused refusal.OutOfMemory
 
 -- the refusal, where the reply is one
-abbrev pub refusal_of : Head → Option Refusal
-refusal_of (head.Refused r) = Some r
-refusal_of h = None
+abbrev pub refusal_of : Reply → Option Refusal
+refusal_of (replied.Refused r) = Some r
+refusal_of (replied.Answered h body) = None
 
-abbrev pub is_refusal : Head → Bool
-is_refusal h = is_some (refusal_of h)
+abbrev pub is_refusal : Reply → Bool
+is_refusal r = is_some (refusal_of r)
 
 -- the reply is a refusal that passes the test
 abbrev pub refuses : (Refusal → Bool) → Option Refusal → Bool
@@ -352,7 +328,7 @@ refuses test (Some r) = test r
 
 -- a failed read of the index file
 abbrev pub store_read : Reply
-store_read = headed (head.Refused refusal.StoreRead)
+store_read = replied.Refused refusal.StoreRead
 
 -- The command is begun: lines follow it, or it is not refused by what it needs. Every other refusal is decided
 -- before any memory is taken.
@@ -364,22 +340,27 @@ abbrev pub may_lack_memory : MachineState → Command → List ScriptLine → Bo
 may_lack_memory m c lines = (needs c).memory && is_begun m c lines
 
 -- the reply is given behind all reads: it is no refusal, or that of a full file, whose length is known by then
-abbrev pub is_behind_reads : Head → Bool
-is_behind_reads (head.Refused (refusal.FileFull needed limit)) = true
-is_behind_reads h = not (is_refusal h)
+abbrev pub is_behind_reads : Reply → Bool
+is_behind_reads (replied.Refused (refusal.FileFull needed limit)) = true
+is_behind_reads r = not (is_refusal r)
 
 -- A failed read may be answered by a command that reads records of the file, and only in place of a reply that is given
 -- behind all reads: so a failed read never takes the place of a refusal that the script decides. What is planned does
 -- not matter to this.
 abbrev pub may_fail_to_read : MachineState → Command → List ScriptLine → Bool
-may_fail_to_read m c lines = (needs c).reads && is_behind_reads (answer m c lines no_plan).reply.head
+may_fail_to_read m c lines = (needs c).reads && is_behind_reads (answer m c lines no_plan).reply
+
+-- the weight that the first line of the answer to a retrieval tells
+abbrev pub weight_in : Head → ℕ
+weight_in (head.At handle weight) = weight
+weight_in (head.Several weight sum) = weight
+weight_in (head.Materialised handle weight) = weight
+weight_in (head.Chosen handle weight) = weight
+weight_in (head.Added handle weight) = weight
+weight_in (head.Indexed spans weight) = weight
+weight_in h = 0
 
 -- the weight that the reply to a retrieval tells
-abbrev pub weight_told : Head → ℕ
-weight_told (head.At handle weight) = weight
-weight_told (head.Several weight sum) = weight
-weight_told (head.Materialised handle weight) = weight
-weight_told (head.Chosen handle weight) = weight
-weight_told (head.Added handle weight) = weight
-weight_told (head.Indexed spans weight) = weight
-weight_told h = 0
+abbrev pub weight_told : Reply → ℕ
+weight_told (replied.Refused r) = 0
+weight_told (replied.Answered h body) = weight_in h

@@ -1,5 +1,5 @@
 -- The grammar of commands and of plan lines: which line of a script is which.
-use Rattle.std.specs.Prelude.{ℕ, ◌+◌, ◌-◌, ◌≤◌, Bool, true, false, List, [], ◌∷◌, ◌++◌, Option, Some, None, if◌then◌else◌, codes, length, take, is_some, nat_le, option_and_then, replicate, IsTrue}
+use Rattle.std.specs.Prelude.{ℕ, ◌+◌, ◌-◌, ◌≤◌, Bool, true, false, List, [], ◌∷◌, ◌++◌, Option, Some, None, if◌then◌else◌, codes, length, map, take, is_some, nat_le, option_and_then, replicate, IsTrue}
 use Rattle.std.specs.List.{join_with_byte}
 use Rattle.std.specs.Option.{option_map, option_or}
 use Rattle.dg_expr.specs.declared.expression.TheConstants.{EXPRESSION_WORDS_MAX}
@@ -8,10 +8,11 @@ use Rattle.dg_expr.specs.Expressions.{expr_of, is_expression, words_of}
 use Rattle.dg_graph.specs.declared.element.Columns.{Columns}
 use Rattle.dg_machine.specs.declared.command.Command.{Command}
 use Rattle.dg_machine.specs.declared.command.Command.TheVariants as command
-use Rattle.dg_machine.specs.declared.command.Query.TheVariants as query
+use Rattle.dg_machine.specs.declared.query.Query.{Query}
 use Rattle.dg_machine.specs.declared.command.TheConstants.{TIMES_MAX}
 use Rattle.dg_machine.specs.declared.selection.Selection.TheVariants.{Chosen, Added}
 use Rattle.dg_machine.specs.declared.texts.KeyText.{KeyText}
+use Rattle.dg_machine.specs.QueryTable.{query_verbs}
 use Rattle.dg_machine.specs.ValueIndex.{key_of, value_of}
 use Rattle.dg_history.specs.declared.limits.TheConstants.{BATCH_LINES_MAX}
 use Rattle.dg_text.specs.declared.limits.TheConstants.{KEY_BYTES_MAX, NAME_BYTES_MAX}
@@ -114,6 +115,14 @@ search_of (time ∷ key ∷ word ∷ more) =
     option_map (λ v. command.Find t k (value_of v)) (value_text_of (join_with_byte 32 (word ∷ more)))) (key_word key)) (time_of time)
 search_of rest = None
 
+-- a handle, and behind it the words of a query
+abbrev pub asking : (List (List ℕ) → Option Query) → List (List ℕ) → Option Command
+asking read [] = None
+asking read (handle ∷ rest) = option_and_then (λ h. option_map (λ q. command.Ask h q) (read rest)) (handle_of handle)
+
+abbrev pub asking_verb : Verb Query → Verb Command
+asking_verb v = verb v.word (asking v.read)
+
 -- the commands, by their first word
 abbrev pub command_verbs : List (Verb Command)
 command_verbs =
@@ -123,11 +132,8 @@ command_verbs =
     ∷ verb (codes "at") (two_words time_of heard_columns_of (λ t cols. command.At t cols))
     ∷ verb (codes "several") several_of
     ∷ verb (codes "materialise") (read_by held_node_verbs)
-    ∷ verb (codes "list") (one handle_of (λ h. command.Ask h query.List))
-    ∷ verb (codes "counts") (one handle_of (λ h. command.Ask h query.Counts))
-    ∷ verb (codes "node") (two_words handle_of id_of (λ h id. command.Ask h (query.Node id)))
-    ∷ verb (codes "neighbours") (two_words handle_of id_of (λ h id. command.Ask h (query.Neighbours id)))
-    ∷ verb (codes "release") (one handle_of (λ h. command.Release h))
+    ∷ (map asking_verb query_verbs
+    ++ verb (codes "release") (one handle_of (λ h. command.Release h))
     ∷ verb (codes "clean") (one sweep_of (λ c. c))
     ∷ verb (codes "pool") (none_more command.Pool)
     ∷ verb (codes "plan") (two_words time_of columns_of (λ t cols. command.Plan t cols))
@@ -140,7 +146,7 @@ command_verbs =
     ∷ verb (codes "index") (one key_word (λ key. command.Index key))
     ∷ verb (codes "expression") choice_of
     ∷ verb (codes "find") search_of
-    ∷ []
+    ∷ [])
 
 -- the command that the line is
 abbrev pub command_of : List ℕ → Option Command

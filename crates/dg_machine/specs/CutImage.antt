@@ -13,7 +13,7 @@ use Rattle.dg_machine.specs.Script.{Entry, Asked, No_command, Long_line}
 
 -- the entry is a command that writes, and that the machine does not refuse
 abbrev pub IsAcceptedWrite : MachineState → Entry → Type 0
-IsAcceptedWrite m (Asked c lines) = (is_writing c ≡ true) × (is_refusal (answer m c lines no_plan).reply.head ≡ false)
+IsAcceptedWrite m (Asked c lines) = (is_writing c ≡ true) × (is_refusal (answer m c lines no_plan).reply ≡ false)
 IsAcceptedWrite m (No_command line) = ⊥
 IsAcceptedWrite m Long_line = ⊥
 

@@ -1,3 +1,4 @@
+pub mod QueryTable
 pub mod CommandGrammar
 pub mod ReplyText
 pub mod Selections

@@ -15,8 +15,6 @@ use Rattle.dg_history.specs.History.{are_parameters, is_wide, span_of, in_range}
 use Rattle.dg_index.specs.Hierarchy.{exists}
 use Rattle.dg_machine.specs.declared.command.Command.{Command}
 use Rattle.dg_machine.specs.declared.command.Command.TheVariants as command
-use Rattle.dg_machine.specs.declared.command.Query.{Query}
-use Rattle.dg_machine.specs.declared.command.Query.TheVariants as query
 use Rattle.dg_machine.specs.declared.limits.TheConstants.{HANDLE_MAX, INDEXES_MAX, LIVE_HANDLES_MAX}
 use Rattle.dg_machine.specs.declared.reply.Refusal.{Refusal}
 use Rattle.dg_machine.specs.declared.reply.Refusal.TheVariants as refusal
@@ -25,6 +23,7 @@ use Rattle.dg_machine.specs.declared.selection.Selection.TheVariants.{Chosen, Ad
 use Rattle.dg_machine.specs.declared.stands.Stands.{Stands}
 use Rattle.dg_machine.specs.declared.stands.Stands.TheVariants.{Overlay, Base, Selected}
 use Rattle.dg_machine.specs.MachineState.{MachineState, dependent_on, events_in_index, history_in, names_in, stands_at}
+use Rattle.dg_machine.specs.QueryTable.{is_of_nodes, takes_memory}
 use Rattle.dg_machine.specs.ValueIndex.{is_among, key_text}
 
 pub record Needs : Type 0 where
@@ -72,17 +71,6 @@ nothing_more = record {
 -- a batch of so many lines: the older children of interior nodes that it completes are read
 abbrev pub batch_needs : ℕ → Needs
 batch_needs count = record nothing_more { lines = Some count; index = true; changes = count; reads = true; writes = true }
-
--- the query is of the nodes of a graph as of an instant
-abbrev pub is_of_nodes : Query → Bool
-is_of_nodes (query.Node id) = true
-is_of_nodes (query.Neighbours id) = true
-is_of_nodes q = false
-
--- the answer to the query takes memory
-abbrev pub takes_memory : Query → Bool
-takes_memory query.Counts = false
-takes_memory q = true
 
 -- the share of a skewed function; no other has one
 abbrev pub share_of : Function → ℕ

@@ -12,6 +12,8 @@ use Rattle.dg_machine.specs.declared.reply.Refusal.TheVariants as refusal
 use Rattle.dg_machine.specs.declared.reply.BodyLine.{BodyLine}
 use Rattle.dg_machine.specs.declared.reply.BodyLine.TheVariants as line
 use Rattle.dg_machine.specs.declared.reply.Reply.{Reply}
+use Rattle.dg_machine.specs.declared.reply.Reply.TheVariants as replied
+use Rattle.dg_machine.specs.QueryTable.{query_words}
 use Rattle.dg_text.specs.Names.{name_text}
 use Rattle.dg_graph.specs.declared.function.Function.{Function}
 use Rattle.dg_graph.specs.declared.function.Function.TheVariants.{Intersection, Union, Balanced, Skewed}
@@ -130,7 +132,7 @@ refusal_words refusal.NotIndexed = codes "24" ∷ codes "not-indexed" ∷ []
 refusal_words refusal.AlreadyIndexed = codes "25" ∷ codes "already-indexed" ∷ []
 refusal_words refusal.IndexesFull = codes "26" ∷ codes "indexes-full" ∷ []
 
--- the words of a head line
+-- the words of the first line of an answer
 abbrev pub head_words : Head → List (List ℕ)
 head_words head.Created = codes "ok" ∷ codes "create" ∷ []
 head_words head.Upgraded = codes "ok" ∷ codes "upgrade" ∷ []
@@ -139,13 +141,7 @@ head_words (head.Appended events total last) = codes "ok" ∷ codes "append" ∷
 head_words (head.At handle weight) = codes "ok" ∷ codes "at" ∷ decimal handle ∷ decimal weight ∷ []
 head_words (head.Several weight sum) = codes "ok" ∷ codes "several" ∷ decimal weight ∷ decimal sum ∷ []
 head_words (head.Materialised handle weight) = codes "ok" ∷ codes "materialise" ∷ decimal handle ∷ decimal weight ∷ []
-head_words (head.List handle lines) = codes "ok" ∷ codes "list" ∷ decimal handle ∷ decimal lines ∷ []
-head_words (head.Counts handle c with_messages) =
-    codes "ok" ∷ codes "counts" ∷ decimal handle ∷ decimal c.nodes ∷ decimal c.edges ∷ decimal c.node_attrs ∷ decimal c.edge_attrs
-    ∷ (if with_messages then decimal c.messages ∷ [] else [])
-head_words (head.NodeThere handle id degree) = codes "ok" ∷ codes "node" ∷ decimal handle ∷ decimal id ∷ codes "yes" ∷ decimal degree ∷ []
-head_words (head.NodeAbsent handle id) = codes "ok" ∷ codes "node" ∷ decimal handle ∷ decimal id ∷ codes "no" ∷ []
-head_words (head.Neighbours handle id lines) = codes "ok" ∷ codes "neighbours" ∷ decimal handle ∷ decimal id ∷ decimal lines ∷ []
+head_words (head.Asked handle told) = codes "ok" ∷ query_words handle told
 head_words (head.Released handle) = codes "ok" ∷ codes "release" ∷ decimal handle ∷ []
 head_words head.Cleaned = codes "ok" ∷ codes "clean" ∷ []
 head_words (head.CleanedAll cells) = codes "ok" ∷ codes "clean" ∷ codes "all" ∷ decimal cells ∷ []
@@ -161,7 +157,6 @@ head_words (head.Chosen handle weight) = codes "ok" ∷ codes "expression" ∷ d
 head_words (head.Added handle weight) = codes "ok" ∷ codes "interval" ∷ decimal handle ∷ decimal weight ∷ []
 head_words (head.Indexed spans weight) = codes "ok" ∷ codes "index" ∷ decimal spans ∷ decimal weight ∷ []
 head_words (head.Found lines) = codes "ok" ∷ codes "find" ∷ decimal lines ∷ []
-head_words (head.Refused r) = codes "refused" ∷ refusal_words r
 
 -- words with a space between each two, and a line feed
 abbrev pub text_line : List (List ℕ) → List ℕ
@@ -170,6 +165,7 @@ text_line ws = join_with_byte 32 ws ++ 10 ∷ []
 abbrev pub body_text : List (List ℕ) → List BodyLine → List ℕ
 body_text names lines = flat_map (λ l. text_line (body_words names l)) lines
 
--- the head line, the body's lines, and `end`
+-- the first line, the lines of the body, and `end`
 abbrev pub text : List (List ℕ) → Reply → List ℕ
-text names r = text_line (head_words r.head) ++ body_text names r.body ++ text_line (codes "end" ∷ [])
+text names (replied.Refused r) = text_line (codes "refused" ∷ refusal_words r) ++ text_line (codes "end" ∷ [])
+text names (replied.Answered h body) = text_line (head_words h) ++ body_text names body ++ text_line (codes "end" ∷ [])

@@ -4,12 +4,11 @@ use Rattle.std.specs.Prelude.{ℕ, Bool, true, false, List, [], ◌∷◌, IsTru
 use Rattle.std.specs.List.{count_by, flat_map}
 use Rattle.dg_text.specs.Lines.{ScriptLine}
 use Rattle.dg_machine.specs.declared.command.Command.{Command}
-use Rattle.dg_machine.specs.declared.reply.Head.{Head}
-use Rattle.dg_machine.specs.declared.reply.Head.TheVariants as head
 use Rattle.dg_machine.specs.declared.reply.Refusal.{Refusal}
 use Rattle.dg_machine.specs.declared.reply.Refusal.TheVariants as refusal
 use Rattle.dg_machine.specs.declared.reply.Reply.{Reply}
-use Rattle.dg_machine.specs.Answer.{Answered, IsPlannedBy, answer, headed, no_memory, may_lack_memory, store_read, may_fail_to_read, refusal_of, refuses}
+use Rattle.dg_machine.specs.declared.reply.Reply.TheVariants as replied
+use Rattle.dg_machine.specs.Answer.{Answered, IsPlannedBy, answer, no_memory, may_lack_memory, store_read, may_fail_to_read, refusal_of, refuses}
 use Rattle.dg_machine.specs.CommandGrammar.{IsColumn}
 use Rattle.dg_machine.specs.MachineState.{MachineState, names_in}
 use Rattle.dg_machine.specs.Needs.{refused}
@@ -24,8 +23,8 @@ pub data Step (m : MachineState) : Entry → Reply → MachineState → Type 0 w
   Lacks_memory : (c : Command) (lines : List ScriptLine) → IsTrue (may_lack_memory m c lines) → Step m (Asked c lines) no_memory m
   Fails_to_read : (c : Command) (lines : List ScriptLine) → IsTrue (may_fail_to_read m c lines) → Step m (Asked c lines) store_read m
   Leaves_grammar : (line : List ℕ) (column : ℕ) → IsColumn line column
-      → Step m (No_command line) (headed (head.Refused (refusal.Syntax column))) m
-  Too_long : Step m Long_line (headed (head.Refused refusal.LineLong)) m
+      → Step m (No_command line) (replied.Refused (refusal.Syntax column)) m
+  Too_long : Step m Long_line (replied.Refused refusal.LineLong) m
 
 -- the refusal says that a read of the index file failed
 abbrev pub is_failed_read : Refusal → Bool
@@ -33,12 +32,12 @@ is_failed_read refusal.StoreRead = true
 is_failed_read r = false
 
 -- the reply says that a read of the index file failed
-abbrev pub is_store_read : Head → Bool
-is_store_read h = refuses is_failed_read (refusal_of h)
+abbrev pub is_store_read : Reply → Bool
+is_store_read r = refuses is_failed_read (refusal_of r)
 
 -- how many of the replies say so
 abbrev pub failed_reads : List Answered → ℕ
-failed_reads answers = count_by (λ a. is_store_read a.reply.head) answers
+failed_reads answers = count_by (λ a. is_store_read a.reply) answers
 
 -- A run from m: to each entry a reply, with the state after it.
 abbrev pub Run : MachineState → List Entry → List Answered → Type 0

@@ -5,7 +5,7 @@ use Rattle.dg_aux.specs.Values.{nodes_with}
 use Rattle.dg_graph.specs.declared.element.Column.TheVariants as column
 use Rattle.dg_graph.specs.Replay.{replay_at}
 use Rattle.dg_history.specs.declared.node.Key.TheVariants as key
-use Rattle.dg_history.specs.History.{History, events_of, names_of}
+use Rattle.dg_history.specs.History.{History, events_of}
 use Rattle.dg_index.specs.Hierarchy.{leaves, numbers}
 use Rattle.dg_index.specs.IndexRecords.{column_in}
 use Rattle.dg_machine.specs.declared.texts.KeyText.{KeyText}

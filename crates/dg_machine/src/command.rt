@@ -1,4 +1,5 @@
-//! The commands of a script, and the queries of a handle.
+//! The commands of a script.
+use crate::query::Query;
 use crate::selection::Selection;
 use crate::texts::{KeyText, ValueText};
 use dg_graph::{Columns, Function};
@@ -6,21 +7,6 @@ use dg_history::NodeId;
 
 /// The most instants of one command.
 pub const TIMES_MAX: usize = 32;
-
-// A new query also needs: its verb in `CommandGrammar`, its reply in `Answer`, its text in `ReplyText`, and the files that
-// docs/CONTRIBUTING.md lists under "A query of a handle".
-/// What is asked of a handle. Nothing is read for it, and nothing changes.
-#[derive(Clone, Copy)]
-pub enum Query {
-    /// List the elements.
-    List,
-    /// Count the elements, by kind.
-    Counts,
-    /// Print a node of the graph: its degree and its attributes.
-    Node(u64),
-    /// Print the edges at a node of the graph, with their other ends.
-    Neighbours(u64),
-}
 
 // A new command also needs: its verb and words in `CommandGrammar`, its rows in `needs` and `accepted`, and the files that
 // docs/CONTRIBUTING.md lists, under a command that reads or one that writes.

@@ -5,17 +5,19 @@
 mod command;
 mod laws;
 mod limits;
+mod query;
 mod reply;
 mod selection;
 mod stands;
 mod texts;
 
-pub use command::{Command, Query, TIMES_MAX};
+pub use command::{Command, TIMES_MAX};
 pub use laws::law_machine_is_determined;
 pub use limits::{
     FIRST_HANDLE, HANDLE_MAX, INDEXES_MAX, LIVE_HANDLES_MAX, Limits, SCRIPT_BYTES_MAX,
     machine_limits,
 };
+pub use query::{Query, QueryHead};
 pub use reply::{BodyLine, BodyLines, Head, Refusal, Reply};
 pub use selection::Selection;
 pub use stands::Stands;

@@ -1,28 +1,42 @@
 //! Replies: their head lines, their body lines, and the refusals.
 ghost use Rattle.std.specs.Prelude.{◌≡◌, ◌<◌, List, [], ◌∷◌, ◌++◌, Some, length, map, slice_get, OnOk, OnErr};
+ghost use Rattle.dg_machine.specs.Answer.{headed};
 ghost use Rattle.dg_machine.specs.declared.reply.BodyLine.TheVariants as line;
 
+use crate::query::QueryHead;
 use dg_graph::{Column, Element, Function};
 use dg_history::{Key, NodeId};
 use dg_index::PerColumn;
 use dg_plan::Verdict;
-use dg_query::{Counts, KeyValue, Neighbour};
+use dg_query::{KeyValue, Neighbour};
 use dg_sound::Soundness;
 use std::alloc::{AllocError, Global};
 use std::marker::Model;
 
-/// The answer to one command: a head line and the lines of its body. The line `end` follows them.
+/// The reply to one command. The line `end` follows its lines.
 #[derive(Drop)]
-pub struct Reply {
-    /// The first line.
-    pub head: Head,
-    /// The lines between the head and `end`.
-    pub body: BodyLines,
+pub enum Reply {
+    /// The command was refused, and nothing has changed. The reply is one line.
+    Refused(Refusal),
+    /// The command was answered: a first line, and the lines of the body.
+    Answered { head: Head, body: BodyLines },
+}
+
+impl Reply {
+    /// An answer of a first line alone. It takes no memory.
+    pub fn headed(alloc: Global, head: Head) -> Reply
+        ensures { result ≡ headed head }
+    {
+        Reply::Answered {
+            head,
+            body: BodyLines::new(alloc),
+        }
+    }
 }
 
 // A new first line also needs: the command that it answers, in `Answer`; its words in `ReplyText` and dg_reply; the command that
 // it fits, in dg_session's `IsHeadOf`.
-/// The first line of a reply.
+/// The first line of the answer to a command.
 #[derive(Clone, Copy)]
 pub enum Head {
     /// An index was made.
@@ -57,33 +71,10 @@ pub enum Head {
         handle: u32,
         weight: u64,
     },
-    /// The elements of a handle: as many lines follow.
-    List {
+    /// The answer to what was asked of this handle.
+    Asked {
         handle: u32,
-        lines: u64,
-    },
-    /// How many elements of each kind a handle has, messages among them where its columns have these.
-    Counts {
-        handle: u32,
-        counts: Counts,
-        with_messages: bool,
-    },
-    /// The node is in the handle's graph, and has so many edges. A line for each attribute follows.
-    NodeThere {
-        handle: u32,
-        id: u64,
-        degree: u64,
-    },
-    /// The node is not in the handle's graph.
-    NodeAbsent {
-        handle: u32,
-        id: u64,
-    },
-    /// The edges at a node of a handle's graph: as many lines follow.
-    Neighbours {
-        handle: u32,
-        id: u64,
-        lines: u64,
+        told: QueryHead,
     },
     /// A handle was given up.
     Released {
@@ -144,8 +135,6 @@ pub enum Head {
     Found {
         lines: u64,
     },
-    /// The command was refused, and nothing has changed.
-    Refused(Refusal),
 }
 
 // A new refusal also needs: its place and its premise in `refusals` (`Needs`) and in dg_session's `refusals_by`; its words in

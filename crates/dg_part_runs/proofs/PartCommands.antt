@@ -7,7 +7,7 @@ use Rattle.dg_line.specs.PartGrammar.{part_command_of, part_verbs}
 use Rattle.dg_machine.specs.CommandGrammar.{columns_of, handle_of}
 use Rattle.dg_machine.specs.declared.command.Command.{Command}
 use Rattle.dg_machine.specs.declared.command.Command.TheVariants as command
-use Rattle.dg_machine.specs.declared.command.Query.TheVariants as query
+use Rattle.dg_machine.specs.declared.query.Query.TheVariants as query
 use Rattle.dg_text.specs.Verbs.{is_word, none_more, one, read_by, two_words}
 use Rattle.dg_text.specs.Words.{words}
 use Rattle.dg_part_runs.specs.PartsMachine.{IsOfParts}

@@ -6,11 +6,10 @@ use Rattle.dg_disk.specs.declared.disk.Disk.{Ghosts}
 use Rattle.dg_graph.specs.declared.element.Column.{Column}
 use Rattle.dg_graph.specs.declared.element.Columns.{Columns}
 use Rattle.dg_history.specs.declared.node.Key.{Key}
-use Rattle.dg_machine.specs.Answer.{headed}
 use Rattle.dg_machine.specs.declared.command.Command.{Command}
 use Rattle.dg_machine.specs.declared.limits.Limits.{Limits}
-use Rattle.dg_machine.specs.declared.reply.Head.TheVariants as head
 use Rattle.dg_machine.specs.declared.reply.Refusal.{Refusal}
+use Rattle.dg_machine.specs.declared.reply.Reply.TheVariants as replied
 use Rattle.dg_records.specs.declared.fault.RecordFault.{RecordFault}
 use Rattle.dg_records.specs.declared.fault.RecordFault.TheVariants as fault
 use Rattle.dg_session.specs.Damage.{IsMetBy, MeetsNone, TellsGraphDamage, damage_told}
@@ -87,7 +86,7 @@ module _ {D : Type 0} (d : Ghosts D) (t : ℕ) (cols : Columns) (sessions : List
 -- ---- replies
 
 -- a refusal that tells of no damage
-pub tells_none : (c : Command) (sessions : List SessionState) (told : List (Option (List ℕ))) (r : Refusal) → damage_told (Some r) ≡ None → TellsDamage c sessions told (headed (head.Refused r))
+pub tells_none : (c : Command) (sessions : List SessionState) (told : List (Option (List ℕ))) (r : Refusal) → damage_told (Some r) ≡ None → TellsDamage c sessions told (replied.Refused r)
 tells_none c sessions told r none = record {
   damaged = subst (λ (o : Option (Key × Column)). IfSome o (IsFirstFor c sessions told)) (sym none) tt;
   whole = λ no. absurd (cc);

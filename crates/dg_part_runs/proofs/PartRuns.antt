@@ -6,12 +6,11 @@ use Rattle.std.proofs.lemmas.List.Sums.{sum_by-cons}
 use Rattle.dg_disk.specs.declared.disk.Disk.{Ghosts}
 use Rattle.dg_history.specs.History.{History, names_of}
 use Rattle.dg_line.specs.PartGrammar.{part_command_of}
-use Rattle.dg_machine.specs.Answer.{headed}
 use Rattle.dg_machine.specs.declared.command.Command.{Command}
 use Rattle.dg_machine.specs.declared.limits.Limits.{Limits}
-use Rattle.dg_machine.specs.declared.reply.Head.TheVariants as head
 use Rattle.dg_machine.specs.declared.reply.Refusal.{Refusal}
 use Rattle.dg_machine.specs.declared.reply.Reply.{Reply}
+use Rattle.dg_machine.specs.declared.reply.Reply.TheVariants as replied
 use Rattle.dg_machine.specs.MachineState.{machine_at}
 use Rattle.dg_machine.specs.ReplyText.{text}
 use Rattle.dg_machine.specs.Run.{is_store_read}
@@ -56,14 +55,14 @@ module _ {D W : Type 0} (d : Ghosts D) (items : W → List D) (g : machine.Ghost
     sessions : t.machine.sessions.items ≡ m.sessions.items
     nameless : t.machine.nameless ≡ m.nameless
     reads : ReadsAll d (items w) (items t.world)
-    store : is_store_read t.reply.head ≡ true → SomeRose (faults_of d (items w)) (faults_of d (items t.world))
+    store : is_store_read t.reply ≡ true → SomeRose (faults_of d (items w)) (faults_of d (items t.world))
 
-  refuses_keeps : (m : PartSessions) (w : W) (e : Entry) (t : Turned PartSessions W) (r : Refusal) → is_store_read (head.Refused r) ≡ false → t.reply ≡ headed (head.Refused r) → t.machine ≡ m → t.world ≡ w → KeepsParts m w t
+  refuses_keeps : (m : PartSessions) (w : W) (e : Entry) (t : Turned PartSessions W) (r : Refusal) → is_store_read (replied.Refused r) ≡ false → t.reply ≡ replied.Refused r → t.machine ≡ m → t.world ≡ w → KeepsParts m w t
   refuses_keeps m w e t r quiet is same_m same_w = record {
     sessions = ap (λ (x : PartSessions). x.sessions.items) same_m;
     nameless = ap (λ (x : PartSessions). x.nameless) same_m;
     reads = subst (λ (x : W). ReadsAll d (items w) (items x)) (sym same_w) (reads_all_none d (items w));
-    store = λ says. absurd (let f : true ≡ false = sym says ∙ ap (λ (x : Reply). is_store_read x.head) is ∙ quiet in cc);
+    store = λ says. absurd (let f : true ≡ false = sym says ∙ ap is_store_read is ∙ quiet in cc);
   }
 
   keeps : (m : PartSessions) (w : W) (e : Entry) (t : Turned PartSessions W) → Answers g part_command_of m w e t → KeepsParts m w t
@@ -71,8 +70,8 @@ module _ {D W : Type 0} (d : Ghosts D) (items : W → List D) (g : machine.Ghost
       let a = answers_are c got m w t.machine t.world t.reply answers in
       record { sessions = a.sessions; nameless = a.nameless; reads = a.reads; store = a.store_read }
   keeps m w (No_command line) t (r, (column, is_column, is_syntax), is, same_m, same_w) =
-      refuses_keeps m w (No_command line) t r (ap (λ (x : Refusal). is_store_read (head.Refused x)) is_syntax) is same_m same_w
-  keeps m w Long_line t (r, is_long, is, same_m, same_w) = refuses_keeps m w Long_line t r (ap (λ (x : Refusal). is_store_read (head.Refused x)) is_long) is same_m same_w
+      refuses_keeps m w (No_command line) t r (ap (λ (x : Refusal). is_store_read (replied.Refused x)) is_syntax) is same_m same_w
+  keeps m w Long_line t (r, is_long, is, same_m, same_w) = refuses_keeps m w Long_line t r (ap (λ (x : Refusal). is_store_read (replied.Refused x)) is_long) is same_m same_w
 
   pub run_reads : (m : PartSessions) (w : W) (entries : List Entry) (turns : List (Turned PartSessions W)) → RunOver g part_command_of m w entries turns → ReadsAll d (items w) (items (last_world w turns))
   run_reads m w [] [] run = reads_all_none d (items w)
@@ -82,7 +81,7 @@ module _ {D W : Type 0} (d : Ghosts D) (items : W → List D) (g : machine.Ghost
       reads_all_then d (items w) (items t.world) (items (last_world t.world turns)) (keeps m w e t run.0).reads (run_reads t.machine t.world entries turns run.1)
 
   -- what its reply says of damage
-  refused_quiet : (t : Turned PartSessions W) (r : Refusal) → damage_told (Some r) ≡ None → t.reply ≡ headed (head.Refused r) → damage_in t.reply ≡ None
+  refused_quiet : (t : Turned PartSessions W) (r : Refusal) → damage_told (Some r) ≡ None → t.reply ≡ replied.Refused r → damage_in t.reply ≡ None
   refused_quiet t r none is = ap damage_in is ∙ none
 
   names : (m : PartSessions) (w : W) (e : Entry) (t : Turned PartSessions W) → Answers g part_command_of m w e t → NamesDamage m.sessions.items (images_of d (items w)) e t.reply
@@ -128,8 +127,8 @@ module _ {D W : Type 0} (d : Ghosts D) (items : W → List D) (g : machine.Ghost
         subst (λ (told : List (Option (List ℕ))). AreStanding limits t.machine.sessions.items told zs) (sym (same_images d (items w) (items t.world) k.reads))
         (subst (λ (sessions : List SessionState). AreStanding limits sessions (images_of d (items w)) zs) (sym k.sessions) stand)
 
-    refused_step : (m : PartSessions) (e : Entry) (t : Turned PartSessions W) (r : Refusal) → StepsTo m e (headed (head.Refused r)) m → t.reply ≡ headed (head.Refused r) → t.machine ≡ m → StepsTo m e t.reply t.machine
-    refused_step m e t r step is same = subst (λ (x : Reply). StepsTo m e x t.machine) (sym is) (subst (λ (x : PartSessions). StepsTo m e (headed (head.Refused r)) x) (sym same) step)
+    refused_step : (m : PartSessions) (e : Entry) (t : Turned PartSessions W) (r : Refusal) → StepsTo m e (replied.Refused r) m → t.reply ≡ replied.Refused r → t.machine ≡ m → StepsTo m e t.reply t.machine
+    refused_step m e t r step is same = subst (λ (x : Reply). StepsTo m e x t.machine) (sym is) (subst (λ (x : PartSessions). StepsTo m e (replied.Refused r) x) (sym same) step)
 
     steps : (m : PartSessions) (w : W) (e : Entry) (t : Turned PartSessions W) → Stand m w → Answers g part_command_of m w e t → StepsTo m e t.reply t.machine
     steps m w (Asked c got) t stand answers =
@@ -137,9 +136,9 @@ module _ {D W : Type 0} (d : Ghosts D) (items : W → List D) (g : machine.Ghost
         subst (λ (lines : List ScriptLine). StepsTo m (Asked c lines) t.reply t.machine) (sym a.none) (a.steps limits zs stand)
     steps m w (No_command line) t stand (r, (column, is_column, is_syntax), is, same_m, same_w) =
         refused_step m (No_command line) t r
-        (subst (λ (x : Refusal). StepsTo m (No_command line) (headed (head.Refused x)) m) (sym is_syntax) (Leaves_grammar line column is_column)) is same_m
+        (subst (λ (x : Refusal). StepsTo m (No_command line) (replied.Refused x) m) (sym is_syntax) (Leaves_grammar line column is_column)) is same_m
     steps m w Long_line t stand (r, is_long, is, same_m, same_w) =
-        refused_step m Long_line t r (subst (λ (x : Refusal). StepsTo m Long_line (headed (head.Refused x)) m) (sym is_long) Too_long) is same_m
+        refused_step m Long_line t r (subst (λ (x : Refusal). StepsTo m Long_line (replied.Refused x) m) (sym is_long) Too_long) is same_m
 
     -- the run as one of the machine of parts
     pub record IsRunOf (m : PartSessions) (w : W) (entries : List Entry) (turns : List (Turned PartSessions W)) : Type 0 where
@@ -151,7 +150,7 @@ module _ {D W : Type 0} (d : Ghosts D) (items : W → List D) (g : machine.Ghost
     abbrev failed_in : Bool → ℕ
     failed_in b = if b then 1 else 0
 
-    rose_here : (b : Bool) (m : PartSessions) (w : W) (t : Turned PartSessions W) → KeepsParts m w t → is_store_read t.reply.head ≡ b → RoseBy (failed_in b) (faults_of d (items w)) (faults_of d (items t.world))
+    rose_here : (b : Bool) (m : PartSessions) (w : W) (t : Turned PartSessions W) → KeepsParts m w t → is_store_read t.reply ≡ b → RoseBy (failed_in b) (faults_of d (items w)) (faults_of d (items t.world))
     rose_here true m w t k is = rose_once d (items w) (items t.world) k.reads (k.store is)
     rose_here false m w t k is = rose_never d (items w) (items t.world) k.reads
 
@@ -171,7 +170,7 @@ module _ {D W : Type 0} (d : Ghosts D) (items : W → List D) (g : machine.Ghost
           answers = record { reply = t.reply; state = state_over limits t.machine zs } ∷ more.answers;
           run = (steps m w e t stand run.0, more.run);
           texts = λ i. text (names i) t.reply ++ more.texts i;
-          failed = rose_then (failed_in (is_store_read t.reply.head)) (failed_reads_in more.answers) _ (faults_of d (items w)) (faults_of d (items t.world)) (faults_of d (items (last_world t.world turns)))
-              (sum_by-cons (λ (a : PartsAnswered). if is_store_read a.reply.head then 1 else 0) (record { reply = t.reply; state = state_over limits t.machine zs }) more.answers)
-              (rose_here (is_store_read t.reply.head) m w t k refl) more.failed;
+          failed = rose_then (failed_in (is_store_read t.reply)) (failed_reads_in more.answers) _ (faults_of d (items w)) (faults_of d (items t.world)) (faults_of d (items (last_world t.world turns)))
+              (sum_by-cons (λ (a : PartsAnswered). if is_store_read a.reply then 1 else 0) (record { reply = t.reply; state = state_over limits t.machine zs }) more.answers)
+              (rose_here (is_store_read t.reply) m w t k refl) more.failed;
         }

@@ -5,15 +5,16 @@ use Rattle.dg_disk.specs.declared.disk.Disk.{Ghosts}
 use Rattle.dg_graph.specs.declared.element.Columns.{Columns}
 use Rattle.dg_graph.specs.declared.element.Element.{Element}
 use Rattle.dg_history.specs.History.{History}
-use Rattle.dg_machine.specs.Answer.{headed, listing, no_memory}
+use Rattle.dg_machine.specs.Answer.{headed, no_memory}
 use Rattle.dg_machine.specs.declared.command.Command.{Command}
 use Rattle.dg_machine.specs.declared.command.Command.TheVariants as command
-use Rattle.dg_machine.specs.declared.command.Query.TheVariants as query
+use Rattle.dg_machine.specs.declared.query.Query.TheVariants as query
 use Rattle.dg_machine.specs.declared.limits.Limits.{Limits}
 use Rattle.dg_machine.specs.declared.reply.Head.TheVariants as head
 use Rattle.dg_machine.specs.declared.reply.Refusal.{Refusal}
 use Rattle.dg_machine.specs.declared.reply.Refusal.TheVariants as refusal
 use Rattle.dg_machine.specs.declared.reply.Reply.{Reply}
+use Rattle.dg_machine.specs.declared.reply.Reply.TheVariants as replied
 use Rattle.dg_machine.specs.Needs.{earliest, when}
 use Rattle.dg_machine.specs.Run.{is_failed_read, is_store_read}
 use Rattle.dg_machine.specs.Script.{Asked}
@@ -24,9 +25,9 @@ use Rattle.dg_part_runs.specs.declared.sessions.PartSessions.{PartSessions}
 use Rattle.dg_part_runs.specs.Disks.{ReadsAll, SomeRose, faults_of, images_of}
 use Rattle.dg_part_runs.specs.HandleSets.{HandleSetsState, with_next}
 use Rattle.dg_part_runs.specs.HeldParts.{AreStanding, ReadsParts, ends_kept, refusal_for}
-use Rattle.dg_part_runs.specs.PartAnswers.{AnswersPart, ListsBy, ListsSet, released_by, released_head, state_over}
+use Rattle.dg_part_runs.specs.PartAnswers.{AnswersPart, ListsBy, ListsSet, release_reply, released_by, state_over}
 use Rattle.dg_part_runs.specs.PartDamage.{AreWhole, NamesFirst, TellsDamage}
-use Rattle.dg_part_runs.specs.PartsMachine.{Fails_to_read, Gives, Lacks_memory, Lists, PartsState, PartsStep, Refuses, Releases, refused_of_parts, set_at, union_shown, without_handle, without_set}
+use Rattle.dg_part_runs.specs.PartsMachine.{Fails_to_read, Gives, Lacks_memory, Lists, PartsState, PartsStep, Refuses, Releases, listing, refused_of_parts, set_at, union_shown, without_handle, without_set}
 use Rattle.dg_part_runs.specs.PartTimes.{joined_all}
 use Rattle.dg_part_runs.proofs.DiskLists.{reads_all_none}
 use Rattle.dg_part_runs.proofs.GatheredParts.{ends_same}
@@ -72,7 +73,7 @@ module _ {D : Type 0} (d : Ghosts D) where
       sym (ap (λ (ends : List (Option (ℕ × ℕ))). earliest (without_handle (joined_all ends) t (length s.handles.sets) s.handles.next)) (ends_same limits s.sessions.items (images_of d disks) zs stand))
 
   pub at_refused : (t : ℕ) (cols : Columns) (s : PartSessions) (disks : List D) (r : Refusal) → earliest (without_handle (ends_kept s.sessions.items) t (length s.handles.sets) s.handles.next) ≡ Some r
-      → AnswersPart d (command.At t cols) [] s disks s disks (headed (head.Refused r))
+      → AnswersPart d (command.At t cols) [] s disks s disks (replied.Refused r)
   at_refused t cols s disks r is = record {
     none = refl;
     steps = λ limits zs stand. Refuses (command.At t cols) r (refused_same limits s disks zs stand t cols ∙ is);
@@ -94,8 +95,9 @@ module _ {D : Type 0} (d : Ghosts D) where
     step_to limits zs h reply = PartsStep (union_shown zs) (state_over limits old zs) (Asked (command.At t cols) []) reply (record { limits = limits; parts = zs; table = h.sets; next = h.next })
 
     pub at_given : (handle weight : ℕ) (set : List Element) → ((limits : Limits) → ReadsParts limits old.sessions.items (images_of d before) t cols (Ok (set, weight)))
-        → AreWhole t cols old.sessions.items (images_of d before) → new.handles ≡ with_next old.handles set → handle ≡ old.handles.next → AnswersPart d (command.At t cols) [] old before new after (headed (head.At handle weight))
-    at_given handle weight set is_read whole added number = record {
+        → AreWhole t cols old.sessions.items (images_of d before) → new.handles ≡ with_next old.handles set → handle ≡ old.handles.next → (reply : Reply) → reply ≡ headed (head.At handle weight)
+        → AnswersPart d (command.At t cols) [] old before new after reply
+    at_given handle weight set is_read whole added number reply is = subst (λ (r : Reply). AnswersPart d (command.At t cols) [] old before new after r) (sym is) (record {
       none = refl;
       steps = step;
       sessions = same;
@@ -103,7 +105,7 @@ module _ {D : Type 0} (d : Ghosts D) where
       reads = reads_are;
       store_read = λ says. absurd (cc);
       damage = record { damaged = tt; whole = λ no. whole };
-    }
+    })
       where
         step : (limits : Limits) (zs : List History) → AreStanding limits old.sessions.items (images_of d before) zs
             → PartsStep (union_shown zs) (state_over limits old zs) (Asked (command.At t cols) []) (headed (head.At handle weight)) (state_over limits new zs)
@@ -121,7 +123,7 @@ module _ {D : Type 0} (d : Ghosts D) where
       stays : (limits : Limits) (zs : List History) (reply : Reply) → step_to limits zs old.handles reply → step_to limits zs new.handles reply
       stays limits zs reply step = subst (λ (h : HandleSetsState). step_to limits zs h reply) (sym kept) step
 
-      pub at_lacking : AnswersPart d (command.At t cols) [] old before new after (headed (head.Refused refusal.OutOfMemory))
+      pub at_lacking : AnswersPart d (command.At t cols) [] old before new after (replied.Refused refusal.OutOfMemory)
       at_lacking = record {
         none = refl;
         steps = λ limits zs stand. stays limits zs no_memory (Lacks_memory (command.At t cols) refl (free_of limits zs stand));
@@ -133,7 +135,7 @@ module _ {D : Type 0} (d : Ghosts D) where
       }
 
       pub at_fault : (f : RecordFault) → ((limits : Limits) → ReadsParts limits old.sessions.items (images_of d before) t cols (Err f)) → NamesFirst t cols old.sessions.items (images_of d before) f → (f ≡ fault.Disk → SomeRose (faults_of d before) (faults_of d after))
-          → AnswersPart d (command.At t cols) [] old before new after (headed (head.Refused (refusal_for f)))
+          → AnswersPart d (command.At t cols) [] old before new after (replied.Refused (refusal_for f))
       at_fault fault.Disk is_read first cause = record {
         none = refl;
         steps = λ limits zs stand. stays limits zs _ (Fails_to_read t cols (free_of limits zs stand));
@@ -159,9 +161,9 @@ module _ {D : Type 0} (d : Ghosts D) where
           undamaged (inr is) = absurd (cc)
 
       pub at_failed : (f : RecordFault) (r : Refusal) → r ≡ refusal_for f → ((limits : Limits) → ReadsParts limits old.sessions.items (images_of d before) t cols (Err f))
-          → NamesFirst t cols old.sessions.items (images_of d before) f → (f ≡ fault.Disk → SomeRose (faults_of d before) (faults_of d after)) → AnswersPart d (command.At t cols) [] old before new after (headed (head.Refused r))
+          → NamesFirst t cols old.sessions.items (images_of d before) f → (f ≡ fault.Disk → SomeRose (faults_of d before) (faults_of d after)) → AnswersPart d (command.At t cols) [] old before new after (replied.Refused r)
       at_failed f r is is_read first cause =
-          subst (λ (x : Refusal). AnswersPart d (command.At t cols) [] old before new after (headed (head.Refused x))) (sym is) (at_fault f is_read first cause)
+          subst (λ (x : Refusal). AnswersPart d (command.At t cols) [] old before new after (replied.Refused x)) (sym is) (at_fault f is_read first cause)
 
   -- ---- a handle
 
@@ -175,7 +177,7 @@ module _ {D : Type 0} (d : Ghosts D) where
     not_refused : (set : List Element) → set_at handle s.handles.sets ≡ Some set → (limits : Limits) (zs : List History) → refused_of_parts (state_over limits s zs) (command.Release handle) ≡ None
     not_refused set is limits zs = ap (λ (o : Option (List Element)). earliest (when (not (is_some o)) (refusal.UnknownHandle handle))) is
 
-    unknown_step : (c : Command) (reply : Reply) → reply ≡ headed (head.Refused (refusal.UnknownHandle handle))
+    unknown_step : (c : Command) (reply : Reply) → reply ≡ replied.Refused (refusal.UnknownHandle handle)
         → ((limits : Limits) (zs : List History) → refused_of_parts (state_over limits s zs) c ≡ Some (refusal.UnknownHandle handle)) → answers_so c s reply
     unknown_step c reply is refused = subst (λ (r : Reply). answers_so c s r) (sym is) (record {
       none = refl;
@@ -217,7 +219,7 @@ module _ {D : Type 0} (d : Ghosts D) where
         by (Some set) is (inl same) = subst (λ (r : Reply). answers_so (command.Ask handle query.List) s r) (sym same) (listed set is)
         by (Some set) is (inr same) = subst (λ (r : Reply). answers_so (command.Ask handle query.List) s r) (sym same) (lacked set is)
 
-    pub releases : (new : PartSessions) (reply : Reply) → reply ≡ headed (released_head s.handles.sets handle) → new.handles.sets ≡ without_set handle s.handles.sets → new.handles.next ≡ s.handles.next
+    pub releases : (new : PartSessions) (reply : Reply) → reply ≡ release_reply s.handles.sets handle → new.handles.sets ≡ without_set handle s.handles.sets → new.handles.next ≡ s.handles.next
         → new.sessions.items ≡ s.sessions.items → new.nameless ≡ s.nameless → answers_so (command.Release handle) new reply
     releases new reply is sets_are next_is sessions_same names_same = subst (λ (r : Reply). answers_so (command.Release handle) new r) (sym is) (record {
       none = refl;
@@ -229,7 +231,7 @@ module _ {D : Type 0} (d : Ghosts D) where
       damage = whole (set_at handle s.handles.sets);
     })
       where
-        whole : (o : Option (List Element)) → TellsDamage (command.Release handle) s.sessions.items (images_of d disks) (headed (released_by o handle))
+        whole : (o : Option (List Element)) → TellsDamage (command.Release handle) s.sessions.items (images_of d disks) (released_by o handle)
         whole None = tells_none (command.Release handle) s.sessions.items (images_of d disks) (refusal.UnknownHandle handle) refl
         whole (Some set) = record { damaged = tt; whole = λ no. tt }
 
@@ -238,14 +240,14 @@ module _ {D : Type 0} (d : Ghosts D) where
         quiet (Some set) says = absurd (cc)
 
         by : (limits : Limits) (zs : List History) (o : Option (List Element)) → set_at handle s.handles.sets ≡ o
-            → PartsStep (union_shown zs) (state_over limits s zs) (Asked (command.Release handle) []) (headed (released_by (set_at handle s.handles.sets) handle)) (state_over limits new zs)
+            → PartsStep (union_shown zs) (state_over limits s zs) (Asked (command.Release handle) []) (released_by (set_at handle s.handles.sets) handle) (state_over limits new zs)
         by limits zs None at =
-            subst (λ (x : Option (List Element)). PartsStep (union_shown zs) (state_over limits s zs) (Asked (command.Release handle) []) (headed (released_by x handle)) (state_over limits new zs)) (sym at)
-            (subst (λ (m : PartsState). PartsStep (union_shown zs) (state_over limits s zs) (Asked (command.Release handle) []) (headed (head.Refused (refusal.UnknownHandle handle))) m)
+            subst (λ (x : Option (List Element)). PartsStep (union_shown zs) (state_over limits s zs) (Asked (command.Release handle) []) (released_by x handle) (state_over limits new zs)) (sym at)
+            (subst (λ (m : PartsState). PartsStep (union_shown zs) (state_over limits s zs) (Asked (command.Release handle) []) (replied.Refused (refusal.UnknownHandle handle)) m)
             (let sets = sym (sets_are ∙ missing handle s.handles.sets at) in let next = sym next_is in λ i. record { limits = limits; parts = zs; table = sets i; next = next i })
             (Refuses (command.Release handle) (refusal.UnknownHandle handle) (refused_unknown at limits zs)))
         by limits zs (Some set) at =
-            subst (λ (x : Option (List Element)). PartsStep (union_shown zs) (state_over limits s zs) (Asked (command.Release handle) []) (headed (released_by x handle)) (state_over limits new zs)) (sym at)
+            subst (λ (x : Option (List Element)). PartsStep (union_shown zs) (state_over limits s zs) (Asked (command.Release handle) []) (released_by x handle) (state_over limits new zs)) (sym at)
             (subst (λ (m : PartsState). PartsStep (union_shown zs) (state_over limits s zs) (Asked (command.Release handle) []) (headed (head.Released handle)) m)
             (let sets = sym sets_are in let next = sym next_is in λ i. record { limits = limits; parts = zs; table = sets i; next = next i })
             (Releases handle (ap (λ (o : Option (List Element)). is_some o) at)))

@@ -3,13 +3,13 @@ use Rattle.std.specs.Prelude.{◌≡◌, ◌⊎◌, ℕ, List, [], Option, Some,
 use Rattle.dg_disk.specs.declared.disk.Disk as disk
 use Rattle.dg_graph.specs.declared.element.Element.{Element}
 use Rattle.dg_history.specs.History.{History}
-use Rattle.dg_machine.specs.Answer.{headed, listing, no_memory}
+use Rattle.dg_machine.specs.Answer.{headed, no_memory}
 use Rattle.dg_machine.specs.declared.command.Command.{Command}
 use Rattle.dg_machine.specs.declared.limits.Limits.{Limits}
-use Rattle.dg_machine.specs.declared.reply.Head.{Head}
 use Rattle.dg_machine.specs.declared.reply.Head.TheVariants as head
 use Rattle.dg_machine.specs.declared.reply.Refusal.TheVariants as refusal
 use Rattle.dg_machine.specs.declared.reply.Reply.{Reply}
+use Rattle.dg_machine.specs.declared.reply.Reply.TheVariants as replied
 use Rattle.dg_machine.specs.Run.{is_store_read}
 use Rattle.dg_machine.specs.Script.{Asked}
 use Rattle.dg_text.specs.Lines.{ScriptLine}
@@ -17,7 +17,7 @@ use Rattle.dg_part_runs.specs.declared.sessions.PartSessions.{PartSessions}
 use Rattle.dg_part_runs.specs.Disks.{ReadsAll, SomeRose, faults_of, images_of}
 use Rattle.dg_part_runs.specs.HeldParts.{AreParts, AreStanding}
 use Rattle.dg_part_runs.specs.PartDamage.{TellsDamage}
-use Rattle.dg_part_runs.specs.PartsMachine.{PartsState, PartsStep, set_at, union_shown}
+use Rattle.dg_part_runs.specs.PartsMachine.{PartsState, PartsStep, listing, set_at, union_shown}
 
 -- the state of the machine, where its sessions stand for these histories
 abbrev pub state_over : Limits → PartSessions → List History → PartsState
@@ -25,19 +25,19 @@ state_over limits s parts = record { limits = limits; parts = parts; table = s.h
 
 -- a listing of this set, or want of memory; a handle that is not live is refused
 abbrev pub ListsBy : Option (List Element) → ℕ → Reply → Type 0
-ListsBy None handle reply = reply ≡ headed (head.Refused (refusal.UnknownHandle handle))
+ListsBy None handle reply = reply ≡ replied.Refused (refusal.UnknownHandle handle)
 ListsBy (Some set) handle reply = (reply ≡ listing handle set) ⊎ (reply ≡ no_memory)
 
 abbrev pub ListsSet : List (ℕ × List Element) → ℕ → Reply → Type 0
 ListsSet table handle reply = ListsBy (set_at handle table) handle reply
 
--- the first line of the reply where a handle is given up
-abbrev pub released_by : Option (List Element) → ℕ → Head
-released_by None handle = head.Refused (refusal.UnknownHandle handle)
-released_by (Some set) handle = head.Released handle
+-- the reply where a handle is given up
+abbrev pub released_by : Option (List Element) → ℕ → Reply
+released_by None handle = replied.Refused (refusal.UnknownHandle handle)
+released_by (Some set) handle = headed (head.Released handle)
 
-abbrev pub released_head : List (ℕ × List Element) → ℕ → Head
-released_head table handle = released_by (set_at handle table) handle
+abbrev pub release_reply : List (ℕ × List Element) → ℕ → Reply
+release_reply table handle = released_by (set_at handle table) handle
 
 -- Between two commands: each session holds what its disk tells, and the names of no part are none.
 pub record AreReady {D : Type 0} (d : disk.Ghosts D) (s : PartSessions) (disks : List D) : Type 0 where
@@ -55,5 +55,5 @@ pub record AnswersPart {D : Type 0} (d : disk.Ghosts D) (c : Command) (got : Lis
   pub sessions : new.sessions.items ≡ old.sessions.items
   pub nameless : new.nameless ≡ old.nameless
   pub reads : ReadsAll d before after
-  pub store_read : is_store_read reply.head ≡ true → SomeRose (faults_of d before) (faults_of d after)
+  pub store_read : is_store_read reply ≡ true → SomeRose (faults_of d before) (faults_of d after)
   pub damage : TellsDamage c old.sessions.items (images_of d before) reply

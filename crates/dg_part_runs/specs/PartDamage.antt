@@ -85,7 +85,7 @@ TellsFirst t cols sessions told (Err f) = NamesFirst t cols sessions told f
 
 -- the damage that the reply says was met
 abbrev pub damage_in : Reply → Option (Key × Column)
-damage_in reply = damage_told (refusal_of reply.head)
+damage_in reply = damage_told (refusal_of reply)
 
 -- the command reads of the parts, and this damage is the first one of the first that meets one; and none meets any
 abbrev pub IsFirstFor : Command → List SessionState → List (Option (List ℕ)) → Key × Column → Type 0
@@ -100,7 +100,7 @@ AreWholeFor c sessions told = Unit {0}
 -- meets any in what is read for the command.
 pub record TellsDamage (c : Command) (sessions : List SessionState) (told : List (Option (List ℕ))) (reply : Reply) : Type 0 where
   pub damaged : IfSome (damage_in reply) (IsFirstFor c sessions told)
-  pub whole : is_refusal reply.head ≡ false → AreWholeFor c sessions told
+  pub whole : is_refusal reply ≡ false → AreWholeFor c sessions told
 
 -- the same of the reply to an entry: to a line that is no command it says nothing of damage
 abbrev pub NamesDamage : List SessionState → List (Option (List ℕ)) → Entry → Reply → Type 0

@@ -6,17 +6,20 @@ use Rattle.dg_graph.specs.declared.element.Element.{Element}
 use Rattle.dg_graph.specs.DifferentialFunction.{all_of}
 use Rattle.dg_history.specs.History.{History, events_of, in_range, names_of}
 use Rattle.dg_line.specs.PartGrammar.{part_command_of}
-use Rattle.dg_machine.specs.Answer.{headed, listing, no_memory, store_read}
+use Rattle.dg_machine.specs.Answer.{headed, no_memory, store_read}
 use Rattle.dg_machine.specs.CommandGrammar.{IsColumnBy}
 use Rattle.dg_machine.specs.declared.command.Command.{Command}
 use Rattle.dg_machine.specs.declared.command.Command.TheVariants as command
-use Rattle.dg_machine.specs.declared.command.Query.TheVariants as query
 use Rattle.dg_machine.specs.declared.limits.Limits.{Limits}
 use Rattle.dg_machine.specs.declared.limits.TheConstants.{HANDLE_MAX, LIVE_HANDLES_MAX}
+use Rattle.dg_machine.specs.declared.query.Query.TheVariants as query
+use Rattle.dg_machine.specs.declared.query.QueryHead.TheVariants as told
+use Rattle.dg_machine.specs.declared.reply.BodyLine.TheVariants as line
 use Rattle.dg_machine.specs.declared.reply.Head.TheVariants as head
 use Rattle.dg_machine.specs.declared.reply.Refusal.{Refusal}
 use Rattle.dg_machine.specs.declared.reply.Refusal.TheVariants as refusal
 use Rattle.dg_machine.specs.declared.reply.Reply.{Reply}
+use Rattle.dg_machine.specs.declared.reply.Reply.TheVariants as replied
 use Rattle.dg_machine.specs.MachineState.{machine_at}
 use Rattle.dg_machine.specs.Needs.{earliest, needs, when}
 use Rattle.dg_machine.specs.ReplyText.{text}
@@ -105,6 +108,10 @@ refused_of_parts m (command.Ask handle q) = earliest (unknown m.table handle)
 refused_of_parts m (command.Release handle) = earliest (unknown m.table handle)
 refused_of_parts m c = None
 
+-- a line for each element of the set of a handle
+abbrev pub listing : ℕ → List Element → Reply
+listing handle set = replied.Answered (head.Asked handle (told.List (length set))) (map (λ x. line.Element x) set)
+
 -- From the state m the machine may give the entry this reply, and go on in the new state. As of an instant, in columns, the
 -- parts together show what `shows` says.
 pub data PartsStep (shows : ℕ → Columns → List Element) (m : PartsState) : Entry → Reply → PartsState → Type 0 where
@@ -115,12 +122,12 @@ pub data PartsStep (shows : ℕ → Columns → List Element) (m : PartsState) :
       → PartsStep shows m (Asked (command.Ask handle query.List) []) (listing handle set) m
   Releases : (handle : ℕ) → is_some (set_at handle m.table) ≡ true
       → PartsStep shows m (Asked (command.Release handle) []) (headed (head.Released handle)) (record m { table = without_set handle m.table })
-  Refuses : (c : Command) (r : Refusal) → refused_of_parts m c ≡ Some r → PartsStep shows m (Asked c []) (headed (head.Refused r)) m
+  Refuses : (c : Command) (r : Refusal) → refused_of_parts m c ≡ Some r → PartsStep shows m (Asked c []) (replied.Refused r) m
   Lacks_memory : (c : Command) → (needs c).memory ≡ true → refused_of_parts m c ≡ None → PartsStep shows m (Asked c []) no_memory m
   Fails_to_read : (t : ℕ) (cols : Columns) → refused_of_parts m (command.At t cols) ≡ None → PartsStep shows m (Asked (command.At t cols) []) store_read m
   Leaves_grammar : (line : List ℕ) (column : ℕ) → IsColumnBy part_command_of line column
-      → PartsStep shows m (No_command line) (headed (head.Refused (refusal.Syntax column))) m
-  Too_long : PartsStep shows m Long_line (headed (head.Refused refusal.LineLong)) m
+      → PartsStep shows m (No_command line) (replied.Refused (refusal.Syntax column)) m
+  Too_long : PartsStep shows m Long_line (replied.Refused refusal.LineLong) m
 
 -- ---- runs
 
@@ -141,4 +148,4 @@ texts_by names answers = flat_map (λ (a : PartsAnswered). text names a.reply) a
 
 -- how many of the replies say that a read of a part failed
 abbrev pub failed_reads_in : List PartsAnswered → ℕ
-failed_reads_in answers = count_by (λ (a : PartsAnswered). is_store_read a.reply.head) answers
+failed_reads_in answers = count_by (λ (a : PartsAnswered). is_store_read a.reply) answers

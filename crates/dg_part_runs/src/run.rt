@@ -43,7 +43,6 @@ pub fn serve_parts<R: Threads + Sync, S: Source, K: Sink, D: Disk>(
     match start_parts(rt, alloc, seed, limits, disks) {
         Ok(mut parts) => PartsStatus::from(answer_script(
             rt,
-            alloc,
             Commands::OfParts,
             limits.script_bytes,
             &mut parts,

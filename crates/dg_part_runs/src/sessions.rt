@@ -1,10 +1,9 @@
 //! Sessions over the parts of a history, with the handles of what they show together.
 ghost use Rattle.std.specs.Prelude.{◌≡◌, [], false, length, refl};
 ghost use Rattle.dg_history.specs.History.{in_range};
-ghost use Rattle.dg_machine.specs.Answer.{headed};
 ghost use Rattle.dg_machine.specs.Needs.{earliest};
 ghost use Rattle.dg_part_runs.specs.HeldParts.{ends_kept, names_kept, refusal_for};
-ghost use Rattle.dg_part_runs.specs.PartAnswers.{AnswersPart, AreReady, ListsSet, released_head};
+ghost use Rattle.dg_part_runs.specs.PartAnswers.{AnswersPart, AreReady, ListsSet, release_reply};
 ghost use Rattle.dg_part_runs.specs.PartsMachine.{IsOfParts, without_handle, without_set};
 
 use crate::ends::{ends_of, names_of};
@@ -14,7 +13,8 @@ use dg_disk::Disk;
 use dg_graph::Columns;
 use dg_io::{Lines, Source};
 use dg_machine::{
-    BodyLines, Command, HANDLE_MAX, Head, LIVE_HANDLES_MAX, Limits, Query, Refusal, Reply,
+    BodyLines, Command, HANDLE_MAX, Head, LIVE_HANDLES_MAX, Limits, Query, QueryHead, Refusal,
+    Reply,
 };
 use dg_names::Names;
 use dg_records::RecordFault;
@@ -31,16 +31,6 @@ pub(crate) struct PartSessions {
     // The names of a reply where no part has an event: there are none.
     nameless: Names,
     alloc: Global,
-}
-
-// The reply of this head line alone.
-fn headed(alloc: Global, head: Head) -> Reply
-    ensures { result ≡ headed head }
-{
-    Reply {
-        head,
-        body: BodyLines::new(alloc),
-    }
 }
 
 // The reply that tells of what could not be read.
@@ -110,20 +100,20 @@ impl PartSessions {
         t: u64,
         cols: Columns,
         disks: &mut [D],
-    ) -> Head
+    ) -> Reply
         requires ready { AreReady D.Disk self.old disks.old }
         requires silent { cols.transient ≡ false }
-        ensures answers { AnswersPart D.Disk (Command.At t cols) [] self.old disks.old self.new disks.new (headed result) }
+        ensures answers { AnswersPart D.Disk (Command.At t cols) [] self.old disks.old self.new disks.new result }
     {
         if let Some(refusal) = self.refused_at(t) {
-            return Head::Refused(refusal);
+            return Reply::Refused(refusal);
         }
         match read_parts(rt, self.alloc, t, cols, &mut self.sessions, disks) {
             Ok((set, weight)) => match self.handles.add(set) {
-                Ok(handle) => Head::At { handle, weight },
-                Err(_) => Head::Refused(Refusal::OutOfMemory),
+                Ok(handle) => Reply::headed(self.alloc, Head::At { handle, weight }),
+                Err(_) => Reply::Refused(Refusal::OutOfMemory),
             },
-            Err(fault) => Head::Refused(refusal_of(fault)),
+            Err(fault) => Reply::Refused(refusal_of(fault)),
         }
     }
 
@@ -132,32 +122,34 @@ impl PartSessions {
         ensures { ListsSet self.now.handles.sets handle result }
     {
         let Some(set) = self.handles.set(handle) else {
-            return headed(self.alloc, Head::Refused(Refusal::UnknownHandle(handle)));
+            return Reply::Refused(Refusal::UnknownHandle(handle));
         };
         match Vec::from_slice(self.alloc, set.items()) {
-            Ok(elements) => Reply {
-                head: Head::List {
+            Ok(elements) => Reply::Answered {
+                head: Head::Asked {
                     handle,
-                    lines: elements.len() as u64,
+                    told: QueryHead::List {
+                        lines: elements.len() as u64,
+                    },
                 },
                 body: BodyLines::from_elements(elements),
             },
-            Err(_) => headed(self.alloc, Head::Refused(Refusal::OutOfMemory)),
+            Err(_) => Reply::Refused(Refusal::OutOfMemory),
         }
     }
 
     // The handle is given up.
-    fn release(&mut self, handle: u32) -> Head
-        ensures released { result ≡ released_head self.old.handles.sets handle }
+    fn release(&mut self, handle: u32) -> Reply
+        ensures released { result ≡ release_reply self.old.handles.sets handle }
         ensures sets { self.new.handles.sets ≡ without_set handle self.old.handles.sets }
         ensures next { self.new.handles.next ≡ self.old.handles.next }
         ensures sessions { self.new.sessions ≡ self.old.sessions }
         ensures nameless { self.new.nameless ≡ self.old.nameless }
     {
         if self.handles.release(handle) {
-            Head::Released { handle }
+            Reply::headed(self.alloc, Head::Released { handle })
         } else {
-            Head::Refused(Refusal::UnknownHandle(handle))
+            Reply::Refused(Refusal::UnknownHandle(handle))
         }
     }
 }
@@ -188,18 +180,12 @@ impl<D: Disk> Machine<Vec<D>> for PartSessions {
         world: &mut Vec<D>,
     ) -> Result<Reply, Stop> {
         match *command {
-            Command::At { t, cols } => {
-                let head = self.at(rt, t, cols, world);
-                Ok(headed(self.alloc, head))
-            }
+            Command::At { t, cols } => Ok(self.at(rt, t, cols, world)),
             Command::Ask {
                 handle,
                 query: Query::List,
             } => Ok(self.list(handle)),
-            Command::Release { handle } => {
-                let head = self.release(handle);
-                Ok(headed(self.alloc, head))
-            }
+            Command::Release { handle } => Ok(self.release(handle)),
             _ => unreachable!(),
         }
     }

@@ -7,10 +7,12 @@ use Rattle.std.specs.Prelude.{Some, slice_get}
 use Rattle.dg_io.specs.Told.{grown, GrowsByPart}
 use Rattle.dg_io.proofs.ToldLemmas.{grown_nothing, both_pieces, part_first, part_second}
 use Rattle.dg_machine.specs.declared.reply.BodyLine.{BodyLine}
+use Rattle.dg_machine.specs.declared.reply.Head.{Head}
 use Rattle.dg_machine.specs.declared.reply.Reply.{Reply}
+use Rattle.dg_machine.specs.declared.reply.Reply.TheVariants as replied
 use Rattle.dg_machine.specs.ReplyText.{text_line, body_text, body_words, head_words, text}
 use Rattle.dg_reply.specs.declared.reply_buffer.Word.{Word}
-use Rattle.dg_reply.specs.Buffered.{IsBuffered, spaced, word_bytes}
+use Rattle.dg_reply.specs.Buffered.{IsBuffered, spaced, text_before_end, word_bytes}
 use Rattle.std.proofs.lemmas.List.{at_drop_more, at_drop_all, length-append, length-take-le, take-append-drop, take-take, take_at}
 use borrow.Rule.Slice.PartMut.{put_mid, post_of}
 
@@ -150,24 +152,43 @@ pub put_lines_past : (names : List (List ℕ)) (start mid : Option (List ℕ)) (
 put_lines_past names start mid all held lines i past g =
     put_ends start mid all held (subst (λ (left : List ℕ). IsPartlyPut start all mid held left) (at_drop_all (body_text names) lines i past) g)
 
--- a reply, before its head line, its body and its last line are put on an empty buffer
-pub put_reply : (names : List (List ℕ)) (start : Option (List ℕ)) (reply : Reply) (buffer : List ℕ) (head : List (List ℕ)) (body : List BodyLine) → buffer ≡ []
-    → head ≡ head_words reply.head → body ≡ reply.body
-    → IsPartlyPut start (text names reply) start buffer (text_line head ++ (body_text names body ++ (text_line (codes "end" ∷ []) ++ [])))
-put_reply names start reply buffer head body empty head_is body_is =
-    let h = text_line (head_words reply.head) in
-    let b = body_text names reply.body in
-    let e = text_line (codes "end" ∷ []) in
-    record {
-      sent = [];
-      written = sym (grown_nothing start);
-      split =
-          ap (λ held. held ++ (text_line head ++ (body_text names body ++ (e ++ [])))) empty
-          ∙ ap (λ ws. text_line ws ++ (body_text names body ++ (e ++ []))) head_is
-          ∙ ap (λ lines. h ++ (body_text names lines ++ (e ++ []))) body_is
-          ∙ ap (λ bytes. h ++ (b ++ bytes)) (append-nil e)
-          ∙ sym (append_assoc h b e);
-    }
+-- the text of a reply is what stands before `end`, and `end`
+text_ends : (names : List (List ℕ)) (reply : Reply) → text_before_end names reply ++ (text_line (codes "end" ∷ []) ++ []) ≡ text names reply
+text_ends names (replied.Refused r) = ap (λ bytes. text_before_end names (replied.Refused r) ++ bytes) (append-nil (text_line (codes "end" ∷ [])))
+text_ends names (replied.Answered h body) =
+    ap (λ bytes. text_before_end names (replied.Answered h body) ++ bytes) (append-nil (text_line (codes "end" ∷ [])))
+
+-- a reply, before it is put on an empty buffer
+pub put_first_of : (names : List (List ℕ)) (start : Option (List ℕ)) (reply : Reply) (buffer : List ℕ) → buffer ≡ []
+    → IsPartlyPut start (text names reply) start buffer (text_before_end names reply ++ (text_line (codes "end" ∷ []) ++ []))
+put_first_of names start reply buffer empty = record {
+  sent = [];
+  written = sym (grown_nothing start);
+  split = ap (λ held. held ++ (text_before_end names reply ++ (text_line (codes "end" ∷ []) ++ []))) empty ∙ text_ends names reply;
+}
+
+-- the first line of an answer, and then its body
+module _ (names : List (List ℕ)) (start mid now : Option (List ℕ)) (held mid_held : List ℕ) (words : List (List ℕ)) (reply : Reply) (h : Head) (body : List BodyLine)
+    (is : reply ≡ replied.Answered h body) (words_are : words ≡ head_words h) (first : IsBuffered start (held ++ text_line words) mid mid_held) where
+  both_lines : first.sent ++ (mid_held ++ body_text names body) ≡ held ++ text_before_end names reply
+  both_lines =
+      sym (append_assoc first.sent mid_held (body_text names body))
+      ∙ ap (λ bytes. bytes ++ body_text names body) first.rest
+      ∙ append_assoc held (text_line words) (body_text names body)
+      ∙ ap (λ ws. held ++ (text_line ws ++ body_text names body)) words_are
+      ∙ ap (λ (r : Reply). held ++ text_before_end names r) (sym is)
+
+  pub answer_put : (new_held : List ℕ) → IsBuffered mid (mid_held ++ body_text names body) now new_held → IsBuffered start (held ++ text_before_end names reply) now new_held
+  answer_put new_held lines = record {
+    sent = first.sent ++ lines.sent;
+    written = both_pieces start mid now first.sent lines.sent first.written lines.written;
+    rest = append_assoc first.sent lines.sent new_held ∙ ap (λ bytes. first.sent ++ bytes) lines.rest ∙ both_lines;
+  }
+
+  pub answer_fails : GrowsByPart mid (mid_held ++ body_text names body) now → GrowsByPart start (held ++ text_before_end names reply) now
+  answer_fails part =
+      subst (λ (bytes : List ℕ). GrowsByPart start bytes now) both_lines
+      (part_second start mid now first.sent (mid_held ++ body_text names body) first.written part)
 
 -- what is held fails to be written
 pub buffered_fails : (start mid new : Option (List ℕ)) (all held : List ℕ) → IsBuffered start all mid held → GrowsByPart mid held new

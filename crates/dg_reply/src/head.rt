@@ -1,27 +1,24 @@
-//! The head lines of replies, by what a command came to.
-ghost use Rattle.std.specs.Prelude.{◌≡◌, ◌≤◌, ◌++◌, [], ◌∷◌, map, take, codes, decimal, if◌then◌else◌};
+//! The first lines of answers, by what a command came to.
+ghost use Rattle.std.specs.Prelude.{◌≡◌, ◌≤◌, ◌++◌, [], ◌∷◌, map, take, codes, decimal};
 ghost use Rattle.dg_machine.specs.ReplyText.{head_words, function_words, soundness_words, verdict_words};
 ghost use Rattle.dg_reply.specs.Buffered.{word_bytes};
 
-use crate::refusal::refusal_line;
-use crate::reply_buffer::Word;
-use crate::reply_line::{ReplyLine, WORDS_MAX, column_letter};
+use crate::query::query_line;
+use crate::reply_buffer::Word::{Number, Text};
+use crate::reply_line::{OK, ReplyLine, WORDS_MAX, column_letter};
 use dg_graph::Function;
 use dg_machine::Head;
 use dg_plan::Verdict;
-use dg_query::Counts;
 use dg_sound::Soundness;
 
-const OK: Word<'static> = Word::Text(b"ok");
-
-/// The line of a head.
+/// The first line of an answer.
 pub(crate) fn head_line(head: &Head) -> ReplyLine<'static>
     ensures words { map word_bytes (take result.len result.words) ≡ head_words head.now }
     ensures len { result.len ≤ WORDS_MAX }
 {
     match *head {
-        Head::Created => ReplyLine::of(&[OK, Word::Text(b"create")]),
-        Head::Upgraded => ReplyLine::of(&[OK, Word::Text(b"upgrade")]),
+        Head::Created => ReplyLine::of(&[OK, Text(b"create")]),
+        Head::Upgraded => ReplyLine::of(&[OK, Text(b"upgrade")]),
         Head::Loaded {
             events,
             total,
@@ -37,20 +34,17 @@ pub(crate) fn head_line(head: &Head) -> ReplyLine<'static>
         Head::Materialised { handle, weight } => {
             numbers_line(b"materialise", u64::from(handle), weight)
         }
-        Head::List { handle, lines } => numbers_line(b"list", u64::from(handle), lines),
-        Head::Counts {
-            handle,
-            counts,
-            with_messages,
-        } => counts_line(handle, counts, with_messages),
-        Head::NodeThere { handle, id, degree } => node_there_line(handle, id, degree),
-        Head::NodeAbsent { handle, id } => node_absent_line(handle, id),
-        Head::Neighbours { handle, id, lines } => neighbours_line(handle, id, lines),
+        Head::Asked { handle, told } => query_line(handle, told),
         Head::Released { handle } => {
-            ReplyLine::of(&[OK, Word::Text(b"release"), Word::Number(u64::from(handle))])
+            ReplyLine::of(&[OK, Text(b"release"), Number(u64::from(handle))])
         }
-        Head::Cleaned => ReplyLine::of(&[OK, Word::Text(b"clean")]),
-        Head::CleanedAll { cells } => cleaned_all_line(cells),
+        Head::Cleaned => ReplyLine::of(&[OK, Text(b"clean")]),
+        Head::CleanedAll { cells } => ReplyLine::of(&[
+            OK,
+            Text(b"clean"),
+            Text(b"all"),
+            Number(cells),
+        ]),
         Head::Pool { live, size } => numbers_line(b"pool", u64::from(live), size),
         Head::Plan { weight, steps } => numbers_line(b"plan", weight, steps),
         Head::Certified(verdict) => verdict_line(verdict),
@@ -68,175 +62,79 @@ pub(crate) fn head_line(head: &Head) -> ReplyLine<'static>
             last,
             nodes,
             edges,
-        } => generated_line(events, last, nodes, edges),
+        } => ReplyLine::of(&[
+            OK,
+            Text(b"workload"),
+            Number(events),
+            Number(last),
+            Number(nodes),
+            Number(edges),
+        ]),
         Head::Chosen { handle, weight } => {
             numbers_line(b"expression", u64::from(handle), weight)
         }
         Head::Added { handle, weight } => numbers_line(b"interval", u64::from(handle), weight),
         Head::Indexed { spans, weight } => numbers_line(b"index", spans, weight),
-        Head::Found { lines } => ReplyLine::of(&[OK, Word::Text(b"find"), Word::Number(lines)]),
-        Head::Refused(refusal) => refusal_line(refusal),
+        Head::Found { lines } => ReplyLine::of(&[OK, Text(b"find"), Number(lines)]),
     }
 }
 
-// The head line of a batch: its events, those of the history, and the last instant.
+// The first line of a batch: its events, those of the history, and the last instant.
 fn batch_line(verb: &'static [u8], events: u64, total: u64, last: u64) -> ReplyLine<'static>
     ensures words { map word_bytes (take result.len result.words) ≡ codes "ok" ∷ verb.now ∷ decimal events ∷ decimal total ∷ decimal last ∷ [] }
     ensures len { result.len ≤ WORDS_MAX }
 {
-    ReplyLine::of(&[
-        OK,
-        Word::Text(verb),
-        Word::Number(events),
-        Word::Number(total),
-        Word::Number(last),
-    ])
+    ReplyLine::of(&[OK, Text(verb), Number(events), Number(total), Number(last)])
 }
 
-// The head line of a command with two numbers: a handle, a weight or how many handles live, and another.
+// The first line of a command with two numbers: a handle, a weight or how many handles live, and another.
 fn numbers_line(verb: &'static [u8], first: u64, second: u64) -> ReplyLine<'static>
     ensures words { map word_bytes (take result.len result.words) ≡ codes "ok" ∷ verb.now ∷ decimal first ∷ decimal second ∷ [] }
     ensures len { result.len ≤ WORDS_MAX }
 {
-    ReplyLine::of(&[
-        OK,
-        Word::Text(verb),
-        Word::Number(first),
-        Word::Number(second),
-    ])
+    ReplyLine::of(&[OK, Text(verb), Number(first), Number(second)])
 }
 
-// The head line of how many elements of each kind a handle has, and how many messages where its columns have these.
-fn counts_line(handle: u32, counts: Counts, with_messages: bool) -> ReplyLine<'static>
-    ensures words { map word_bytes (take result.len result.words) ≡ codes "ok" ∷ codes "counts" ∷ decimal handle ∷ decimal counts.nodes ∷ decimal counts.edges ∷ decimal counts.node_attrs ∷ decimal counts.edge_attrs ∷ (if with_messages then decimal counts.messages ∷ [] else []) }
-    ensures len { result.len ≤ WORDS_MAX }
-{
-    let mut line = ReplyLine::of(&[
-        OK,
-        Word::Text(b"counts"),
-        Word::Number(u64::from(handle)),
-        Word::Number(counts.nodes),
-        Word::Number(counts.edges),
-        Word::Number(counts.node_attrs),
-        Word::Number(counts.edge_attrs),
-    ]);
-    if with_messages {
-        line.put(Word::Number(counts.messages));
-    }
-    line
-}
-
-// The head line of a node that is in a handle's graph: how many edges it has.
-fn node_there_line(handle: u32, id: u64, degree: u64) -> ReplyLine<'static>
-    ensures words { map word_bytes (take result.len result.words) ≡ codes "ok" ∷ codes "node" ∷ decimal handle ∷ decimal id ∷ codes "yes" ∷ decimal degree ∷ [] }
-    ensures len { result.len ≤ WORDS_MAX }
-{
-    ReplyLine::of(&[
-        OK,
-        Word::Text(b"node"),
-        Word::Number(u64::from(handle)),
-        Word::Number(id),
-        Word::Text(b"yes"),
-        Word::Number(degree),
-    ])
-}
-
-// The head line of a node that is not in a handle's graph.
-fn node_absent_line(handle: u32, id: u64) -> ReplyLine<'static>
-    ensures words { map word_bytes (take result.len result.words) ≡ codes "ok" ∷ codes "node" ∷ decimal handle ∷ decimal id ∷ codes "no" ∷ [] }
-    ensures len { result.len ≤ WORDS_MAX }
-{
-    ReplyLine::of(&[
-        OK,
-        Word::Text(b"node"),
-        Word::Number(u64::from(handle)),
-        Word::Number(id),
-        Word::Text(b"no"),
-    ])
-}
-
-// The head line of the edges at a node: how many lines follow.
-fn neighbours_line(handle: u32, id: u64, lines: u64) -> ReplyLine<'static>
-    ensures words { map word_bytes (take result.len result.words) ≡ codes "ok" ∷ codes "neighbours" ∷ decimal handle ∷ decimal id ∷ decimal lines ∷ [] }
-    ensures len { result.len ≤ WORDS_MAX }
-{
-    ReplyLine::of(&[
-        OK,
-        Word::Text(b"neighbours"),
-        Word::Number(u64::from(handle)),
-        Word::Number(id),
-        Word::Number(lines),
-    ])
-}
-
-// The head line of a sweep of all cells: how many are left.
-fn cleaned_all_line(cells: u64) -> ReplyLine<'static>
-    ensures words { map word_bytes (take result.len result.words) ≡ codes "ok" ∷ codes "clean" ∷ codes "all" ∷ decimal cells ∷ [] }
-    ensures len { result.len ≤ WORDS_MAX }
-{
-    ReplyLine::of(&[
-        OK,
-        Word::Text(b"clean"),
-        Word::Text(b"all"),
-        Word::Number(cells),
-    ])
-}
-
-// The head line of what is said of a certificate.
+// The first line of what is said of a certificate.
 fn verdict_line(verdict: Verdict) -> ReplyLine<'static>
     ensures words { map word_bytes (take result.len result.words) ≡ codes "ok" ∷ codes "certify" ∷ verdict_words verdict }
     ensures len { result.len ≤ WORDS_MAX }
 {
-    let mut line = ReplyLine::of(&[OK, Word::Text(b"certify")]);
+    let mut line = ReplyLine::of(&[OK, Text(b"certify")]);
     match verdict {
-        Verdict::Valid => line.put(Word::Text(b"valid")),
+        Verdict::Valid => line.put(Text(b"valid")),
         Verdict::Line(number) => line.put_numbered(b"line", number),
         Verdict::Step(number) => line.put_numbered(b"step", number),
         Verdict::Potential(node) => {
-            line.put(Word::Text(b"potential"));
+            line.put(Text(b"potential"));
             line.put_node(node);
         }
-        Verdict::NotTight => line.put(Word::Text(b"not-tight")),
+        Verdict::NotTight => line.put(Text(b"not-tight")),
     }
     line
 }
 
-// The head line of what is said of the file.
+// The first line of what is said of the file.
 fn soundness_line(soundness: Soundness) -> ReplyLine<'static>
     ensures words { map word_bytes (take result.len result.words) ≡ codes "ok" ∷ codes "verify" ∷ soundness_words soundness }
     ensures len { result.len ≤ WORDS_MAX }
 {
-    let mut line = ReplyLine::of(&[OK, Word::Text(b"verify")]);
+    let mut line = ReplyLine::of(&[OK, Text(b"verify")]);
     match soundness {
         Soundness::Sound(records) => {
-            line.put(Word::Text(b"sound"));
-            line.put(Word::Number(records));
+            line.put(Text(b"sound"));
+            line.put(Number(records));
         }
         Soundness::Unsound(key, column) => {
-            line.put(Word::Text(b"unsound"));
+            line.put(Text(b"unsound"));
             line.put_key(key);
-            line.put(Word::Text(column_letter(column)));
+            line.put(Text(column_letter(column)));
         }
     }
     line
 }
 
-// The head line of a generated batch: its events, the last instant, and the nodes and edges of the graph behind it.
-fn generated_line(events: u64, last: u64, nodes: u64, edges: u64) -> ReplyLine<'static>
-    ensures words { map word_bytes (take result.len result.words) ≡ codes "ok" ∷ codes "workload" ∷ decimal events ∷ decimal last ∷ decimal nodes ∷ decimal edges ∷ [] }
-    ensures len { result.len ≤ WORDS_MAX }
-{
-    ReplyLine::of(&[
-        OK,
-        Word::Text(b"workload"),
-        Word::Number(events),
-        Word::Number(last),
-        Word::Number(nodes),
-        Word::Number(edges),
-    ])
-}
-
-// The head line of the parameters of the index, its events, leaves and records.
+// The first line of the parameters of the index, its events, leaves and records.
 fn tree_line(
     l: u32,
     k: u32,
@@ -254,19 +152,19 @@ fn tree_line(
         Function::Balanced => plain_tree_line(l, k, b"balanced", events, leaves, records),
         Function::Skewed(share) => ReplyLine::of(&[
             OK,
-            Word::Text(b"tree"),
-            Word::Number(u64::from(l)),
-            Word::Number(u64::from(k)),
-            Word::Text(b"skewed"),
-            Word::Number(u64::from(share)),
-            Word::Number(events),
-            Word::Number(u64::from(leaves)),
-            Word::Number(records),
+            Text(b"tree"),
+            Number(u64::from(l)),
+            Number(u64::from(k)),
+            Text(b"skewed"),
+            Number(u64::from(share)),
+            Number(events),
+            Number(u64::from(leaves)),
+            Number(records),
         ]),
     }
 }
 
-// The head line of the parameters of an index whose differential function has one word.
+// The first line of the parameters of an index whose differential function has one word.
 fn plain_tree_line(
     l: u32,
     k: u32,
@@ -280,12 +178,12 @@ fn plain_tree_line(
 {
     ReplyLine::of(&[
         OK,
-        Word::Text(b"tree"),
-        Word::Number(u64::from(l)),
-        Word::Number(u64::from(k)),
-        Word::Text(function),
-        Word::Number(events),
-        Word::Number(u64::from(leaves)),
-        Word::Number(records),
+        Text(b"tree"),
+        Number(u64::from(l)),
+        Number(u64::from(k)),
+        Text(function),
+        Number(events),
+        Number(u64::from(leaves)),
+        Number(records),
     ])
 }

@@ -3,6 +3,7 @@
 
 mod body_line;
 mod head;
+mod query;
 mod refusal;
 mod reply;
 mod reply_buffer;

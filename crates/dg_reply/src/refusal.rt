@@ -3,13 +3,13 @@ ghost use Rattle.std.specs.Prelude.{◌≡◌, ◌≤◌, ◌++◌, [], ◌∷�
 ghost use Rattle.dg_machine.specs.ReplyText.{column_word, key_words, refusal_words};
 ghost use Rattle.dg_reply.specs.Buffered.{word_bytes};
 
-use crate::reply_buffer::Word;
+use crate::reply_buffer::Word::{self, Number, Text};
 use crate::reply_line::{ReplyLine, WORDS_MAX, column_letter};
 use dg_graph::Column;
 use dg_history::Key;
 use dg_machine::Refusal;
 
-const REFUSED: Word<'static> = Word::Text(b"refused");
+const REFUSED: Word<'static> = Text(b"refused");
 
 /// The line of a refusal: its number, its name, and what it keeps.
 pub(crate) fn refusal_line(refusal: Refusal) -> ReplyLine<'static>
@@ -68,7 +68,7 @@ fn refused(number: &'static [u8], name: &'static [u8]) -> ReplyLine<'static>
     ensures words { map word_bytes (take result.len result.words) ≡ codes "refused" ∷ number.now ∷ name.now ∷ [] }
     ensures len { result.len ≤ WORDS_MAX }
 {
-    ReplyLine::of(&[REFUSED, Word::Text(number), Word::Text(name)])
+    ReplyLine::of(&[REFUSED, Text(number), Text(name)])
 }
 
 // A refusal that keeps one word.
@@ -80,7 +80,7 @@ fn refused_with(
     ensures words { map word_bytes (take result.len result.words) ≡ codes "refused" ∷ number.now ∷ name.now ∷ word_bytes kept.entry ∷ [] }
     ensures len { result.len ≤ WORDS_MAX }
 {
-    ReplyLine::of(&[REFUSED, Word::Text(number), Word::Text(name), kept])
+    ReplyLine::of(&[REFUSED, Text(number), Text(name), kept])
 }
 
 // A refusal that keeps one number.
@@ -88,7 +88,7 @@ fn refused_with_number(number: &'static [u8], name: &'static [u8], kept: u32) ->
     ensures words { map word_bytes (take result.len result.words) ≡ codes "refused" ∷ number.now ∷ name.now ∷ decimal kept ∷ [] }
     ensures len { result.len ≤ WORDS_MAX }
 {
-    refused_with(number, name, Word::Number(u64::from(kept)))
+    refused_with(number, name, Number(u64::from(kept)))
 }
 
 // A refusal that keeps two numbers.
@@ -103,10 +103,10 @@ fn refused_with_both(
 {
     ReplyLine::of(&[
         REFUSED,
-        Word::Text(number),
-        Word::Text(name),
-        Word::Number(first),
-        Word::Number(second),
+        Text(number),
+        Text(name),
+        Number(first),
+        Number(second),
     ])
 }
 
@@ -116,7 +116,7 @@ fn out_of_range_line(ends: Option<(u64, u64)>) -> ReplyLine<'static>
     ensures len { result.len ≤ WORDS_MAX }
 {
     match ends {
-        None => refused_with(b"7", b"out-of-range", Word::Text(b"empty")),
+        None => refused_with(b"7", b"out-of-range", Text(b"empty")),
         Some((first, last)) => refused_with_both(b"7", b"out-of-range", first, last),
     }
 }
@@ -126,8 +126,8 @@ fn damaged_line(key: Key, column: Column) -> ReplyLine<'static>
     ensures words { map word_bytes (take result.len result.words) ≡ codes "refused" ∷ codes "15" ∷ codes "damaged" ∷ (key_words key ++ column_word column ∷ []) }
     ensures len { result.len ≤ WORDS_MAX }
 {
-    let mut line = ReplyLine::of(&[REFUSED, Word::Text(b"15"), Word::Text(b"damaged")]);
+    let mut line = ReplyLine::of(&[REFUSED, Text(b"15"), Text(b"damaged")]);
     line.put_key(key);
-    line.put(Word::Text(column_letter(column)));
+    line.put(Text(column_letter(column)));
     line
 }

@@ -3,17 +3,18 @@ ghost use Rattle.std.specs.Prelude.{◌≡◌, ◌++◌, OnOk, OnErr};
 ghost use Rattle.dg_machine.specs.ReplyText.{text, body_text};
 ghost use Rattle.dg_io.specs.Calls.{FailsToPut, PutsOn, PutsPart};
 ghost use Rattle.dg_io.specs.Told.{grown};
-ghost use Rattle.dg_reply.specs.Buffered.{IsBuffered};
+ghost use Rattle.dg_reply.specs.Buffered.{IsBuffered, text_before_end};
 
 use crate::body_line::hold_body_line;
 use crate::head::head_line;
+use crate::refusal::refusal_line;
 use crate::reply_buffer::{ReplyBuffer, Word};
 use dg_io::{Failed, Sink};
 use dg_machine::{BodyLines, Reply};
 use dg_names::Names;
 
 // Its frame is large, and stands on the stack only while it runs.
-/// Writes the text of a reply: the head line, the lines of the body, and `end`. The names are those
+/// Writes the text of a reply: its first line, the lines of the body, and `end`. The names are those
 /// whose numbers the reply has; a number that none of them has stands for the empty text. It takes
 /// no memory. `Failed` where a write failed: then a part of the text is written, and never all of it.
 #[inline(never)]
@@ -24,11 +25,30 @@ pub fn write_reply<K: Sink>(sink: &mut K, names: &Names, reply: &Reply) -> Resul
     ensures counted { PutsOn K.Sink sink.old sink.new }
 {
     let mut buffer = ReplyBuffer::new();
-    let head = head_line(&reply.head);
-    buffer.put_line(sink, head.words())?;
-    put_body(&mut buffer, sink, names, &reply.body)?;
+    put_reply(&mut buffer, sink, names, reply)?;
     buffer.put_line(sink, &[Word::Text(b"end")])?;
     buffer.flush(sink)
+}
+
+// The lines of a reply before `end`.
+fn put_reply<K: Sink>(
+    buffer: &mut ReplyBuffer,
+    sink: &mut K,
+    names: &Names,
+    reply: &Reply,
+) -> Result<(), Failed>
+    ensures ok { OnOk result (IsBuffered (K.written sink.old) (buffer.old ++ text_before_end names.now reply.now) (K.written sink.new) buffer.new) }
+    ensures err { OnErr result (PutsPart K.Sink sink.old (buffer.old ++ text_before_end names.now reply.now) sink.new) }
+    ensures cause { OnErr result (FailsToPut K.Sink sink.old sink.new) }
+    ensures counted { PutsOn K.Sink sink.old sink.new }
+{
+    match reply {
+        Reply::Refused(refusal) => buffer.put_line(sink, refusal_line(*refusal).words()),
+        Reply::Answered { head, body } => {
+            buffer.put_line(sink, head_line(head).words())?;
+            put_body(buffer, sink, names, body)
+        }
+    }
 }
 
 fn put_body<K: Sink>(

@@ -5,15 +5,18 @@ ghost use Rattle.dg_machine.specs.ReplyText.{column_word, key_words, node_words}
 ghost use Rattle.dg_reply.specs.Buffered.{word_bytes};
 ghost use Rattle.dg_reply.specs.declared.reply_line.TheConstants.{WORDS_MAX};
 
-use crate::reply_buffer::Word;
+use crate::reply_buffer::Word::{self, Number, Text};
 use dg_graph::Column;
 use dg_history::{Key, NodeId};
 
 /// The most words that a line of a reply has.
 pub(crate) const WORDS_MAX: usize = 9;
 
+/// The first word of an answer.
+pub(crate) const OK: Word<'static> = Text(b"ok");
+
 /// What stands behind the last word of a line.
-const NO_WORD: Word<'static> = Word::Text(b"");
+const NO_WORD: Word<'static> = Text(b"");
 
 /// The words of a line.
 #[derive(Clone, Copy)]
@@ -64,8 +67,8 @@ impl<'a> ReplyLine<'a> {
         ensures words { map word_bytes (take self.new.len self.new.words) ≡ map word_bytes (take self.old.len self.old.words) ++ kind.now ∷ decimal number ∷ [] }
         ensures len { self.new.len ≡ self.old.len + 2 }
     {
-        self.put(Word::Text(kind));
-        self.put(Word::Number(u64::from(number)));
+        self.put(Text(kind));
+        self.put(Number(u64::from(number)));
     }
 
     /// Puts the words of a node behind the last.
@@ -75,14 +78,14 @@ impl<'a> ReplyLine<'a> {
         ensures len { self.new.len ≤ self.old.len + 3 }
     {
         match node {
-            NodeId::Root => self.put(Word::Text(b"root")),
-            NodeId::Now => self.put(Word::Text(b"now")),
-            NodeId::Recent => self.put(Word::Text(b"recent")),
+            NodeId::Root => self.put(Text(b"root")),
+            NodeId::Now => self.put(Text(b"now")),
+            NodeId::Recent => self.put(Text(b"recent")),
             NodeId::Leaf(number) => self.put_numbered(b"leaf", number),
             NodeId::List(number) => self.put_numbered(b"list", number),
             NodeId::Inner(height, number) => {
                 self.put_numbered(b"inner", height);
-                self.put(Word::Number(u64::from(number)));
+                self.put(Number(u64::from(number)));
             }
         }
     }
@@ -99,7 +102,7 @@ impl<'a> ReplyLine<'a> {
             Key::Top(height) => self.put_numbered(b"top", height),
             Key::Down(height, child) => {
                 self.put_numbered(b"down", height);
-                self.put(Word::Number(u64::from(child)));
+                self.put(Number(u64::from(child)));
             }
         }
     }

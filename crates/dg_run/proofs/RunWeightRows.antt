@@ -8,6 +8,7 @@ use Rattle.dg_history.specs.History.{History}
 use Rattle.dg_machine.specs.declared.command.Command.TheVariants as command
 use Rattle.dg_machine.specs.declared.reply.Head.TheVariants as head
 use Rattle.dg_machine.specs.declared.reply.Refusal.TheVariants as refusal
+use Rattle.dg_machine.specs.declared.reply.Reply.TheVariants as replied
 use Rattle.dg_machine.specs.Answer.{Answered, headed, verify_reply}
 use Rattle.dg_machine.specs.MachineState.{MachineState}
 use Rattle.dg_machine.specs.Script.{Asked, No_command}
@@ -48,10 +49,10 @@ module _ (m : MachineState) where
 
   -- a batch that is refused as there is no index, and a line that is in no command
   abbrev refused_early : Answered
-  refused_early = record { reply = headed (head.Refused refusal.NoIndex); state = m }
+  refused_early = record { reply = replied.Refused refusal.NoIndex; state = m }
 
   abbrev off_grammar : Answered
-  off_grammar = record { reply = headed (head.Refused (refusal.Syntax 1)); state = m }
+  off_grammar = record { reply = replied.Refused (refusal.Syntax 1); state = m }
 
   refusals : RunWeighs m (Asked (command.Append 1) [] ∷ No_command [] ∷ []) (refused_early ∷ off_grammar ∷ []) 0
   refusals = (0, 0, refl, (0, 0, refl, refl, refl), refl)

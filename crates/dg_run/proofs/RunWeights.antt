@@ -9,7 +9,6 @@ use Rattle.dg_index.specs.OpenedIndex.{opened_of}
 use Rattle.dg_file.specs.OpeningBytes.{blank_bytes}
 use Rattle.dg_machine.specs.declared.command.Command.{Command}
 use Rattle.dg_machine.specs.declared.command.Command.TheVariants as command
-use Rattle.dg_machine.specs.declared.reply.Head.{Head}
 use Rattle.dg_machine.specs.declared.reply.Reply.{Reply}
 use Rattle.dg_machine.specs.Answer.{is_refusal}
 use Rattle.dg_machine.specs.MachineState.{MachineState}
@@ -40,49 +39,49 @@ takes_exactly n before after takes = omega (arith, takes)
 older_weighs : (m : MachineState) (count l before after : ℕ) → ReadsOlder m count before after → WeighsOlder m count l → TakesAtMost l before after
 older_weighs m count l before after reads w = subst (λ (n : ℕ). TakesAtMost n before after) (sym w.2) (reads w.0 w.1)
 
-told_weighs : (b : Bool) (m : MachineState) (c : Command) (got : List ScriptLine) (h : Head) (l before after : ℕ) → ReadsAsTold b m c got h before after → WeighsTold b m c got h l → TakesAtMost l before after
-told_weighs false m c got h l before after reads w = omega (arith, reads, w)
-told_weighs true m c got h l before after reads w = subst (λ (n : ℕ). TakesAtMost n before after) (sym w.2) (reads w.0 w.1)
+told_weighs : (b : Bool) (m : MachineState) (c : Command) (got : List ScriptLine) (reply : Reply) (l before after : ℕ) → ReadsAsTold b m c got reply before after → WeighsTold b m c got reply l → TakesAtMost l before after
+told_weighs false m c got reply l before after reads w = omega (arith, reads, w)
+told_weighs true m c got reply l before after reads w = subst (λ (n : ℕ). TakesAtMost n before after) (sym w.2) (reads w.0 w.1)
 
-reading_weighs : (c : Command) (m : MachineState) (got : List ScriptLine) (h : Head) (l before after : ℕ) → ReadsBy m c got h before after → WeighsReading m c got h l → TakesAtMost l before after
-reading_weighs (command.Load count) m got h l before after reads w = older_weighs m count l before after reads w
-reading_weighs (command.Append count) m got h l before after reads w = older_weighs m count l before after reads w
-reading_weighs (command.Workload seed count) m got h l before after reads w = older_weighs m count l before after reads w
-reading_weighs command.Verify m got h l before after reads w = subst (λ (n : ℕ). TakesAtMost n before after) (sym w) reads
-reading_weighs (command.Create a k f) m got h l before after reads w = told_weighs (is_refusal h) m (command.Create a k f) got h l before after reads w
-reading_weighs (command.CreateSkewed a k r) m got h l before after reads w = told_weighs (is_refusal h) m (command.CreateSkewed a k r) got h l before after reads w
-reading_weighs command.Upgrade m got h l before after reads w = told_weighs (is_refusal h) m command.Upgrade got h l before after reads w
-reading_weighs (command.At t cols) m got h l before after reads w = told_weighs (is_refusal h) m (command.At t cols) got h l before after reads w
-reading_weighs (command.Several cols times count) m got h l before after reads w = told_weighs (is_refusal h) m (command.Several cols times count) got h l before after reads w
-reading_weighs (command.Materialise node cols) m got h l before after reads w = told_weighs (is_refusal h) m (command.Materialise node cols) got h l before after reads w
-reading_weighs (command.Select what cols) m got h l before after reads w = told_weighs (is_refusal h) m (command.Select what cols) got h l before after reads w
-reading_weighs (command.Index key) m got h l before after reads w = told_weighs (is_refusal h) m (command.Index key) got h l before after reads w
-reading_weighs (command.Find t key value) m got h l before after reads w = told_weighs (is_refusal h) m (command.Find t key value) got h l before after reads w
-reading_weighs (command.Ask handle query) m got h l before after reads w = told_weighs (is_refusal h) m (command.Ask handle query) got h l before after reads w
-reading_weighs (command.Release handle) m got h l before after reads w = told_weighs (is_refusal h) m (command.Release handle) got h l before after reads w
-reading_weighs (command.Clean cells) m got h l before after reads w = told_weighs (is_refusal h) m (command.Clean cells) got h l before after reads w
-reading_weighs command.CleanAll m got h l before after reads w = told_weighs (is_refusal h) m command.CleanAll got h l before after reads w
-reading_weighs command.Pool m got h l before after reads w = told_weighs (is_refusal h) m command.Pool got h l before after reads w
-reading_weighs (command.Plan t cols) m got h l before after reads w = told_weighs (is_refusal h) m (command.Plan t cols) got h l before after reads w
-reading_weighs (command.Certify t cols count) m got h l before after reads w = told_weighs (is_refusal h) m (command.Certify t cols count) got h l before after reads w
-reading_weighs command.Tree m got h l before after reads w = told_weighs (is_refusal h) m command.Tree got h l before after reads w
+reading_weighs : (c : Command) (m : MachineState) (got : List ScriptLine) (reply : Reply) (l before after : ℕ) → ReadsBy m c got reply before after → WeighsReading m c got reply l → TakesAtMost l before after
+reading_weighs (command.Load count) m got reply l before after reads w = older_weighs m count l before after reads w
+reading_weighs (command.Append count) m got reply l before after reads w = older_weighs m count l before after reads w
+reading_weighs (command.Workload seed count) m got reply l before after reads w = older_weighs m count l before after reads w
+reading_weighs command.Verify m got reply l before after reads w = subst (λ (n : ℕ). TakesAtMost n before after) (sym w) reads
+reading_weighs (command.Create a k f) m got reply l before after reads w = told_weighs (is_refusal reply) m (command.Create a k f) got reply l before after reads w
+reading_weighs (command.CreateSkewed a k r) m got reply l before after reads w = told_weighs (is_refusal reply) m (command.CreateSkewed a k r) got reply l before after reads w
+reading_weighs command.Upgrade m got reply l before after reads w = told_weighs (is_refusal reply) m command.Upgrade got reply l before after reads w
+reading_weighs (command.At t cols) m got reply l before after reads w = told_weighs (is_refusal reply) m (command.At t cols) got reply l before after reads w
+reading_weighs (command.Several cols times count) m got reply l before after reads w = told_weighs (is_refusal reply) m (command.Several cols times count) got reply l before after reads w
+reading_weighs (command.Materialise node cols) m got reply l before after reads w = told_weighs (is_refusal reply) m (command.Materialise node cols) got reply l before after reads w
+reading_weighs (command.Select what cols) m got reply l before after reads w = told_weighs (is_refusal reply) m (command.Select what cols) got reply l before after reads w
+reading_weighs (command.Index key) m got reply l before after reads w = told_weighs (is_refusal reply) m (command.Index key) got reply l before after reads w
+reading_weighs (command.Find t key value) m got reply l before after reads w = told_weighs (is_refusal reply) m (command.Find t key value) got reply l before after reads w
+reading_weighs (command.Ask handle query) m got reply l before after reads w = told_weighs (is_refusal reply) m (command.Ask handle query) got reply l before after reads w
+reading_weighs (command.Release handle) m got reply l before after reads w = told_weighs (is_refusal reply) m (command.Release handle) got reply l before after reads w
+reading_weighs (command.Clean cells) m got reply l before after reads w = told_weighs (is_refusal reply) m (command.Clean cells) got reply l before after reads w
+reading_weighs command.CleanAll m got reply l before after reads w = told_weighs (is_refusal reply) m command.CleanAll got reply l before after reads w
+reading_weighs command.Pool m got reply l before after reads w = told_weighs (is_refusal reply) m command.Pool got reply l before after reads w
+reading_weighs (command.Plan t cols) m got reply l before after reads w = told_weighs (is_refusal reply) m (command.Plan t cols) got reply l before after reads w
+reading_weighs (command.Certify t cols count) m got reply l before after reads w = told_weighs (is_refusal reply) m (command.Certify t cols count) got reply l before after reads w
+reading_weighs command.Tree m got reply l before after reads w = told_weighs (is_refusal reply) m command.Tree got reply l before after reads w
 
 at_image : (image : Option (List ℕ)) (P : List ℕ → Type 0) (x : List ℕ) → IfSome image P → image ≡ Some x → P x
 at_image image P x all is = let here : IfSome (Some x) P = subst (λ (o : Option (List ℕ)). IfSome o P) is all in here
 
-command_weighs : (c : Command) (got : List ScriptLine) (old : Parts) (image : Option (List ℕ)) (x : List ℕ) (m : MachineState) (h : Head) (l before after : ℕ) → image ≡ Some x → StandsFor old x m
-    → Reads c old image h before after → Weighs m (Asked c got) h l → TakesAtMost l before after
-command_weighs c got old image x m h l before after is stands reads w = by (needs c).reads refl (is_early h) refl w
+command_weighs : (c : Command) (got : List ScriptLine) (old : Parts) (image : Option (List ℕ)) (x : List ℕ) (m : MachineState) (reply : Reply) (l before after : ℕ) → image ≡ Some x → StandsFor old x m
+    → Reads c old image reply before after → Weighs m (Asked c got) reply l → TakesAtMost l before after
+command_weighs c got old image x m reply l before after is stands reads w = by (needs c).reads refl (is_early reply) refl w
   where
-    by : (r : Bool) → (needs c).reads ≡ r → (e : Bool) → is_early h ≡ e → WeighsWhere (r && not e) m c got h l → TakesAtMost l before after
+    by : (r : Bool) → (needs c).reads ≡ r → (e : Bool) → is_early reply ≡ e → WeighsWhere (r && not e) m c got reply l → TakesAtMost l before after
     by false off e early w = takes_none l before after w (reads.nothing off)
     by true on true early w = takes_none l before after w (reads.early early)
-    by true on false late w = reading_weighs c m got h l before after (at_image image _ x (reads.told on) is m stands got) w
+    by true on false late w = reading_weighs c m got reply l before after (at_image image _ x (reads.told on) is m stands got) w
 
 -- what a turn with a reply reads over an image that stands for the state is at most what its entry weighs
 pub turn_weighs : (e : Entry) (old : Parts) (image : Option (List ℕ)) (x : List ℕ) (m : MachineState) (r : Reply) (l before after : ℕ) → image ≡ Some x → StandsFor old x m
-    → ReadsTurn e old image r before after → Weighs m e r.head l → TakesAtMost l before after
-turn_weighs (Asked c got) old image x m r l before after is stands reads w = command_weighs c got old image x m r.head l before after is stands reads w
+    → ReadsTurn e old image r before after → Weighs m e r l → TakesAtMost l before after
+turn_weighs (Asked c got) old image x m r l before after is stands reads w = command_weighs c got old image x m r l before after is stands reads w
 turn_weighs (No_command line) old image x m r l before after is stands reads w = takes_none l before after w reads
 turn_weighs Long_line old image x m r l before after is stands reads w = takes_none l before after w reads
 

@@ -84,11 +84,11 @@ told_as a None x same is = absurd (let none : false ≡ true = same ∙ ap (λ (
 told_as a (Some y) x same is = (y, refl)
 
 -- the failed reads of a run, by its first reply
-one_first : (b : Bool) (a : Answered) (answers : List Answered) → is_store_read a.reply.head ≡ b → failed_reads (a ∷ answers) ≡ cond b 1 0 + failed_reads answers
+one_first : (b : Bool) (a : Answered) (answers : List Answered) → is_store_read a.reply ≡ b → failed_reads (a ∷ answers) ≡ cond b 1 0 + failed_reads answers
 one_first b a answers is =
-    sum_by-cons (λ (x : Answered). cond (is_store_read x.reply.head) 1 0) a answers ∙ ap (λ (x : Bool). cond x 1 0 + failed_reads answers) is
+    sum_by-cons (λ (x : Answered). cond (is_store_read x.reply) 1 0) a answers ∙ ap (λ (x : Bool). cond x 1 0 + failed_reads answers) is
 
-failed_first : (b : Bool) (a : Answered) (answers : List Answered) (f n k : ℕ) → is_store_read a.reply.head ≡ b → f ≤ n → (is_store_read a.reply.head ≡ true → DiskRose f n) → raised_by (failed_reads answers) n ≤ k
+failed_first : (b : Bool) (a : Answered) (answers : List Answered) (f n k : ℕ) → is_store_read a.reply ≡ b → f ≤ n → (is_store_read a.reply ≡ true → DiskRose f n) → raised_by (failed_reads answers) n ≤ k
     → raised_by (failed_reads (a ∷ answers)) f ≤ k
 failed_first true a answers f n k is counted rose failed = omega (arith, one_first true a answers is, rose is, failed)
 failed_first false a answers f n k is counted rose failed = omega (arith, one_first false a answers is, counted, failed)
@@ -145,7 +145,7 @@ module _ {M D : Type 0} {g : machine.Ghosts M D} {d : disk.Ghosts D} {parts : M 
             let later = rest.unmade none in
             let first = unmade later.0 in
             (first.0, later.1 ∙ first.1);
-        failed = failed_first (is_store_read t.reply.head) b rest.answers (d.faults at) (d.faults t.world) (d.faults (last_world t.world turns)) refl a.used.counted a.store_read rest.failed;
+        failed = failed_first (is_store_read t.reply) b rest.answers (d.faults at) (d.faults t.world) (d.faults (last_world t.world turns)) refl a.used.counted a.store_read rest.failed;
         reads = λ n weighs.
             subst (λ (j : ℕ). TakesAtMost j (d.taken at) (d.taken (last_world t.world turns))) (sym weighs.4)
             (takes_both weighs.0 weighs.1 (d.taken at) (d.taken t.world) (d.taken (last_world t.world turns))

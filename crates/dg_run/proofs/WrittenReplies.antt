@@ -3,6 +3,7 @@ use Rattle.std.proofs.Common.{◌≡◌, ℕ, ◌≤◌, Bool, List, [], ◌∷�
 use Rattle.std.specs.List.{All, flat_map}
 use Rattle.std.proofs.lemmas.List.{length-take, take-take}
 use Rattle.std.proofs.lemmas.List.Elements.{All-cons, All-nil}
+use Rattle.dg_ask.specs.ReplyNames.{ReplyNamesAreThere}
 use Rattle.dg_disk.specs.declared.disk.Disk as disk
 use Rattle.dg_index.specs.ImageText.{header_in}
 use Rattle.dg_index.specs.OpenedIndex.{No_index, Opened, Opening, Unopened, opened_by, opening}
@@ -11,7 +12,7 @@ use Rattle.dg_machine.specs.ReplyText.{text}
 use Rattle.dg_machine.specs.Script.{Entry}
 use Rattle.dg_session.proofs.ReplyNames.{names_stay}
 use Rattle.dg_session.specs.Parts.{Parts}
-use Rattle.dg_session.specs.ReplyNames.{BeginWith, ReplyNamesAreThere}
+use Rattle.dg_session.specs.ReplyNames.{BeginWith}
 use Rattle.dg_session.specs.Session.{HoldsImage}
 use Rattle.dg_stored.specs.StoredHistory.{IsHeldBy}
 use Rattle.dg_turns.specs.declared.machine.Machine as machine

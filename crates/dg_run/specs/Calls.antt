@@ -1,6 +1,7 @@
 -- What the session does at an entry of the script, over the ghost members of the disk, and the session and the disk before
 -- it and after it.
 use Rattle.std.specs.Prelude.{◌≡◌, true, None, length, refl}
+use Rattle.dg_ask.specs.ReplyNames.{ReplyNamesAreThere}
 use Rattle.dg_disk.specs.Calls.{Fails, FailsToWrite, LeftByCrash, ReadsDisk, StaysOnDevice, UsesDisk}
 use Rattle.dg_disk.specs.declared.disk.Disk as disk
 use Rattle.dg_disk.proofs.FrameLemmas.{reads_none}
@@ -9,7 +10,7 @@ use Rattle.dg_machine.specs.declared.reply.Reply.{Reply}
 use Rattle.dg_machine.specs.Run.{is_store_read}
 use Rattle.dg_machine.specs.Script.{Entry}
 use Rattle.dg_session.specs.Parts.{Parts}
-use Rattle.dg_session.specs.ReplyNames.{BeginWith, ReplyNamesAreThere}
+use Rattle.dg_session.specs.ReplyNames.{BeginWith}
 use Rattle.dg_session.specs.Session.{WhereBothTold}
 use Rattle.dg_run.specs.Turns.{CutsEntry, LeavesTurn, ReadsBroken, ReadsTurn, Replies}
 
@@ -24,7 +25,7 @@ pub record AnswersEntry {D : Type 0} (d : disk.Ghosts D) (e : Entry) (old : Part
   -- Where there is no index behind it, there was none, and the image is as it was.
   pub no_index : new.index ≡ None → (old.index ≡ None) × (d.image after ≡ d.image before)
   -- It says that a read failed only where a call of the disk did.
-  pub store_read : is_store_read reply.head ≡ true → Fails d before after
+  pub store_read : is_store_read reply ≡ true → Fails d before after
   -- The names in the reply are among those of the session.
   pub named : ReplyNamesAreThere (length new.names) reply
   -- None of the names that the session had is gone or has another number.

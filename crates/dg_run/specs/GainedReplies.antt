@@ -1,10 +1,11 @@
 -- What is written over any image.
 use Rattle.std.specs.Prelude.{ℕ, List, [], ◌∷◌, Option, Some, None, Result, Ok, Err, length}
 use Rattle.std.specs.List.{All, flat_map}
+use Rattle.dg_ask.specs.ReplyNames.{ReplyNamesAreThere}
 use Rattle.dg_index.specs.OpenedIndex.{Opened, Unopened, opening}
 use Rattle.dg_machine.specs.declared.reply.Reply.{Reply}
 use Rattle.dg_machine.specs.ReplyText.{text}
-use Rattle.dg_session.specs.ReplyNames.{BeginWith, ReplyNamesAreThere}
+use Rattle.dg_session.specs.ReplyNames.{BeginWith}
 use Rattle.dg_run.specs.declared.status.Status.{Status}
 use Rattle.dg_run.specs.Served.{Gained}
 

@@ -9,7 +9,7 @@ use Rattle.dg_history.specs.History.{History}
 use Rattle.dg_index.specs.OpenedIndex.{opened_of}
 use Rattle.dg_machine.specs.declared.command.Command.{Command}
 use Rattle.dg_machine.specs.declared.command.Command.TheVariants as command
-use Rattle.dg_machine.specs.declared.reply.Head.{Head}
+use Rattle.dg_machine.specs.declared.reply.Reply.{Reply}
 use Rattle.dg_machine.specs.Answer.{Answered, IsPlannedBy, answer, is_refusal, weight_told}
 use Rattle.dg_machine.specs.MachineState.{MachineState, history_in}
 use Rattle.dg_machine.specs.Needs.{needs, refused}
@@ -39,33 +39,33 @@ WeighsOlder m count n =
     (singles : List ℕ) × AreSingles (arcs_of (record_edges_in m all_columns)) (Root ∷ []) (older_for m count) singles × (n ≡ sum singles)
 
 -- what a retrieval tells that it weighs; where it is refused, what its answer would tell
-abbrev pub WeighsTold : Bool → MachineState → Command → List ScriptLine → Head → ℕ → Type 0
-WeighsTold false m c got h n = n ≡ weight_told h
-WeighsTold true m c got h n = (p : Planned) × IsPlannedBy (refused m c got) m c p × (n ≡ weight_told (answer m c got p).reply.head)
+abbrev pub WeighsTold : Bool → MachineState → Command → List ScriptLine → Reply → ℕ → Type 0
+WeighsTold false m c got reply n = n ≡ weight_told reply
+WeighsTold true m c got reply n = (p : Planned) × IsPlannedBy (refused m c got) m c p × (n ≡ weight_told (answer m c got p).reply)
 
 -- what a command weighs that reads: `verify` the columns of all records, each once
-abbrev pub WeighsReading : MachineState → Command → List ScriptLine → Head → ℕ → Type 0
-WeighsReading m (command.Load count) got h n = WeighsOlder m count n
-WeighsReading m (command.Append count) got h n = WeighsOlder m count n
-WeighsReading m (command.Workload seed count) got h n = WeighsOlder m count n
-WeighsReading m command.Verify got h n = n ≡ records_length (history_in m.index)
-WeighsReading m c got h n = WeighsTold (is_refusal h) m c got h n
+abbrev pub WeighsReading : MachineState → Command → List ScriptLine → Reply → ℕ → Type 0
+WeighsReading m (command.Load count) got reply n = WeighsOlder m count n
+WeighsReading m (command.Append count) got reply n = WeighsOlder m count n
+WeighsReading m (command.Workload seed count) got reply n = WeighsOlder m count n
+WeighsReading m command.Verify got reply n = n ≡ records_length (history_in m.index)
+WeighsReading m c got reply n = WeighsTold (is_refusal reply) m c got reply n
 
-abbrev pub WeighsWhere : Bool → MachineState → Command → List ScriptLine → Head → ℕ → Type 0
-WeighsWhere true m c got h n = WeighsReading m c got h n
-WeighsWhere false m c got h n = n ≡ 0
+abbrev pub WeighsWhere : Bool → MachineState → Command → List ScriptLine → Reply → ℕ → Type 0
+WeighsWhere true m c got reply n = WeighsReading m c got reply n
+WeighsWhere false m c got reply n = n ≡ 0
 
--- What the entry weighs that was answered in the state m with this head: nothing where it reads no records, or is a batch
+-- What the entry weighs that was answered in the state m with this reply: nothing where it reads no records, or is a batch
 -- that is refused before any is read.
-abbrev pub Weighs : MachineState → Entry → Head → ℕ → Type 0
-Weighs m (Asked c got) h n = WeighsWhere ((needs c).reads && not (is_early h)) m c got h n
-Weighs m (No_command line) h n = n ≡ 0
-Weighs m Long_line h n = n ≡ 0
+abbrev pub Weighs : MachineState → Entry → Reply → ℕ → Type 0
+Weighs m (Asked c got) reply n = WeighsWhere ((needs c).reads && not (is_early reply)) m c got reply n
+Weighs m (No_command line) reply n = n ≡ 0
+Weighs m Long_line reply n = n ≡ 0
 
 -- what the entries of a run from m weigh together
 abbrev pub RunWeighs : MachineState → List Entry → List Answered → ℕ → Type 0
 RunWeighs m [] [] n = n ≡ 0
-RunWeighs m (e ∷ entries) (a ∷ answers) n = (k l : ℕ) × Weighs m e a.reply.head k × RunWeighs a.state entries answers l × (n ≡ k + l)
+RunWeighs m (e ∷ entries) (a ∷ answers) n = (k l : ℕ) × Weighs m e a.reply k × RunWeighs a.state entries answers l × (n ≡ k + l)
 RunWeighs m [] (a ∷ answers) n = ⊥
 RunWeighs m (e ∷ entries) [] n = ⊥
 

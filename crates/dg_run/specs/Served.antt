@@ -58,7 +58,7 @@ StandsInRun m answers c = (k : ℕ) × (k ≤ length answers) × StandsAs (last_
 
 -- an index was made
 abbrev pub makes_index : Answered → Bool
-makes_index a = is_created a.reply.head
+makes_index a = is_created a.reply
 
 -- What a crash within the run with these answers may leave of an index file that had these bytes first: one that stands for
 -- the index of a state of the run; or, where it had just the bytes of a header, there was no index, and one was made, the

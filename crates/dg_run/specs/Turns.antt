@@ -33,7 +33,7 @@ LeavesTurn script.Long_line old reply = λ before left. left ≡ before
 
 -- the bytes read at the entry, where it has this reply: a line that asks for nothing reads nothing
 abbrev pub ReadsTurn : script.Entry → Parts → Option (List ℕ) → Reply → ℕ → ℕ → Type 0
-ReadsTurn (script.Asked c lines) old image reply taken then_taken = Reads c old image reply.head taken then_taken
+ReadsTurn (script.Asked c lines) old image reply taken then_taken = Reads c old image reply taken then_taken
 ReadsTurn (script.No_command line) old image reply taken then_taken = then_taken ≡ taken
 ReadsTurn script.Long_line old image reply taken then_taken = then_taken ≡ taken
 

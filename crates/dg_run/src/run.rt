@@ -105,7 +105,7 @@ fn run_session<R: Threads + Sync, S: Source, K: Sink, D: Disk>(
         Ok(session) => {
             // From here on it is commands that read, and they may ask for the same again.
             disk.expect_repeats();
-            answer_script(rt, alloc, limits.script_bytes, session, source, sink, disk)
+            answer_script(rt, limits.script_bytes, session, source, sink, disk)
         }
         Err(fault) => Status::from(fault),
     }
@@ -114,7 +114,6 @@ fn run_session<R: Threads + Sync, S: Source, K: Sink, D: Disk>(
 // Answers the script by the session, of which at most so many bytes may be taken.
 fn answer_script<R: Threads + Sync, S: Source, K: Sink, D: Disk>(
     rt: &R,
-    alloc: Global,
     limit: u64,
     session: Session,
     source: &mut S,
@@ -129,15 +128,6 @@ fn answer_script<R: Threads + Sync, S: Source, K: Sink, D: Disk>(
     ensures on_device { result ≢ Status.DiskFault → StaysOnDevice D.Disk disk.old disk.new }
 {
     let mut machine = SessionMachine { session };
-    let end = dg_turns::answer_script(
-        rt,
-        alloc,
-        Commands::All,
-        limit,
-        &mut machine,
-        disk,
-        source,
-        sink,
-    );
+    let end = dg_turns::answer_script(rt, Commands::All, limit, &mut machine, disk, source, sink);
     Status::from(end)
 }

@@ -1,5 +1,5 @@
 -- What a crash may leave while a batch is added, as the machine goes.
-use Rattle.std.proofs.Common.{◌≡◌, ◌⊎◌, inl, inr, ℕ, ◌+◌, ◌≤◌, true, List, Option, Some, None, Result, Ok, Err, length, refl, sym, ◌∙◌, subst}
+use Rattle.std.proofs.Common.{◌≡◌, ◌⊎◌, inl, inr, ℕ, ◌≤◌, true, List, Option, Some, None, Result, Ok, Err, length, refl, sym, ◌∙◌, subst}
 use Rattle.std.specs.Prelude.{IfSome}
 use Rattle.dg_append.specs.AddedBatches.{AddsBatch, AddsBatchOrNot, AddsBehindOrNot, BreaksBatch, ComesToSegment, FailsBatch, TakesForm, batch_with}
 use Rattle.dg_append.specs.declared.batch.AddedBatch.{AddedBatch}
@@ -14,20 +14,19 @@ use Rattle.dg_disk.specs.Calls.{LeftByCrash, ReadsDisk}
 use Rattle.dg_disk.specs.declared.disk.Disk.{Ghosts}
 use Rattle.dg_graph.specs.declared.event.Event.{Event}
 use Rattle.dg_text.specs.Lines.{ScriptLine}
-use Rattle.dg_graph.specs.Replay.{replay_from}
-use Rattle.dg_history.specs.History.{History, last_time_from, with_batch}
+use Rattle.dg_history.specs.History.{History, with_batch}
 use Rattle.dg_history.specs.LegalHistory.{IsLegal}
 use Rattle.dg_index.specs.FileOfHistory.{Segment}
 use Rattle.dg_index.specs.ImageOfHistory.{IsImageOf, StandsAs}
 use Rattle.dg_index.specs.IndexGrowth.{needed_for}
-use Rattle.dg_index.specs.OpenedIndex.{Opening, event_total}
+use Rattle.dg_index.specs.OpenedIndex.{Opening}
 use Rattle.dg_machine.specs.Answer.{headed}
 use Rattle.dg_machine.specs.CutImage.{IsAcceptedWrite, IsCut, As_before, As_after}
 use Rattle.dg_machine.specs.declared.reply.Reply.{Reply}
 use Rattle.dg_machine.specs.MachineState.{MachineState}
 use Rattle.dg_machine.specs.Run.{Step}
 use Rattle.dg_machine.specs.Script.{Asked}
-use Rattle.dg_session.proofs.BatchCommandForms.{Origin, adding, head_over, ok_head, writes}
+use Rattle.dg_session.proofs.BatchCommandForms.{Origin, adding, head_over, writes}
 use Rattle.dg_session.proofs.BatchCommandStep.{IsAdded, IsAsked, completed_is, is_added, of_here, opening_there, over, said, steps_as}
 use Rattle.dg_session.proofs.CommandCrashes.{OnlyNow, reads_leave, wider}
 use Rattle.dg_session.proofs.PartStates.{IsOf, is_of}
@@ -94,7 +93,7 @@ module _ (from : Origin) (got : List ScriptLine) (p : Parts) (count limit : ℕ)
         h = (is_of p index image m asked.free.there s).1
 
         by : IsImageOf z left ⊎ IsImageOf (more_of z) left
-            → StandsAs m.index left ⊎ ((k : MachineState) × Step m (Asked (adding from count) got) reply k × StandsAs k.index left) ⊎ ((is_created reply.head ≡ true) × (m.index ≡ None) × IsFirstByte image left)
+            → StandsAs m.index left ⊎ ((k : MachineState) × Step m (Asked (adding from count) got) reply k × StandsAs k.index left) ⊎ ((is_created reply ≡ true) × (m.index ≡ None) × IsFirstByte image left)
         by (inl same) = inl (subst (λ (i : Option History). StandsAs i left) (sym h.index) same)
         by (inr more) = inr (inl (record m { index = Some (more_of z) }, step_of image at m z s h, more))
 
@@ -112,8 +111,7 @@ module _ (from : Origin) (got : List ScriptLine) (p : Parts) (count limit : ℕ)
 
         allowed : IsAcceptedWrite m (Asked (adding from count) got)
         allowed =
-            is_accepted m (adding from count) got _ (writes from count) is.answered
-            (ok_head from (replay_from l.history.now.graph events) (length events) (event_total index.batches + length events) (last_time_from 0 events))
+            is_accepted m (adding from count) got _ (writes from count) is.answered refl
 
         by : IsImageOf z left ⊎ IsImageOf (more_of z) left → IsCut m (Asked (adding from count) got) image left
         by (inl same) = As_before allowed (subst (λ (i : Option History). StandsAs i left) (sym h.index) same)

@@ -1,5 +1,5 @@
 -- What adds a batch: a command with the lines that follow it, or one with a seed.
-use Rattle.std.proofs.Common.{◌≡◌, ℕ, ◌≤◌, true, false, List, Option, Result, map, refl}
+use Rattle.std.proofs.Common.{◌≡◌, ℕ, ◌≤◌, true, List, Option, Result, map, refl}
 use Rattle.std.specs.Prelude.{◌&&◌}
 use Rattle.dg_graph.specs.declared.element.Element.{Element}
 use Rattle.dg_text.specs.Lines.{ScriptLine}
@@ -10,7 +10,7 @@ use Rattle.dg_machine.specs.declared.command.Command.{Command}
 use Rattle.dg_machine.specs.declared.command.Command.TheVariants as command
 use Rattle.dg_machine.specs.declared.reply.Head.{Head}
 use Rattle.dg_machine.specs.declared.reply.Head.TheVariants as head
-use Rattle.dg_machine.specs.Answer.{Answered, accepted, graph_with, is_behind_reads, is_refusal, with_new}
+use Rattle.dg_machine.specs.Answer.{Answered, accepted, graph_with, with_new}
 use Rattle.dg_changes.specs.GeneratedChanges.{batch_of_changes, generated}
 use Rattle.dg_machine.specs.MachineState.{MachineState, history_in}
 use Rattle.dg_machine.specs.Needs.{is_writing, needs}
@@ -39,7 +39,7 @@ abbrev pub asked_from : Origin → ℕ → List ScriptLine → List (Option Chan
 asked_from (Lines_of which) count got = map change_by_text_in got
 asked_from (Seed seed) count got = generated seed count
 
--- the head of the reply, where this is the graph of the history with the batch
+-- the first line of the answer, where this is the graph of the history with the batch
 abbrev pub head_over : Origin → List Element → ℕ → ℕ → ℕ → Head
 head_over (Lines_of which) graph events total last = batch_head which events total last
 head_over (Seed seed) graph events total last = head.Generated events last (counts_of graph).nodes (counts_of graph).edges
@@ -86,20 +86,10 @@ reads_records (Lines_of Load) count = refl
 reads_records (Lines_of Append) count = refl
 reads_records (Seed seed) count = refl
 
-pub ok_head : (from : Origin) (graph : List Element) (events total last : ℕ) → is_refusal (head_over from graph events total last) ≡ false
-ok_head (Lines_of Load) graph events total last = refl
-ok_head (Lines_of Append) graph events total last = refl
-ok_head (Seed seed) graph events total last = refl
-
 pub fits_head : (from : Origin) (count : ℕ) (graph : List Element) (events total last : ℕ) → IsHeadOf (adding from count) (head_over from graph events total last)
 fits_head (Lines_of Load) count graph events total last = tt
 fits_head (Lines_of Append) count graph events total last = tt
 fits_head (Seed seed) count graph events total last = tt
-
-pub behind_head : (from : Origin) (graph : List Element) (events total last : ℕ) → is_behind_reads (head_over from graph events total last) ≡ true
-behind_head (Lines_of Load) graph events total last = refl
-behind_head (Lines_of Append) graph events total last = refl
-behind_head (Seed seed) graph events total last = refl
 
 -- what they ask for fits its ranges
 pub asked_fit : (from : Origin) (count : ℕ) (got : List ScriptLine) → count ≤ BATCH_LINES_MAX → AskedFit (asked_from from count got)

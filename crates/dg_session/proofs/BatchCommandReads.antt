@@ -23,13 +23,14 @@ use Rattle.dg_history.specs.declared.node.NodeId.{NodeId}
 use Rattle.dg_history.specs.declared.node.NodeId.TheVariants.{Root}
 use Rattle.dg_history.specs.History.{History}
 use Rattle.dg_index.specs.OpenedIndex.{Opening, earliest_in}
-use Rattle.dg_machine.specs.declared.reply.Head.{Head}
-use Rattle.dg_machine.specs.declared.reply.Head.TheVariants as head
 use Rattle.dg_machine.specs.declared.reply.Refusal.{Refusal}
 use Rattle.dg_machine.specs.declared.reply.Refusal.TheVariants as refusal
+use Rattle.dg_machine.specs.declared.reply.Reply.TheVariants as replied
+use Rattle.dg_machine.specs.declared.reply.Reply.{Reply}
 use Rattle.dg_machine.specs.MachineState.{MachineState}
 use Rattle.dg_machine.specs.Needs.{needs}
 use Rattle.dg_machine.specs.Planning.{record_edges_in}
+use Rattle.dg_machine.specs.Answer.{headed}
 use Rattle.dg_plan.specs.declared.edge.Edge.{Edge}
 use Rattle.dg_plan.specs.HistoryGraph.{all_columns}
 use Rattle.dg_plan.specs.IndexGraph.{arcs_of}
@@ -66,17 +67,17 @@ use Rattle.dg_stored.specs.StoredHistory.{index_opening}
 abbrev pub ReadsNoMore : Parts → Option (List ℕ) → ℕ → ℕ → ℕ → Type 0
 ReadsNoMore p image count before after = IfSome image (λ bytes. (m : MachineState) → StandsFor p bytes m → ReadsOlder m count before after)
 
-read_by : (from : Origin) (m : MachineState) (count : ℕ) (got : List ScriptLine) (h : Head) (before after : ℕ) → ReadsOlder m count before after → ReadsBy m (adding from count) got h before after
-read_by (Lines_of Load) m count got h before after reads = reads
-read_by (Lines_of Append) m count got h before after reads = reads
-read_by (Seed seed) m count got h before after reads = reads
+read_by : (from : Origin) (m : MachineState) (count : ℕ) (got : List ScriptLine) (reply : Reply) (before after : ℕ) → ReadsOlder m count before after → ReadsBy m (adding from count) got reply before after
+read_by (Lines_of Load) m count got reply before after reads = reads
+read_by (Lines_of Append) m count got reply before after reads = reads
+read_by (Seed seed) m count got reply before after reads = reads
 
-batch_reads : (from : Origin) (count : ℕ) (p : Parts) (image : Option (List ℕ)) (h : Head) (before after : ℕ) → ReadsNoMore p image count before after → (is_early h ≡ true → after ≡ before)
-    → Reads (adding from count) p image h before after
-batch_reads from count p image h before after older early = record {
+batch_reads : (from : Origin) (count : ℕ) (p : Parts) (image : Option (List ℕ)) (reply : Reply) (before after : ℕ) → ReadsNoMore p image count before after → (is_early reply ≡ true → after ≡ before)
+    → Reads (adding from count) p image reply before after
+batch_reads from count p image reply before after older early = record {
   told = λ reads. if_some image (λ bytes. (m : MachineState) → StandsFor p bytes m → ReadsOlder m count before after)
-      (λ bytes. (m : MachineState) → StandsFor p bytes m → (got : List ScriptLine) → ReadsBy m (adding from count) got h before after)
-      (λ bytes f m s got. read_by from m count got h before after (f m s)) older;
+      (λ bytes. (m : MachineState) → StandsFor p bytes m → (got : List ScriptLine) → ReadsBy m (adding from count) got reply before after)
+      (λ bytes f m s got. read_by from m count got reply before after (f m s)) older;
   early = early;
   nothing = λ e. absurd (false≢true (sym e ∙ reads_records from count));
 }
@@ -94,7 +95,7 @@ stopped_reads (Seed seed) count p image before after older = record { older = ol
 
 -- there is no batch to be completed, and nothing was read
 pub unread_reads : (from : Origin) (count : ℕ) (p : Parts) (image : Option (List ℕ)) (h : Halt) (taken : ℕ) → ReadsIn (adding from count) p image (Err h) taken taken
-unread_reads from count p image (halt.Refusal r) taken = batch_reads from count p image (head.Refused r) taken taken (nothing_read p image count taken taken refl) (λ e. refl)
+unread_reads from count p image (halt.Refusal r) taken = batch_reads from count p image (replied.Refused r) taken taken (nothing_read p image count taken taken refl) (λ e. refl)
 unread_reads from count p image (halt.Stop stop.Read) taken = refl
 unread_reads from count p image (halt.Stop stop.Limit) taken = refl
 unread_reads from count p image (halt.Stop stop.Store) taken = stopped_reads from count p image taken taken (nothing_read p image count taken taken refl)
@@ -109,15 +110,10 @@ failed_reads from count p image fault.Read before after older none = batch_reads
 failed_reads from count p image fault.Memory before after older none = batch_reads from count p image _ before after older (λ e. absurd (false≢true e))
 failed_reads from count p image fault.Store before after older none = stopped_reads from count p image before after older
 
-not_early : (from : Origin) (graph : List Element) (events total last : ℕ) → is_early (head_over from graph events total last) ≡ false
-not_early (Lines_of Load) graph events total last = refl
-not_early (Lines_of Append) graph events total last = refl
-not_early (Seed seed) graph events total last = refl
-
 pub added_reads : (from : Origin) (count : ℕ) (p : Parts) (image : Option (List ℕ)) (graph : List Element) (events total last before after : ℕ) → ReadsNoMore p image count before after
-    → Reads (adding from count) p image (head_over from graph events total last) before after
+    → Reads (adding from count) p image (headed (head_over from graph events total last)) before after
 added_reads from count p image graph events total last before after older =
-    batch_reads from count p image (head_over from graph events total last) before after older (λ e. absurd (false≢true (sym (not_early from graph events total last) ∙ e)))
+    batch_reads from count p image (headed (head_over from graph events total last)) before after older (λ e. absurd (false≢true e))
 
 -- ---- why nothing is told of a read
 
@@ -160,7 +156,7 @@ read_fault fault.Read e = refl
 read_fault fault.Memory e = absurd cc
 read_fault fault.Store e = absurd cc
 
-names_it : (from : Origin) (count : ℕ) (p : Parts) (image : Option (List ℕ)) (key : Key) (col : Column) → NamesBatchDamage p image count key col → DamageIs (adding from count) p image (head.Refused (refusal.Damaged key col))
+names_it : (from : Origin) (count : ℕ) (p : Parts) (image : Option (List ℕ)) (key : Key) (col : Column) → NamesBatchDamage p image count key col → DamageIs (adding from count) p image (replied.Refused (refusal.Damaged key col))
 names_it (Lines_of Load) count p image key col d = d
 names_it (Lines_of Append) count p image key col d = d
 names_it (Seed seed) count p image key col d = d

@@ -49,10 +49,10 @@ use Rattle.dg_history.specs.LegalHistory.{IsLegal, are_silent}
 use Rattle.dg_index.specs.OpenedIndex.{Opened, Opening, earliest_in, event_total, may_be_named}
 use Rattle.dg_machine.specs.declared.limits.Limits.{Limits}
 use Rattle.dg_machine.specs.declared.stands.Stands.{Stands}
-use Rattle.dg_machine.specs.declared.reply.Head.TheVariants as head
 use Rattle.dg_machine.specs.declared.reply.Refusal.{Refusal}
 use Rattle.dg_machine.specs.declared.reply.Refusal.TheVariants as refusal
 use Rattle.dg_machine.specs.declared.reply.Reply.{Reply}
+use Rattle.dg_machine.specs.declared.reply.Reply.TheVariants as replied
 use Rattle.dg_machine.specs.Answer.{Answered, answer, headed, is_behind_reads, refuse}
 use Rattle.dg_machine.specs.CutImage.{IsCut, As_before, As_after}
 use Rattle.dg_machine.specs.MachineState.{MachineState, elements, history_in}
@@ -61,7 +61,7 @@ use Rattle.dg_machine.specs.Needs.{needs, refused}
 use Rattle.dg_machine.specs.Planning.{no_plan}
 use Rattle.dg_machine.specs.Run.{Step}
 use Rattle.dg_machine.specs.Script.{Asked}
-use Rattle.dg_session.proofs.BatchCommandForms.{Lines_of, Origin, Seed, accepted_made, adding, adds, asked_fit, asked_from, behind_head, fits_head, grows, head_over, lacks, ok_head, reads_records, unplanned, with_made, writes}
+use Rattle.dg_session.proofs.BatchCommandForms.{Lines_of, Origin, Seed, accepted_made, adding, adds, asked_fit, asked_from, fits_head, grows, head_over, lacks, reads_records, unplanned, with_made, writes}
 use Rattle.dg_batch.proofs.LegalHistoryRanges.{ChangeFits, what_named}
 use Rattle.dg_batch.proofs.GeneratedChangeRanges.{generated_length}
 use Rattle.dg_ask.proofs.HeldIndexHistory.{count_is}
@@ -342,13 +342,13 @@ takes_form form events takes = by (is_wide form) (are_silent events) takes
     by false false h = absurd (false≢true (h refl))
 
 -- a batch that is refused neither for a change nor for the form is refused for a full file alone
-behind_reads : (m : MachineState) (z : History) (from : Origin) (b : HistoryBatch) → is_barred_by z.form b.events ≡ false → is_behind_reads (with_made m z from (Ok b)).reply.head ≡ true
+behind_reads : (m : MachineState) (z : History) (from : Origin) (b : HistoryBatch) → is_barred_by z.form b.events ≡ false → is_behind_reads (with_made m z from (Ok b)).reply ≡ true
 behind_reads m z from b free =
-    ap (λ bars. is_behind_reads (by_form m z from b bars).reply.head) free ∙ by (nat_lt m.limits.file_bytes (size (with_batch z b)))
+    ap (λ bars. is_behind_reads (by_form m z from b bars).reply) free ∙ by (nat_lt m.limits.file_bytes (size (with_batch z b)))
   where
-    by : (full : Bool) → is_behind_reads (by_room m z from b full).reply.head ≡ true
+    by : (full : Bool) → is_behind_reads (by_room m z from b full).reply ≡ true
     by true = refl
-    by false = behind_head from (replay (events_of z ++ b.events)) (length b.events) (length (events_of z) + length b.events) (last_time_from 0 b.events)
+    by false = refl
 
 -- after a fault the session keeps what it kept; after a failure of a write or sync nothing is said
 abbrev pub StaysAs : BatchFault → Parts → Parts → Type 0
@@ -567,7 +567,7 @@ module _ (from : Origin) (got : List ScriptLine) (p : Parts) (count limit : ℕ)
 
     -- the file has too little room
     full_steps : (n : ℕ) → n ≡ needed_for free.index segment → limit < n → (m : MachineState) (image : List ℕ) → told ≡ Some image → StandsFor p image m
-        → Step m (Asked (adding from count) got) (headed (head.Refused (refusal.FileFull n limit))) m
+        → Step m (Asked (adding from count) got) (replied.Refused (refusal.FileFull n limit)) m
     full_steps n n_is over m image at s =
         let found = is_of p free.index image m free.there s in
         let z : History = found.0 in
@@ -662,10 +662,10 @@ module _ (from : Origin) (got : List ScriptLine) (p : Parts) (count limit : ℕ)
           where
             by_image : IsImageOf z after ⊎ IsImageOf (with_batch z New) after → IsCut m (Asked (adding from count) got) before after
             by_image (inl same) =
-                As_before (is_accepted m (adding from count) got _ (writes from count) is.answered (ok_head from (replay_from c.now.graph events) (length events) (event_total free.index.batches + length events) (last_time_from 0 events)))
+                As_before (is_accepted m (adding from count) got _ (writes from count) is.answered refl)
                 (subst (λ (i : Option History). StandsAs i after) (sym h.index) same)
             by_image (inr more) =
-                As_after (is_accepted m (adding from count) got _ (writes from count) is.answered (ok_head from (replay_from c.now.graph events) (length events) (event_total free.index.batches + length events) (last_time_from 0 events)))
+                As_after (is_accepted m (adding from count) got _ (writes from count) is.answered refl)
                 said (record m { index = Some (with_batch z New) }) (steps_as before m s _ is.answered) more
 
   -- ---- what the command comes to
@@ -725,7 +725,7 @@ module _ (from : Origin) (got : List ScriptLine) (p : Parts) (count limit : ℕ)
           moves = λ y z ey ez.
               add_moves before d.events d.segment d.comes q indexes y z (headed (head_over from new.history.now.graph (length x.events.items) x.total x.last)) ey d.fits
               (both_told before after (GainsBatch d.segment) d.gains y z ey ez) q_is values told;
-          accepted = ok_head from new.history.now.graph (length x.events.items) x.total x.last;
+          accepted = refl;
           free = a.not_refused;
           fits = fits_head from count new.history.now.graph (length x.events.items) x.total x.last;
           held = λ h. d.held;
@@ -772,7 +772,7 @@ module _ (from : Origin) (got : List ScriptLine) (p : Parts) (count limit : ℕ)
         failing_denies (adding from count) got p q before after q_is f.0 (reads_records from count) a.not_refused
         (λ m image s.
         let z = is_of p free.index image m free.there s in
-        ap (λ (x : Answered). is_behind_reads x.reply.head) (answer_with image m z.0 (Ok d.events) s z.1 d.come)
+        ap (λ (x : Answered). is_behind_reads x.reply) (answer_with image m z.0 (Ok d.events) s z.1 d.come)
         ∙ behind_reads m z.0 from (batch_in z.0 Due d.events) (free_form image m z.0 d.events z.1 d.form))
     batch_failed fault.Memory fails q q_is =
         let f : after ≡ before = of_here (index_opening c.index) free.index (λ o. FailsBatch o limit b c before after fault.Memory) opening_there fails in

@@ -13,19 +13,18 @@ use Rattle.dg_text.specs.Lines.{ScriptLine}
 use Rattle.dg_io.specs.declared.source.Source as source
 use Rattle.dg_io.specs.LinesState.{LinesState}
 use Rattle.dg_machine.proofs.Refusals.{store_read_refuses}
-use Rattle.dg_machine.specs.Answer.{headed}
 use Rattle.dg_machine.specs.declared.command.Command.{Command}
-use Rattle.dg_machine.specs.declared.reply.Head.TheVariants as head
 use Rattle.dg_machine.specs.declared.reply.Refusal.{Refusal}
 use Rattle.dg_machine.specs.declared.reply.Refusal.TheVariants as refusal
 use Rattle.dg_machine.specs.declared.reply.Reply.{Reply}
+use Rattle.dg_machine.specs.declared.reply.Reply.TheVariants as replied
 use Rattle.dg_machine.specs.Needs.{following, is_writing, needs}
 use Rattle.dg_session.proofs.CommandCrashes.{OnlyNow, reading_left, refused_left}
 use Rattle.dg_file.specs.TidyImages.{StaysTidy}
 use Rattle.dg_session.proofs.CommandDisks.{every_answer, every_err, reading_tidy}
 use Rattle.dg_session.proofs.DamageStep.{met_nothing, never_for_damage, reads_undamaged}
 use Rattle.dg_session.proofs.ReadsStep.{fails_no_read, followed_by_none, reads_none, reads_nothing, store_read_is}
-use Rattle.dg_session.proofs.ReplyNames.{head_names, names_stay}
+use Rattle.dg_session.proofs.ReplyNames.{names_stay}
 use Rattle.dg_session.proofs.SessionPoolStep.{nothing_swept}
 use Rattle.dg_session.proofs.SessionSteps.{Carried, HasItsLines, alone, answered, refused_so}
 use Rattle.dg_session.proofs.VerifiedStep.{refused_verifies, unverified}
@@ -78,12 +77,12 @@ every_ok (Ok x) P each = each x
 every_ok (Err e) P each = tt
 
 -- a command that does not verify says nothing of it, whatever it comes to
-pub unverified_all : (c : Command) (p : Parts) (image : Option (List ℕ)) (r : Result Reply Halt) → is_verify c ≡ false → IfOk r (λ (reply : Reply). VerifiesFile c p image reply.head)
-unverified_all c p image r plain = every_ok r (λ (reply : Reply). VerifiesFile c p image reply.head) (λ reply. unverified (is_verify c) p image (soundness_told reply.head) plain)
+pub unverified_all : (c : Command) (p : Parts) (image : Option (List ℕ)) (r : Result Reply Halt) → is_verify c ≡ false → IfOk r (VerifiesFile c p image)
+unverified_all c p image r plain = every_ok r (VerifiesFile c p image) (λ reply. unverified (is_verify c) p image (soundness_told reply) plain)
 
 -- nor one that does not sweep of a sweep
-unswept_all : (c : Command) (old new : SessionState) (r : Result Reply Halt) → SweepsNothing c → IfOk r (λ (reply : Reply). SweepsPool c old.pool new.pool reply.head)
-unswept_all c old new r still = every_ok r (λ (reply : Reply). SweepsPool c old.pool new.pool reply.head) (λ reply. nothing_swept (sweep_of c) old.pool new.pool reply.head still)
+unswept_all : (c : Command) (old new : SessionState) (r : Result Reply Halt) → SweepsNothing c → IfOk r (λ (reply : Reply). SweepsPool c old.pool new.pool reply)
+unswept_all c old new r still = every_ok r (λ (reply : Reply). SweepsPool c old.pool new.pool reply) (λ reply. nothing_swept (sweep_of c) old.pool new.pool reply still)
 
 -- one that reads no records has read nothing, and tells of no damage
 pub no_file : {D : Type 0} (d : disk.Ghosts D) (c : Command) (got : List ScriptLine) (p q : Parts) (before after : D) (r : Result Reply Halt) → (needs c).reads ≡ false
@@ -115,7 +114,7 @@ module _ {S D : Type 0} {s : source.Ghosts S} {d : disk.Ghosts D} {c : Command} 
         named = a.named;
         keeps_names = a.keeps_names;
         no_index = a.no_index;
-        store_read = λ e. absurd (store_read_refuses reply.head a.accepted e);
+        store_read = λ e. absurd (store_read_refuses reply a.accepted e);
         damaged = k.file.damaged;
         undamaged = λ e. k.file.undamaged;
         verified = k.verified;
@@ -127,29 +126,28 @@ module _ {S D : Type 0} {s : source.Ghosts S} {d : disk.Ghosts D} {c : Command} 
       }
 
   -- it is refused
-  pub refused_answers : (r : Result Reply Halt) (why : Refusal) (reply : Reply) → r ≡ Err (halt.Refusal why) → reply ≡ headed (head.Refused why) → HoldsImage old.parts (d.image before)
-      → CarriesOut s d c lines from then_lines then_from old before new after r → AnswersCommand s d c lines from then_lines then_from old before new after reply
-  refused_answers r why reply is reply_is holds carries =
+  pub refused_answers : (r : Result Reply Halt) (why : Refusal) → r ≡ Err (halt.Refusal why) → HoldsImage old.parts (d.image before)
+      → CarriesOut s d c lines from then_lines then_from old before new after r → AnswersCommand s d c lines from then_lines then_from old before new after (replied.Refused why)
+  refused_answers r why is holds carries =
       let k = subst (CarriesOut s d c lines from then_lines then_from old before new after) is carries in
-      let n : Denies c k.comes.0 old.parts (d.image before) new.parts (d.image after) why = k.comes.2 in
-      subst (AnswersCommand s d c lines from then_lines then_from old before new after) (sym reply_is) (record {
+      let n : Denies c k.comes.0 old.parts (d.image before) new.parts (d.image after) why = k.comes.2 in record {
         step = refused_so c (TakesFollowing s c lines from then_lines then_from) (CutsFollowing s c lines from then_lines then_from) old.parts (d.image before) new.parts (d.image after) why (LeftByCrash d before after)
-            (λ got left. refused_left d before after c got old.parts (headed (head.Refused why)) left) k.comes;
+            (λ got left. refused_left d before after c got old.parts (replied.Refused why) left) k.comes;
         held = still_held old.parts new.parts (d.image before) (d.image after) n.as_before holds;
         refused = λ e. n.as_before;
-        named = head_names (length new.parts.names) (head.Refused why) (headed (head.Refused why)) refl;
+        named = tt;
         keeps_names = names_stay old.parts.names new.parts.names (ap (λ (x : Parts). x.names) n.as_before.same);
         no_index = λ none. (ap (λ (x : Parts). x.index) (sym n.as_before.same) ∙ none, n.as_before.same_image);
         store_read = λ e. k.causes.store_read (ap (λ (x : Refusal). Err (halt.Refusal x)) (store_read_is why e));
         damaged = k.file.damaged;
         undamaged = λ e. absurd (false≢true (sym e));
         verified = refused_verifies c old.parts (d.image before) why;
-        swept = nothing_swept (sweep_of c) old.pool new.pool (head.Refused why) k.unswept;
+        swept = nothing_swept (sweep_of c) old.pool new.pool (replied.Refused why) k.unswept;
         reads = k.file.reads;
         settled = frames.reads_stay before after (k.unwritten (λ e. cc));
         exact = reading_tidy d before after (k.unwritten (λ e. cc));
         unwritten = λ refuses. k.unwritten (λ e. cc);
-      })
+      }
 
   -- it is stopped
   pub stopped_so : (r : Result Reply Halt) (why : Stop) → r ≡ Err (halt.Stop why)
@@ -237,7 +235,7 @@ module _ {S D : Type 0} {s : source.Ghosts S} {d : disk.Ghosts D} {lines : Lines
 
   -- of one that reads the disk alone, and takes no line
   pub reading_carries : OnlyNow d → (c x : Command) → c ≡ x → following x ≡ 0 → SweepsNothing x → ComesTo x [] old.parts (d.image before) new.parts (d.image after) r
-      → ((why : Stop) → r ≡ Err (halt.Stop why) → ⊥) → IfOk r (λ (reply : Reply). VerifiesFile x old.parts (d.image before) reply.head)
+      → ((why : Stop) → r ≡ Err (halt.Stop why) → ⊥) → IfOk r (VerifiesFile x old.parts (d.image before))
       → (r ≡ Err (halt.Refusal refusal.StoreRead) → Fails d before after) → ReadsDisk d before after → ReadsFile d x old.parts before after r
       → CarriesOut s d c lines from lines from old before new after r
   reading_carries only c x is alone_is still comes no_stop verified cause frame file =
@@ -263,7 +261,7 @@ module _ {S D : Type 0} {s : source.Ghosts S} {d : disk.Ghosts D} {lines : Lines
 module _ {S D : Type 0} {s : source.Ghosts S} {d : disk.Ghosts D} {lines : LinesState} {from : S} {old : SessionState} {at : D} {new : SessionState} (r : Result Reply Halt) where
   -- of one that takes no line and touches no disk
   pub hand_carries : OnlyNow d → (c : Command) → is_at_hand c ≡ true → is_verify c ≡ false → ComesTo c [] old.parts (d.image at) new.parts (d.image at) r
-      → ((why : Stop) → r ≡ Err (halt.Stop why) → ⊥) → IfOk r (λ (reply : Reply). SweepsPool c old.pool new.pool reply.head) → IfErr r (λ h. SweepsNothing c)
+      → ((why : Stop) → r ≡ Err (halt.Stop why) → ⊥) → IfOk r (λ (reply : Reply). SweepsPool c old.pool new.pool reply) → IfErr r (λ h. SweepsNothing c)
       → CarriesOut s d c lines from lines from old at new at r
   hand_carries only c hand plain comes no_stop swept unswept = record {
     comes = alone c lines (s.left from) old.parts (d.image at) new.parts (d.image at) r (LeftByCrash d at at) (followed_by_none c hand) (no_stop stop.Read, no_stop stop.Limit) comes

@@ -35,7 +35,7 @@ module _ (l k : ℕ) (asked : AskedFunction) (params : Params) (params_are : par
       gone = none_there p a m l k asked s none
 
       by : IsMadeInPart form.Two params a left
-          → StandsAs m.index left ⊎ ((n : MachineState) × Step m (Asked (making l k asked) []) (headed head.Created) n × StandsAs n.index left) ⊎ ((is_created head.Created ≡ true) × (m.index ≡ None) × IsFirstByte a left)
+          → StandsAs m.index left ⊎ ((n : MachineState) × Step m (Asked (making l k asked) []) (headed head.Created) n × StandsAs n.index left) ⊎ ((is_created (headed head.Created) ≡ true) × (m.index ≡ None) × IsFirstByte a left)
       by (inl blank) = inl (subst (λ (i : Option History). StandsAs i left) (sym gone) blank)
       by (inr (inl made)) = inr (inl (made_in m params, making_steps l k asked params params_are p a m s none, made))
       by (inr (inr byte)) = inr (inr (refl, gone, byte))

@@ -9,10 +9,9 @@ use Rattle.dg_text.specs.Lines.{ScriptLine}
 use Rattle.dg_index.specs.OpenedIndex.{Opening, event_total}
 use Rattle.dg_machine.specs.declared.command.Command.{Command}
 use Rattle.dg_machine.specs.declared.command.Command.TheVariants as command
-use Rattle.dg_machine.specs.declared.reply.Head.{Head}
-use Rattle.dg_machine.specs.declared.reply.Head.TheVariants as head
 use Rattle.dg_machine.specs.declared.reply.Refusal.{Refusal}
 use Rattle.dg_machine.specs.declared.reply.Reply.{Reply}
+use Rattle.dg_machine.specs.declared.reply.Reply.TheVariants as replied
 use Rattle.dg_machine.specs.Answer.{is_refusal, refusal_of}
 use Rattle.dg_machine.specs.Needs.{needs}
 use Rattle.dg_machine.specs.Run.{is_failed_read}
@@ -46,7 +45,7 @@ none_told false None P e = tt
 none_told false (Some d) P e = absurd (false≢true (sym e))
 
 -- a refusal that tells of no read tells of no damage
-pub tells_no_damage : (c : Command) (p : Parts) (image : Option (List ℕ)) (r : Refusal) → is_of_read r ≡ false → DamageIs c p image (head.Refused r)
+pub tells_no_damage : (c : Command) (p : Parts) (image : Option (List ℕ)) (r : Refusal) → is_of_read r ≡ false → DamageIs c p image (replied.Refused r)
 tells_no_damage c p image r e = none_told (is_failed_read r) (damage_of r) (λ d. IsMetBy (reads_for c) p image d.0 d.1) e
 
 none_refused : (o : Option Refusal) (P : Key × Column → Type 0) → is_some o ≡ false → IfSome (damage_told o) P
@@ -54,13 +53,13 @@ none_refused None P e = tt
 none_refused (Some r) P e = absurd (false≢true (sym e))
 
 -- nor does a reply that is no refusal
-pub accepted_tells_none : (c : Command) (p : Parts) (image : Option (List ℕ)) (h : Head) → is_refusal h ≡ false → DamageIs c p image h
-accepted_tells_none c p image h e = none_refused (refusal_of h) (λ d. IsMetBy (reads_for c) p image d.0 d.1) e
+pub accepted_tells_none : (c : Command) (p : Parts) (image : Option (List ℕ)) (reply : Reply) → is_refusal reply ≡ false → DamageIs c p image reply
+accepted_tells_none c p image reply e = none_refused (refusal_of reply) (λ d. IsMetBy (reads_for c) p image d.0 d.1) e
 
 come_to_none : (c : Command) (got : List ScriptLine) (p : Parts) (before : Option (List ℕ)) (q : Parts) (after : Option (List ℕ)) (r : Result Reply Halt) → (needs c).reads ≡ false
     → ComesTo c got p before q after r → DamageIn c p before r
 come_to_none c got p before q after (Ok reply) no_reads comes =
-    let a : Accepts c got p before q after reply = comes in accepted_tells_none c p before reply.head a.accepted
+    let a : Accepts c got p before q after reply = comes in accepted_tells_none c p before reply a.accepted
 come_to_none c got p before q after (Err (halt.Refusal r)) no_reads comes =
     let d : Denies c got p before q after r = comes in
     tells_no_damage c p before r (false_from_ne_true (is_of_read r) (λ e. let may = d.reads e in false≢true (sym no_reads ∙ may.0)))

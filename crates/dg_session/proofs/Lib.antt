@@ -4,7 +4,6 @@ pub mod PartStates
 pub mod SessionSteps
 pub mod AnswerHandles
 pub mod SessionQueryStep
-pub mod AnswerQueries
 pub mod SessionReleaseStep
 pub mod PoolOverlays
 pub mod SessionPoolStep

@@ -46,7 +46,7 @@ use Rattle.dg_batch.specs.declared.stop.Stop.{Stop}
 use Rattle.dg_batch.specs.declared.stop.Stop.TheVariants as stop
 use Rattle.dg_session.proofs.SessionSteps.{Comes, lacking_denies, moved, moved_by, refused_denies}
 use Rattle.dg_batch.specs.BatchLines.{first_refusal}
-use Rattle.dg_session.specs.Decided.{IsHeadOf}
+use Rattle.dg_session.specs.Decided.{Fits}
 use Rattle.dg_session.specs.Parts.{Parts}
 use Rattle.dg_retrieval.specs.KeptGraph.{holding, index_edges, kept_edges, kept_nodes, record_edges, shape_with}
 use Rattle.dg_ask.specs.HeldIndex.{catalogue_of, point_over, span_held}
@@ -180,9 +180,9 @@ plan_answers p t cols image o reply there inside r = record {
         (λ i. record { reply = plan_due p o x m there s t cols reply r i; state = m }),
         stands_on p p x y m refl (one_image image image x y refl a b) s,
       ));
-  accepted = ap (λ (x : Reply). is_refusal x.head) r.says;
+  accepted = ap is_refusal r.says;
   free = free_at p t o there inside;
-  fits = subst (λ (x : Reply). IsHeadOf (command.Plan t cols) x.head) (sym r.says) tt;
+  fits = subst (Fits (command.Plan t cols)) (sym r.says) tt;
   held = λ h. h;
   no_index = λ h. (h, refl);
   quiet = λ h. refl;
@@ -203,9 +203,9 @@ certificate_answers p t cols count got image o verdict reply there inside enough
         (λ i. record { reply = sym (reply_is ∙ ap (λ v. headed (head.Certified v)) (is ∙ verdict_due p o x m there s t cols got inside)) i; state = m }),
         stands_on p p x y m refl (one_image image image x y refl a b) s,
       ));
-  accepted = ap (λ (x : Reply). is_refusal x.head) reply_is;
+  accepted = ap is_refusal reply_is;
   free = enough_refused p t cols count (length got) enough ∙ free_at p t o there inside;
-  fits = subst (λ (x : Reply). IsHeadOf (command.Certify t cols count) x.head) (sym reply_is) tt;
+  fits = subst (Fits (command.Certify t cols count)) (sym reply_is) tt;
   held = λ h. h;
   no_index = λ h. (h, refl);
   quiet = λ h. refl;

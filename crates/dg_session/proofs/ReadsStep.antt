@@ -4,11 +4,10 @@ use Rattle.std.specs.Prelude.{◌&&◌, is_some}
 use Rattle.std.proofs.lemmas.Bool.{false≢true}
 use Rattle.dg_text.specs.Lines.{ScriptLine}
 use Rattle.dg_machine.specs.declared.command.Command.{Command}
-use Rattle.dg_machine.specs.declared.reply.Head.{Head}
-use Rattle.dg_machine.specs.declared.reply.Head.TheVariants as head
 use Rattle.dg_machine.specs.declared.reply.Refusal.{Refusal}
 use Rattle.dg_machine.specs.declared.reply.Refusal.TheVariants as refusal
 use Rattle.dg_machine.specs.declared.reply.Reply.{Reply}
+use Rattle.dg_machine.specs.declared.reply.Reply.TheVariants as replied
 use Rattle.dg_machine.specs.Needs.{following, needs, or_none}
 use Rattle.dg_machine.specs.Run.{is_store_read}
 use Rattle.dg_session.proofs.SessionRetrievals.{every_some}
@@ -28,12 +27,12 @@ use Rattle.dg_session.specs.Session.{ComesTo, Denies, StandsFor, is_at_hand}
 pub reads_nothing : (c : Command) (p : Parts) (image : Option (List ℕ)) (r : Result Reply Halt) (before after : ℕ) → (needs c).reads ≡ false → after ≡ before → ReadsIn c p image r before after
 reads_nothing c p image r before after no_reads same = by r
   where
-    none : (h : Head) → Reads c p image h before after
-    none h = record { told = λ e. absurd (false≢true (sym no_reads ∙ e)); early = λ e. same; nothing = λ e. same }
+    none : (reply : Reply) → Reads c p image reply before after
+    none reply = record { told = λ e. absurd (false≢true (sym no_reads ∙ e)); early = λ e. same; nothing = λ e. same }
 
     by : (r : Result Reply Halt) → ReadsIn c p image r before after
-    by (Ok reply) = none reply.head
-    by (Err (halt.Refusal r)) = none (head.Refused r)
+    by (Ok reply) = none reply
+    by (Err (halt.Refusal r)) = none (replied.Refused r)
     by (Err (halt.Stop stop.Read)) = same
     by (Err (halt.Stop stop.Limit)) = same
     by (Err (halt.Stop stop.Store)) = record {
@@ -67,7 +66,7 @@ fails_no_read c got p before q after r no_reads comes is =
     let may = d.reads refl in false≢true (sym no_reads ∙ may.0)
 
 -- the refusal of a reply that says so
-pub store_read_is : (r : Refusal) → is_store_read (head.Refused r) ≡ true → r ≡ refusal.StoreRead
+pub store_read_is : (r : Refusal) → is_store_read (replied.Refused r) ≡ true → r ≡ refusal.StoreRead
 store_read_is refusal.StoreRead e = refl
 store_read_is (refusal.Syntax column) e = absurd (false≢true e)
 store_read_is refusal.NoIndex e = absurd (false≢true e)

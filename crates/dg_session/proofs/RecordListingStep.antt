@@ -9,6 +9,7 @@ use Rattle.dg_history.specs.History.{History, events_of}
 use Rattle.dg_history.specs.Keys.{same_key}
 use Rattle.dg_history.specs.LegalHistory.{IsLegal}
 use Rattle.dg_index.specs.declared.entry.Entry.{Entry}
+use Rattle.dg_index.specs.Hierarchy.{leaves}
 use Rattle.dg_index.specs.IndexRecords.{keys_of}
 use Rattle.dg_index.specs.OpenedIndex.{Opening, event_total, opened_of}
 use Rattle.dg_index.proofs.OpenedIndexRecords.{told_at}
@@ -16,6 +17,8 @@ use Rattle.dg_machine.specs.declared.command.Command.TheVariants as command
 use Rattle.dg_machine.specs.declared.reply.BodyLine.TheVariants as line
 use Rattle.dg_machine.specs.declared.reply.Refusal.TheVariants as refusal
 use Rattle.dg_machine.specs.declared.reply.Reply.{Reply}
+use Rattle.dg_machine.specs.declared.reply.Reply.TheVariants as replied
+use Rattle.dg_machine.specs.declared.reply.Head.TheVariants as head
 use Rattle.dg_machine.specs.Answer.{is_refusal, record_line, tree_reply}
 use Rattle.dg_machine.specs.MachineState.{history_in}
 use Rattle.dg_machine.specs.Needs.{needs}
@@ -25,7 +28,7 @@ use Rattle.dg_ask.proofs.HeldIndexHistory.{count_is}
 use Rattle.dg_session.proofs.ReplyNames.{names_stay, record_names}
 use Rattle.dg_session.proofs.PartStates.{IsOf, hit, is_of, miss, one_image, opening_of, stands_on}
 use Rattle.dg_session.proofs.SessionSteps.{moved}
-use Rattle.dg_session.specs.Decided.{IsHeadOf}
+use Rattle.dg_session.specs.Decided.{Fits}
 use Rattle.dg_session.specs.Parts.{Parts}
 use Rattle.dg_ask.specs.RecordListing.{held_line, lengths_held, listing_of}
 use Rattle.dg_session.specs.Session.{Accepts, refused_by}
@@ -55,7 +58,7 @@ listed : (z : History) → IsLegal z → listing_of (opening_of z) (length (even
 listed z legal =
     let n : ℕ = length (events_of z) in
     (λ i. let o : Opening = record (opening_of z) { params = (behind z legal).params i } in listing_of o n)
-    ∙ ap (λ body. let r : Reply = record { head = (tree_reply z).head; body = body } in r)
+    ∙ ap (replied.Answered (head.Tree z.params.l z.params.k z.params.function n (leaves z.params n) (length (keys_of z.params n))))
     (same_each (held_line (opened_of z).index.records) (record_line z) (keys_of z.params n) (line_is z legal))
 
 -- ---- the answer
@@ -75,9 +78,9 @@ tree_answers p image o reply there is = record {
         (λ i. record { reply = sym due i; state = m }),
         stands_on p p x y m refl (one_image image image x y refl a b) s,
       ));
-  accepted = ap (λ (x : Reply). is_refusal x.head) is;
+  accepted = ap is_refusal is;
   free = tree_free p o there;
-  fits = subst (λ (x : Reply). IsHeadOf command.Tree x.head) (sym is) tt;
+  fits = subst (Fits command.Tree) (sym is) tt;
   held = λ h. h;
   no_index = λ h. (h, refl);
   quiet = λ h. refl;

@@ -31,7 +31,7 @@ use Rattle.dg_session.proofs.PartStates.{AreOf, are_of, both_told, graph_in, no_
 use Rattle.dg_session.proofs.SessionSteps.{accepted_is, accepted_steps, is_accepted, lacking_denies, moved}
 use Rattle.dg_batch.specs.Halt.{creation_halt}
 use Rattle.dg_session.specs.CreationCommand.{making, params_asked, share_asked}
-use Rattle.dg_session.specs.Decided.{IsHeadOf}
+use Rattle.dg_session.specs.Decided.{Fits, IsHeadOf}
 use Rattle.dg_session.specs.declared.creation_command.AskedFunction.{AskedFunction}
 use Rattle.dg_session.specs.declared.creation_command.AskedFunction.TheVariants.{Named, Share}
 use Rattle.dg_session.specs.Parts.{Parts}
@@ -142,9 +142,9 @@ module _ (l k : ℕ) (asked : AskedFunction) (params : Params) (params_are : par
               (one_told after (λ image. IsImageOf (made_with params) image) y made b)
               (no_handle_reached (made_in m params) handles) (λ e. cc),
         ));
-    accepted = ap (λ (r : Reply). is_refusal r.head) reply_is;
+    accepted = ap is_refusal reply_is;
     free = none;
-    fits = subst (λ (r : Reply). IsHeadOf (making l k asked) r.head) (sym reply_is) (fits_head l k asked);
+    fits = subst (Fits (making l k asked)) (sym reply_is) (fits_head l k asked);
     held = λ h.
         subst (λ (x : Parts). IfSome after (λ image. IsHeldBy x.index x.names image)) (sym is)
         (subst (λ (x : Opening). IfSome after (λ image. opening image ≡ Ok (record { index = x; names = p.names }))) (sym o_is)

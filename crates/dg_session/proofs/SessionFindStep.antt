@@ -19,6 +19,7 @@ use Rattle.dg_machine.specs.declared.reply.BodyLine.TheVariants as line
 use Rattle.dg_machine.specs.declared.reply.Head.TheVariants as head
 use Rattle.dg_machine.specs.declared.reply.Refusal.TheVariants as refusal
 use Rattle.dg_machine.specs.declared.reply.Reply.{Reply}
+use Rattle.dg_machine.specs.declared.reply.Reply.TheVariants as replied
 use Rattle.dg_machine.specs.declared.texts.KeyText.{KeyText}
 use Rattle.dg_machine.specs.declared.texts.ValueText.{ValueText}
 use Rattle.dg_machine.specs.Answer.{found_reply, is_refusal}
@@ -28,7 +29,7 @@ use Rattle.dg_machine.specs.ValueIndex.{found, is_among, key_text, value_text}
 use Rattle.dg_session.proofs.PartStates.{are_of, hit, miss, one_image, stands_on}
 use Rattle.dg_session.proofs.ReplyNames.{found_names, names_stay}
 use Rattle.dg_session.proofs.SessionSteps.{moved}
-use Rattle.dg_session.specs.Decided.{IsHeadOf}
+use Rattle.dg_session.specs.Decided.{Fits}
 use Rattle.dg_session.specs.Parts.{Parts}
 use Rattle.dg_session.specs.Session.{Accepts, StandsFor, find_needs, indexed_keys, is_indexed_by, refused_by}
 use Rattle.dg_session.specs.ValuesSaid.{AreFound, IndexKept, said_of}
@@ -116,9 +117,9 @@ module _ (stand : TurnsStandForEvents) (there : FoundNodesAreThere) (p : Parts) 
           (λ i. record { reply = (ap found_reply (sym (found_is x m s ids are)) ∙ sym is) i; state = m }),
           stands_on p p x y m refl (one_image image image x y refl a b) s,
         ));
-    accepted = ap (λ (r : Reply). is_refusal r.head) is;
+    accepted = ap is_refusal is;
     free = free;
-    fits = subst (λ (r : Reply). IsHeadOf (command.Find t k v) r.head) (sym is) tt;
+    fits = subst (Fits (command.Find t k v)) (sym is) tt;
     held = λ h. h;
     no_index = λ h. (h, refl);
     quiet = λ h. refl;
@@ -128,11 +129,8 @@ module _ (stand : TurnsStandForEvents) (there : FoundNodesAreThere) (p : Parts) 
 
 -- the lines of a reply are those of the ids
 pub reply_found : (ids : List ℕ) (nodes : List Element) (lines : ℕ) (body : List BodyLine) → nodes ≡ map (λ (id : ℕ). element.Node id) ids → lines ≡ length nodes → body ≡ map (λ (x : Element). line.Element x) nodes
-    → (let r : Reply = record { head = head.Found lines; body = body } in r) ≡ found_reply ids
-reply_found ids nodes lines body made count is = λ i. record {
-  head = head.Found ((count ∙ ap length made ∙ many ids) i);
-  body = (is ∙ ap (map (λ (x : Element). line.Element x)) made ∙ mapped ids) i;
-}
+    → replied.Answered (head.Found lines) body ≡ found_reply ids
+reply_found ids nodes lines body made count is = λ i. replied.Answered (head.Found ((count ∙ ap length made ∙ many ids) i)) ((is ∙ ap (map (λ (x : Element). line.Element x)) made ∙ mapped ids) i)
   where
     many : (ids : List ℕ) → length (map (λ (id : ℕ). element.Node id) ids) ≡ length ids
     many ids = length-map ids (λ (id : ℕ). element.Node id)

@@ -15,7 +15,6 @@ use Rattle.dg_index.specs.OpenedIndex.{Opening, opened_of}
 use Rattle.dg_machine.specs.declared.command.Command.{Command}
 use Rattle.dg_machine.specs.declared.command.Command.TheVariants as command
 use Rattle.dg_machine.specs.declared.limits.TheConstants.{INDEXES_MAX}
-use Rattle.dg_machine.specs.declared.reply.Head.{Head}
 use Rattle.dg_machine.specs.declared.reply.Head.TheVariants as head
 use Rattle.dg_machine.specs.declared.reply.Refusal.TheVariants as refusal
 use Rattle.dg_machine.specs.declared.reply.Reply.{Reply}
@@ -36,7 +35,7 @@ use Rattle.dg_session.proofs.ReplyNames.{head_names, names_stay}
 use Rattle.dg_session.proofs.SessionRetrievals.{IsSession, if_some, moved_with, reads_failed, z_of}
 use Rattle.dg_session.specs.BatchReads.{is_early}
 use Rattle.dg_session.specs.Damage.{TellsListDamage}
-use Rattle.dg_session.specs.Decided.{IsHeadOf}
+use Rattle.dg_session.specs.Decided.{Fits}
 use Rattle.dg_session.specs.Parts.{Parts}
 use Rattle.dg_session.specs.Reads.{IndexesFor, Reads, with_new_index}
 use Rattle.dg_session.specs.Session.{Accepts, HoldsImage, StandsFor, index_needs, indexed_keys, is_indexed_by, refused_by}
@@ -115,9 +114,9 @@ module _ (p : Parts) (k : KeyText) (key : ℕ) (named : number_of p.names (key_t
               (map-append said_of p.indexes (kept_of aux ∷ []) ∙ (λ i. s.indexes i ++ said i ∷ []) ∙ sym (map-append (said_over events) m.indexes (key ∷ [])))
               (subst (λ image. StandsAs m.index image) (one_image before after x y same a b) s.image_stands) s.reached s.no_handles,
         ));
-    accepted = ap (λ (r : Reply). is_refusal r.head) reply_is;
+    accepted = ap is_refusal reply_is;
     free = free;
-    fits = subst (λ (r : Reply). IsHeadOf (command.Index k) r.head) (sym reply_is) tt;
+    fits = subst (Fits (command.Index k)) (sym reply_is) tt;
     held = λ h. subst (λ (x : Parts). HoldsImage x after) (sym is) (subst (HoldsImage p) (sym same) h);
     no_index = λ h. (ap (λ (x : Parts). x.index) (sym is) ∙ h, same);
     quiet = λ h. same;
@@ -126,14 +125,14 @@ module _ (p : Parts) (k : KeyText) (key : ℕ) (named : number_of p.names (key_t
   }
 
 -- where it fails, the bytes read are at most what its reply would tell
-pub index_fails : (p : Parts) (k : KeyText) → refused_by p 0 (index_needs (key_text k)) ≡ None → (image : Option (List ℕ)) (h : Head) (before after : ℕ) → is_refusal h ≡ true → is_early h ≡ false
+pub index_fails : (p : Parts) (k : KeyText) → refused_by p 0 (index_needs (key_text k)) ≡ None → (image : Option (List ℕ)) (reply : Reply) (before after : ℕ) → is_refusal reply ≡ true → is_early reply ≡ false
     → IfSome image (λ bytes. (m : MachineState) → StandsFor p bytes m → TakesAtMost (node_attrs_length (history_in m.index)) before after)
-    → Reads (command.Index k) p image h before after
-index_fails p k free image h before after refuses late most =
+    → Reads (command.Index k) p image reply before after
+index_fails p k free image reply before after refuses late most =
     let c : Command = command.Index k in
-    reads_failed c p image h before after refl refuses late (λ m got reads. reads) (λ got. free)
+    reads_failed c p image reply before after refl refuses late (λ m got reads. reads) (λ got. free)
     (if_some image (λ bytes. (m : MachineState) → StandsFor p bytes m → TakesAtMost (node_attrs_length (history_in m.index)) before after)
-    (λ bytes. (m : MachineState) → StandsFor p bytes m → (got : List ScriptLine) (plan : Planned) → IsPlanned m c plan → TakesAtMost (weight_told (accepted m c got plan).reply.head) before after)
+    (λ bytes. (m : MachineState) → StandsFor p bytes m → (got : List ScriptLine) (plan : Planned) → IsPlanned m c plan → TakesAtMost (weight_told (accepted m c got plan).reply) before after)
     (λ x f m s got plan planned. f m s) most)
 
 -- ---- what the columns of the index weigh, and what is read of them

@@ -10,7 +10,6 @@ use Rattle.dg_handles.specs.Handles.{overlays_on}
 use Rattle.dg_history.specs.declared.node.NodeId.{NodeId}
 use Rattle.dg_history.specs.declared.node.NodeId.TheVariants.{Root}
 use Rattle.dg_machine.specs.declared.command.Command.TheVariants as command
-use Rattle.dg_machine.specs.declared.reply.Head.{Head}
 use Rattle.dg_machine.specs.declared.reply.Head.TheVariants as head
 use Rattle.dg_machine.specs.declared.reply.Reply.{Reply}
 use Rattle.dg_machine.specs.Answer.{accepted, base_for, headed, heard_for, is_refusal, overlays, weight_told, with_handles}
@@ -22,7 +21,7 @@ use Rattle.dg_plan.specs.Walks.{Arc, Graft, IsPlan, IsTree, steps_of, tree_weigh
 use Rattle.dg_session.proofs.ReplyNames.{head_names}
 use Rattle.dg_session.proofs.SessionRetrievals.{handles_stand, if_some, moved_with, overlays_same, reads_failed, retrieval_accepted}
 use Rattle.dg_session.proofs.PartStates.{one_image, one_told}
-use Rattle.dg_session.specs.Decided.{IsHeadOf}
+use Rattle.dg_session.specs.Decided.{Fits}
 use Rattle.dg_session.specs.Parts.{Parts}
 use Rattle.dg_session.specs.BatchReads.{is_early}
 use Rattle.dg_session.specs.Reads.{IsRetrieved, Reads, TakesAtMostRetrieval, with_new_handles}
@@ -74,17 +73,17 @@ at_answers p q t cols before after weight singles bases graphs reply none same g
       }),
       handles_stand p q x y m (t ∷ []) cols weight singles bases graphs s (one_image before after x y same a b) (omega arith) none r is,
     )))
-    (ap (λ (r : Reply). is_refusal r.head) reply_is) none (subst (λ (r : Reply). IsHeadOf (command.At t cols) r.head) (sym reply_is) tt) same is (head_names (length q.names) (head.At p.next weight) reply reply_is)
+    (ap is_refusal reply_is) none (subst (Fits (command.At t cols)) (sym reply_is) tt) same is (head_names (length q.names) (head.At p.next weight) reply reply_is)
 
 -- where it fails, the bytes read are at most what its reply would tell
-pub at_fails : (p : Parts) (t : ℕ) (cols : Columns) (image : Option (List ℕ)) (h : Head) (before after : ℕ) → is_refusal h ≡ true → is_early h ≡ false → refused_by p 0 (retrieval_needs (t ∷ []) 1) ≡ None
+pub at_fails : (p : Parts) (t : ℕ) (cols : Columns) (image : Option (List ℕ)) (reply : Reply) (before after : ℕ) → is_refusal reply ≡ true → is_early reply ≡ false → refused_by p 0 (retrieval_needs (t ∷ []) 1) ≡ None
     → IfSome image (λ bytes. (m : MachineState) → StandsFor p bytes m → TakesAtMostRetrieval m (t ∷ []) cols before after)
-    → Reads (command.At t cols) p image h before after
-at_fails p t cols image h before after refuses late none most =
-    reads_failed (command.At t cols) p image h before after refl refuses late (λ m got reads. reads) (λ got. none)
+    → Reads (command.At t cols) p image reply before after
+at_fails p t cols image reply before after refuses late none most =
+    reads_failed (command.At t cols) p image reply before after refl refuses late (λ m got reads. reads) (λ got. none)
     (if_some image (λ bytes. (m : MachineState) → StandsFor p bytes m → TakesAtMostRetrieval m (t ∷ []) cols before after)
     (λ bytes. (m : MachineState) → StandsFor p bytes m → (got : List ScriptLine) (plan : Planned) → IsPlanned m (command.At t cols) plan
-    → TakesAtMost (weight_told (accepted m (command.At t cols) got plan).reply.head) before after)
+    → TakesAtMost (weight_told (accepted m (command.At t cols) got plan).reply) before after)
     (λ x f m s got plan planned.
     let tree = tree_alone (arcs_of (edges_in m cols)) (Root ∷ []) (point_for m t) plan.steps planned in
     subst (λ w. TakesAtMost (w + heard_for m cols (t ∷ [])) before after) tree.2 (f m s tree.0 tree.1)) most)

@@ -18,7 +18,6 @@ use Rattle.dg_index.specs.OpenedIndex.{Opening, opened_of}
 use Rattle.dg_machine.specs.declared.command.Command.{Command}
 use Rattle.dg_machine.specs.declared.command.Command.TheVariants as command
 use Rattle.dg_machine.specs.declared.limits.TheConstants.{HANDLE_MAX, LIVE_HANDLES_MAX}
-use Rattle.dg_machine.specs.declared.reply.Head.{Head}
 use Rattle.dg_machine.specs.declared.reply.Head.TheVariants as head
 use Rattle.dg_machine.specs.declared.reply.Refusal.TheVariants as refusal
 use Rattle.dg_machine.specs.declared.reply.Reply.{Reply}
@@ -43,7 +42,7 @@ use Rattle.dg_session.proofs.PartStates.{IsOf, events_there, instants_are, is_of
 use Rattle.dg_session.proofs.ReplyNames.{head_names}
 use Rattle.dg_session.proofs.SessionRetrievals.{IsSession, handles_taken, if_some, moved_with, reads_failed, retrieval_accepted, z_of}
 use Rattle.dg_session.specs.BatchReads.{is_early}
-use Rattle.dg_session.specs.Decided.{IsHeadOf}
+use Rattle.dg_session.specs.Decided.{Fits}
 use Rattle.dg_session.specs.Parts.{Parts}
 use Rattle.dg_session.specs.Reads.{AddsFor, Reads, with_new_handles}
 use Rattle.dg_session.specs.Session.{Accepts, StandsFor, interval_needs, is_reached, refused_by}
@@ -101,17 +100,17 @@ module _ (p : Parts) (from until : ℕ) (cols : Columns) (free : refused_by p 0 
             (All-cons reaches new [] (interval_reached x m s) (All-nil reaches))
             (is ∙ ap (λ g. with_new_handles p (new ∷ []) (g ∷ [])) listed),
       )))
-      (ap (λ (r : Reply). is_refusal r.head) reply_is) free (subst (λ (r : Reply). IsHeadOf c r.head) (sym reply_is) tt) same is (head_names (length q.names) (head.Added p.next weight) reply reply_is)
+      (ap is_refusal reply_is) free (subst (Fits c) (sym reply_is) tt) same is (head_names (length q.names) (head.Added p.next weight) reply reply_is)
 
   -- where it fails, the bytes read are at most what its reply would tell
-  pub interval_fails : (image : Option (List ℕ)) (h : Head) (before after : ℕ) → is_refusal h ≡ true → is_early h ≡ false
+  pub interval_fails : (image : Option (List ℕ)) (reply : Reply) (before after : ℕ) → is_refusal reply ≡ true → is_early reply ≡ false
       → IfSome image (λ bytes. (m : MachineState) → StandsFor p bytes m → TakesAtMost (added_length (history_in m.index) from until cols) before after)
-      → Reads (command.Select (Added from until) cols) p image h before after
-  interval_fails image h before after refuses late most =
+      → Reads (command.Select (Added from until) cols) p image reply before after
+  interval_fails image reply before after refuses late most =
       let c : Command = command.Select (Added from until) cols in
-      reads_failed c p image h before after refl refuses late (λ m got reads. reads) (λ got. free)
+      reads_failed c p image reply before after refl refuses late (λ m got reads. reads) (λ got. free)
       (if_some image (λ bytes. (m : MachineState) → StandsFor p bytes m → TakesAtMost (added_length (history_in m.index) from until cols) before after)
-      (λ bytes. (m : MachineState) → StandsFor p bytes m → (got : List ScriptLine) (plan : Planned) → IsPlanned m c plan → TakesAtMost (weight_told (accepted m c got plan).reply.head) before after)
+      (λ bytes. (m : MachineState) → StandsFor p bytes m → (got : List ScriptLine) (plan : Planned) → IsPlanned m c plan → TakesAtMost (weight_told (accepted m c got plan).reply) before after)
       (λ x f m s got plan planned. f m s) most)
 
 -- ---- what the lists of the index weigh, and what is read of them

@@ -13,7 +13,6 @@ use Rattle.dg_history.specs.declared.node.NodeId.TheVariants.{Root}
 use Rattle.dg_history.specs.History.{History}
 use Rattle.dg_machine.specs.declared.command.Command.TheVariants as command
 use Rattle.dg_machine.specs.declared.limits.TheConstants.{HANDLE_MAX, LIVE_HANDLES_MAX}
-use Rattle.dg_machine.specs.declared.reply.Head.{Head}
 use Rattle.dg_machine.specs.declared.reply.Head.TheVariants as head
 use Rattle.dg_machine.specs.declared.reply.Refusal.TheVariants as refusal
 use Rattle.dg_machine.specs.declared.reply.Reply.{Reply}
@@ -41,7 +40,7 @@ use Rattle.dg_session.proofs.PlanStep.{records_edges_in}
 use Rattle.dg_session.proofs.SessionRetrievals.{every_some, handles_taken, if_some, moved_with, reads_failed, retrieval_accepted, z_of}
 use Rattle.dg_session.proofs.PartStates.{events_are, events_there, hit, is_of, last_passes, miss, one_image, one_told, params_are, passes}
 use Rattle.dg_ask.specs.HeldIndex.{has_node_held}
-use Rattle.dg_session.specs.Decided.{IsHeadOf}
+use Rattle.dg_session.specs.Decided.{Fits}
 use Rattle.dg_session.specs.Parts.{Parts}
 use Rattle.dg_retrieval.specs.Calls.{LeadsToNode, LeadsToNodeOver}
 use Rattle.dg_retrieval.specs.NamesThere.{NamesAreThere}
@@ -131,19 +130,19 @@ node_answers p q node cols before after weight graph reply none same got is repl
           (All-cons reaches (Base node cols) [] (node_reached p x m node cols s free.1) (All-nil reaches))
           (is ∙ ap (λ g. with_new_handles p (Base node cols ∷ []) (g ∷ [])) r.listed),
     )))
-    (ap (λ (r : Reply). is_refusal r.head) reply_is) none (subst (λ (r : Reply). IsHeadOf (command.Materialise node cols) r.head) (sym reply_is) tt) same is (head_names (length q.names) (head.Materialised p.next weight) reply reply_is)
+    (ap is_refusal reply_is) none (subst (Fits (command.Materialise node cols)) (sym reply_is) tt) same is (head_names (length q.names) (head.Materialised p.next weight) reply reply_is)
 
 -- where it fails, the bytes read are at most what its reply would tell
-pub node_fails : (p : Parts) (node : NodeId) (cols : Columns) (image : Option (List ℕ)) (h : Head) (before after : ℕ) → is_refusal h ≡ true → is_early h ≡ false → refused_by p 0 (node_needs node) ≡ None
+pub node_fails : (p : Parts) (node : NodeId) (cols : Columns) (image : Option (List ℕ)) (reply : Reply) (before after : ℕ) → is_refusal reply ≡ true → is_early reply ≡ false → refused_by p 0 (node_needs node) ≡ None
     → IfSome image (λ bytes. (m : MachineState) → StandsFor p bytes m → (steps : List ℕ) → IsPlan (arcs_of (record_edges_in m cols)) (Root ∷ []) node steps
     → TakesAtMost (weight_of (arcs_of (record_edges_in m cols)) steps) before after)
-    → Reads (command.Materialise node cols) p image h before after
-node_fails p node cols image h before after refuses late none most =
-    reads_failed (command.Materialise node cols) p image h before after refl refuses late (λ m got reads. reads) (λ got. none)
+    → Reads (command.Materialise node cols) p image reply before after
+node_fails p node cols image reply before after refuses late none most =
+    reads_failed (command.Materialise node cols) p image reply before after refl refuses late (λ m got reads. reads) (λ got. none)
     (if_some image (λ bytes. (m : MachineState) → StandsFor p bytes m → (steps : List ℕ) → IsPlan (arcs_of (record_edges_in m cols)) (Root ∷ []) node steps
     → TakesAtMost (weight_of (arcs_of (record_edges_in m cols)) steps) before after)
     (λ bytes. (m : MachineState) → StandsFor p bytes m → (got : List ScriptLine) (plan : Planned) → IsPlanned m (command.Materialise node cols) plan
-    → TakesAtMost (weight_told (accepted m (command.Materialise node cols) got plan).reply.head) before after)
+    → TakesAtMost (weight_told (accepted m (command.Materialise node cols) got plan).reply) before after)
     (λ x f m s got plan planned. f m s plan.steps planned) most)
 
 -- what two facts of the image come to, where it is told

@@ -5,7 +5,6 @@ use Rattle.dg_append.specs.Overlays.{SameOverlay}
 use Rattle.dg_handles.specs.Handles.{IsSweptWhole}
 use Rattle.dg_machine.specs.declared.command.Command.{Command}
 use Rattle.dg_machine.specs.declared.command.Command.TheVariants as command
-use Rattle.dg_machine.specs.declared.reply.Head.{Head}
 use Rattle.dg_machine.specs.declared.reply.Head.TheVariants as head
 use Rattle.dg_machine.specs.declared.reply.Reply.{Reply}
 use Rattle.dg_machine.specs.Answer.{accepted, headed, is_refusal, say}
@@ -15,18 +14,18 @@ use Rattle.dg_machine.specs.Planning.{no_plan}
 use Rattle.dg_pool.specs.Graphs.{PoolState}
 use Rattle.dg_pool.specs.Sweeps.{cells_of}
 use Rattle.dg_session.proofs.ReplyNames.{head_names, names_stay}
-use Rattle.dg_session.specs.ReplyNames.{ReplyNamesAreThere}
 use Rattle.dg_session.proofs.PartStates.{kept, one_image, stands_on}
 use Rattle.dg_session.proofs.SessionSteps.{IsUnplanned, moved}
-use Rattle.dg_session.specs.Decided.{IsHeadOf}
+use Rattle.dg_session.specs.Decided.{Fits}
 use Rattle.dg_session.specs.Parts.{Parts}
 use Rattle.dg_session.specs.Session.{Accepts, StandsFor, refused_by}
 use Rattle.dg_session.specs.Sweeps.{All_cells, IsNoSweep, No_cell, Some_cells, Sweep, SweepsOverlay, SweepsPool}
 use Rattle.dg_stored.specs.StoredHistory.{IsHeldBy}
+use Rattle.dg_ask.specs.ReplyNames.{ReplyNamesAreThere}
 
 -- a command that needs nothing and changes nothing that the machine knows
 stays : (c : Command) (p q : Parts) (image : Option (List ℕ)) (reply : Reply) → IsUnplanned c → refused_by p 0 (needs c) ≡ None → q ≡ p
-    → ((m : MachineState) (x : List ℕ) → StandsFor p x m → accepted m c [] no_plan ≡ say m reply) → is_refusal reply.head ≡ false → IsHeadOf c reply.head → ReplyNamesAreThere (length q.names) reply → Accepts c [] p image q image reply
+    → ((m : MachineState) (x : List ℕ) → StandsFor p x m → accepted m c [] no_plan ≡ say m reply) → is_refusal reply ≡ false → Fits c reply → ReplyNamesAreThere (length q.names) reply → Accepts c [] p image q image reply
 stays c p q image reply unplanned free same due accepts fits named = record {
   moves =
       moved c [] p q image image reply unplanned free
@@ -47,14 +46,14 @@ held_are p x m s = ap (λ (y : Parts). union_of_sets (y.graph ∷ y.graphs)) (ke
 
 pub clean_answers : (p q : Parts) (cells : ℕ) (image : Option (List ℕ)) (reply : Reply) → q ≡ p → reply ≡ headed head.Cleaned → Accepts (command.Clean cells) [] p image q image reply
 clean_answers p q cells image reply same is =
-    stays (command.Clean cells) p q image reply (λ m. refl) refl same (λ m x s. ap (say m) (sym is)) (ap (λ (r : Reply). is_refusal r.head) is) (subst (λ (r : Reply). IsHeadOf (command.Clean cells) r.head) (sym is) tt) (head_names (length q.names) head.Cleaned reply is)
+    stays (command.Clean cells) p q image reply (λ m. refl) refl same (λ m x s. ap (say m) (sym is)) (ap is_refusal is) (subst (Fits (command.Clean cells)) (sym is) tt) (head_names (length q.names) head.Cleaned reply is)
 
 pub clean_all_answers : (p q : Parts) (cells : ℕ) (image : Option (List ℕ)) (reply : Reply) → q ≡ p → cells ≡ length (union_of_sets (p.graph ∷ p.graphs)) → reply ≡ headed (head.CleanedAll cells)
     → Accepts command.CleanAll [] p image q image reply
 clean_all_answers p q cells image reply same size is =
     stays command.CleanAll p q image reply (λ m. refl) refl same
-    (λ m x s. ap (λ n. say m (headed (head.CleanedAll n))) (ap length (sym (held_are p x m s)) ∙ sym size) ∙ ap (say m) (sym is)) (ap (λ (r : Reply). is_refusal r.head) is)
-    (subst (λ (r : Reply). IsHeadOf command.CleanAll r.head) (sym is) tt) (head_names (length q.names) (head.CleanedAll cells) reply is)
+    (λ m x s. ap (λ n. say m (headed (head.CleanedAll n))) (ap length (sym (held_are p x m s)) ∙ sym size) ∙ ap (say m) (sym is)) (ap is_refusal is)
+    (subst (Fits command.CleanAll) (sym is) tt) (head_names (length q.names) (head.CleanedAll cells) reply is)
 
 pub pool_answers : (p : Parts) (live size : ℕ) (image : Option (List ℕ)) (reply : Reply) → live ≡ length p.table → size ≡ length (union_of_sets (p.graph ∷ p.graphs))
     → reply ≡ headed (head.Pool live size) → Accepts command.Pool [] p image p image reply
@@ -62,21 +61,21 @@ pool_answers p live size image reply live_is size_is is =
     stays command.Pool p p image reply (λ m. refl) refl refl
     (λ m x s.
     (λ i. say m (headed (head.Pool (length (sym s.table i)) (length (sym (held_are p x m s) i)))))
-    ∙ (λ i. say m (headed (head.Pool (sym live_is i) (sym size_is i)))) ∙ ap (say m) (sym is)) (ap (λ (r : Reply). is_refusal r.head) is)
-    (subst (λ (r : Reply). IsHeadOf command.Pool r.head) (sym is) tt) (head_names (length p.names) (head.Pool live size) reply is)
+    ∙ (λ i. say m (headed (head.Pool (sym live_is i) (sym size_is i)))) ∙ ap (say m) (sym is)) (ap is_refusal is)
+    (subst (Fits command.Pool) (sym is) tt) (head_names (length p.names) (head.Pool live size) reply is)
 
 -- ---- what is swept
 
 -- a whole sweep, of which the reply tells the cells that are left
-pub whole_sweep : (old new : Option PoolState) (graph cells : ℕ) (h : Head) → SameOverlay old new → IfSome new IsSweptWhole → MatchOption new (cells ≡ graph) (λ p. cells ≡ length (cells_of p))
-    → h ≡ head.CleanedAll cells → SweepsPool command.CleanAll old new h
-whole_sweep None None graph cells h same swept many is = refl
-whole_sweep None (Some new) graph cells h same swept many is = absurd same
-whole_sweep (Some old) None graph cells h same swept many is = absurd same
-whole_sweep (Some old) (Some new) graph cells h same swept many is = (swept, is ∙ ap (λ n. head.CleanedAll n) many)
+pub whole_sweep : (old new : Option PoolState) (graph cells : ℕ) (reply : Reply) → SameOverlay old new → IfSome new IsSweptWhole → MatchOption new (cells ≡ graph) (λ p. cells ≡ length (cells_of p))
+    → reply ≡ headed (head.CleanedAll cells) → SweepsPool command.CleanAll old new reply
+whole_sweep None None graph cells reply same swept many is = refl
+whole_sweep None (Some new) graph cells reply same swept many is = absurd same
+whole_sweep (Some old) None graph cells reply same swept many is = absurd same
+whole_sweep (Some old) (Some new) graph cells reply same swept many is = (swept, is ∙ ap (λ n. headed (head.CleanedAll n)) many)
 
 -- a command that sweeps nothing owes nothing of it
-pub nothing_swept : (s : Sweep) (old new : Option PoolState) (h : Head) → IsNoSweep s → SweepsOverlay s old new h
-nothing_swept (Some_cells cells) old new h none = absurd none
-nothing_swept All_cells old new h none = absurd none
-nothing_swept No_cell old new h none = tt
+pub nothing_swept : (s : Sweep) (old new : Option PoolState) (reply : Reply) → IsNoSweep s → SweepsOverlay s old new reply
+nothing_swept (Some_cells cells) old new reply none = absurd none
+nothing_swept All_cells old new reply none = absurd none
+nothing_swept No_cell old new reply none = tt

@@ -27,7 +27,7 @@ use Rattle.dg_ask.proofs.HeldIndexHandles.{kept_same}
 use Rattle.dg_session.proofs.ReplyNames.{head_names, names_stay}
 use Rattle.dg_session.proofs.PartStates.{hit, kept, miss, one_image, parts_of, stands}
 use Rattle.dg_session.proofs.SessionSteps.{moved}
-use Rattle.dg_session.specs.Decided.{IsHeadOf}
+use Rattle.dg_session.specs.Decided.{Fits}
 use Rattle.dg_session.specs.Parts.{Parts}
 use Rattle.dg_session.specs.Session.{Accepts, StandsFor, is_of_node, is_reached, refused_by}
 use Rattle.dg_stored.specs.StoredHistory.{IsHeldBy}
@@ -133,9 +133,9 @@ release_answers p q handle image reply live unused is reply_is = record {
         (λ i. let r : Answered = record { reply = sym reply_is i; state = state_without handle m } in r),
         stands_without p q y m handle (subst (λ z. StandsFor p z m) (one_image image image x y refl a b) s) is,
       ));
-  accepted = ap (λ (r : Reply). is_refusal r.head) reply_is;
+  accepted = ap is_refusal reply_is;
   free = release_free p handle live unused;
-  fits = subst (λ (r : Reply). IsHeadOf (command.Release handle) r.head) (sym reply_is) refl;
+  fits = subst (Fits (command.Release handle)) (sym reply_is) refl;
   held = λ h. subst (λ (x : Parts). IfSome image (λ bytes. IsHeldBy x.index x.names bytes)) (sym is) h;
   no_index = λ h. (ap (λ (x : Parts). x.index) (sym is) ∙ h, refl);
   quiet = λ h. refl;

@@ -19,11 +19,10 @@ use Rattle.dg_history.specs.History.{History, events_of, in_range, span_of}
 use Rattle.dg_index.specs.OpenedIndex.{Opening, event_total}
 use Rattle.dg_machine.specs.declared.command.Command.{Command}
 use Rattle.dg_machine.specs.declared.limits.TheConstants.{HANDLE_MAX, LIVE_HANDLES_MAX}
-use Rattle.dg_machine.specs.declared.reply.Head.{Head}
-use Rattle.dg_machine.specs.declared.reply.Head.TheVariants as head
 use Rattle.dg_machine.specs.declared.reply.Refusal.{Refusal}
 use Rattle.dg_machine.specs.declared.reply.Refusal.TheVariants as refusal
 use Rattle.dg_machine.specs.declared.reply.Reply.{Reply}
+use Rattle.dg_machine.specs.declared.reply.Reply.TheVariants as replied
 use Rattle.dg_machine.specs.declared.stands.Stands.{Stands}
 use Rattle.dg_machine.specs.declared.stands.Stands.TheVariants.{Overlay}
 use Rattle.dg_machine.specs.Answer.{Answered, IsPlannedBy, accepted, is_refusal, overlays, weight_told, with_handle, with_handles}
@@ -45,9 +44,9 @@ use Rattle.dg_batch.specs.Halt.{retrieval_halt}
 use Rattle.dg_session.specs.contracts.session.Session.{the_view}
 use Rattle.dg_session.specs.declared.session.Session.TheInside.{Inside}
 use Rattle.dg_ask.specs.HeldIndex.{point_over, points_over, span_held}
-use Rattle.dg_session.specs.Decided.{IsHeadOf}
+use Rattle.dg_ask.specs.ReplyNames.{ReplyNamesAreThere}
+use Rattle.dg_session.specs.Decided.{Fits}
 use Rattle.dg_session.specs.Parts.{Parts}
-use Rattle.dg_session.specs.ReplyNames.{ReplyNamesAreThere}
 use Rattle.dg_session.specs.BatchReads.{is_early}
 use Rattle.dg_session.specs.Reads.{IsRetrieved, Reads, ReadsAsTold, ReadsBy, ReadsIn, with_new_handles}
 use Rattle.dg_stored.specs.StoredHistory.{IsHeldBy, index_opening}
@@ -260,7 +259,7 @@ moved_with c old new before after reply none step x y a b m s =
 
 -- a retrieval that gives new handles
 pub retrieval_accepted : (c : Command) (p q : Parts) (before after : Option (List ℕ)) (new : List Stands) (graphs : List (List Element)) (reply : Reply)
-    → WhereBothTold before after (λ x y. Moves c [] p x q y reply) → is_refusal reply.head ≡ false → refused_by p 0 (needs c) ≡ None → IsHeadOf c reply.head
+    → WhereBothTold before after (λ x y. Moves c [] p x q y reply) → is_refusal reply ≡ false → refused_by p 0 (needs c) ≡ None → Fits c reply
     → after ≡ before → q ≡ with_new_handles p new graphs → ReplyNamesAreThere (length q.names) reply → Accepts c [] p before q after reply
 retrieval_accepted c p q before after new graphs reply moves accepts free fits same is named = record {
   moves = moves;
@@ -300,49 +299,49 @@ every_some None P f = tt
 every_some (Some x) P f = f x
 
 -- one that is refused before has read nothing
-pub reads_unasked : (c : Command) (p : Parts) (image : Option (List ℕ)) (r : Refusal) (at : ℕ) → ((m : MachineState) (got : List ScriptLine) → ReadsBy m c got (head.Refused r) at at)
-    → Reads c p image (head.Refused r) at at
+pub reads_unasked : (c : Command) (p : Parts) (image : Option (List ℕ)) (r : Refusal) (at : ℕ) → ((m : MachineState) (got : List ScriptLine) → ReadsBy m c got (replied.Refused r) at at)
+    → Reads c p image (replied.Refused r) at at
 reads_unasked c p image r at each = record {
-  told = λ e. every_some image (λ bytes. (m : MachineState) → StandsFor p bytes m → (got : List ScriptLine) → ReadsBy m c got (head.Refused r) at at) (λ bytes m s got. each m got);
+  told = λ e. every_some image (λ bytes. (m : MachineState) → StandsFor p bytes m → (got : List ScriptLine) → ReadsBy m c got (replied.Refused r) at at) (λ bytes m s got. each m got);
   early = λ e. refl;
   nothing = λ e. refl;
 }
 
 -- one that is answered has read exactly what its reply tells
-pub reads_exactly : (c : Command) (p : Parts) (image : Option (List ℕ)) (h : Head) (before after : ℕ) → (needs c).reads ≡ true → is_early h ≡ false
-    → ((m : MachineState) (got : List ScriptLine) → Takes (weight_told h) before after → ReadsBy m c got h before after)
-    → IfSome image (λ bytes. (m : MachineState) → StandsFor p bytes m → Takes (weight_told h) before after) → Reads c p image h before after
-reads_exactly c p image h before after reads late as_told takes = record {
-  told = λ e. if_some image (λ bytes. (m : MachineState) → StandsFor p bytes m → Takes (weight_told h) before after) _ (λ bytes t m s got. as_told m got (t m s)) takes;
+pub reads_exactly : (c : Command) (p : Parts) (image : Option (List ℕ)) (reply : Reply) (before after : ℕ) → (needs c).reads ≡ true → is_early reply ≡ false
+    → ((m : MachineState) (got : List ScriptLine) → Takes (weight_told reply) before after → ReadsBy m c got reply before after)
+    → IfSome image (λ bytes. (m : MachineState) → StandsFor p bytes m → Takes (weight_told reply) before after) → Reads c p image reply before after
+reads_exactly c p image reply before after reads late as_told takes = record {
+  told = λ e. if_some image (λ bytes. (m : MachineState) → StandsFor p bytes m → Takes (weight_told reply) before after) _ (λ bytes t m s got. as_told m got (t m s)) takes;
   early = λ e. absurd (false≢true (sym late ∙ e));
   nothing = λ e. absurd (false≢true (sym e ∙ reads));
 }
 
 -- a command that reads and fails has read at most what its answer would tell
-pub reads_failed : (c : Command) (p : Parts) (image : Option (List ℕ)) (h : Head) (before after : ℕ) → (needs c).reads ≡ true → is_refusal h ≡ true → is_early h ≡ false
-    → ((m : MachineState) (got : List ScriptLine) → ReadsAsTold (is_refusal h) m c got h before after → ReadsBy m c got h before after)
+pub reads_failed : (c : Command) (p : Parts) (image : Option (List ℕ)) (reply : Reply) (before after : ℕ) → (needs c).reads ≡ true → is_refusal reply ≡ true → is_early reply ≡ false
+    → ((m : MachineState) (got : List ScriptLine) → ReadsAsTold (is_refusal reply) m c got reply before after → ReadsBy m c got reply before after)
     → ((got : List ScriptLine) → refused_by p (length got) (needs c) ≡ None)
-    → IfSome image (λ bytes. (m : MachineState) → StandsFor p bytes m → (got : List ScriptLine) (plan : Planned) → IsPlanned m c plan → TakesAtMost (weight_told (accepted m c got plan).reply.head) before after)
-    → Reads c p image h before after
-reads_failed c p image h before after reads refuses late as_told none most = record {
-  told = λ e. if_some image (λ x. (m : MachineState) → StandsFor p x m → (got : List ScriptLine) (plan : Planned) → IsPlanned m c plan → TakesAtMost (weight_told (accepted m c got plan).reply.head) before after) _
+    → IfSome image (λ bytes. (m : MachineState) → StandsFor p bytes m → (got : List ScriptLine) (plan : Planned) → IsPlanned m c plan → TakesAtMost (weight_told (accepted m c got plan).reply) before after)
+    → Reads c p image reply before after
+reads_failed c p image reply before after reads refuses late as_told none most = record {
+  told = λ e. if_some image (λ x. (m : MachineState) → StandsFor p x m → (got : List ScriptLine) (plan : Planned) → IsPlanned m c plan → TakesAtMost (weight_told (accepted m c got plan).reply) before after) _
       (λ x t m s got.
       let free : refused m c got ≡ None = sym (refused_is p x m c got s) ∙ none got in
       as_told m got
-      (subst (λ b. ReadsAsTold b m c got h before after) (sym refuses)
+      (subst (λ b. ReadsAsTold b m c got reply before after) (sym refuses)
       (λ plan planned.
-      subst (λ (a : Answered). TakesAtMost (weight_told a.reply.head) before after) (sym (accepted_is m c got plan (accepted m c got plan) free refl))
+      subst (λ (a : Answered). TakesAtMost (weight_told a.reply) before after) (sym (accepted_is m c got plan (accepted m c got plan) free refl))
       (t m s got plan (subst (λ (o : Option Refusal). IsPlannedBy o m c plan) free planned))))) most;
   early = λ e. absurd (false≢true (sym late ∙ e));
   nothing = λ e. absurd (false≢true (sym e ∙ reads));
 }
 
 -- whatever the fault is
-pub reads_failing : (c : Command) (p : Parts) (image : Option (List ℕ)) (f : RecordFault) (before after : ℕ) → ((h : Head) → is_refusal h ≡ true → is_early h ≡ false → Reads c p image h before after)
+pub reads_failing : (c : Command) (p : Parts) (image : Option (List ℕ)) (f : RecordFault) (before after : ℕ) → ((reply : Reply) → is_refusal reply ≡ true → is_early reply ≡ false → Reads c p image reply before after)
     → ReadsIn c p image (Err (retrieval_halt f)) before after
-reads_failing c p image retrieval_fault.Disk before after each = each (head.Refused refusal.StoreRead) refl refl
-reads_failing c p image retrieval_fault.Memory before after each = each (head.Refused refusal.OutOfMemory) refl refl
-reads_failing c p image (retrieval_fault.Damaged key col) before after each = each (head.Refused (refusal.Damaged key col)) refl refl
+reads_failing c p image retrieval_fault.Disk before after each = each (replied.Refused refusal.StoreRead) refl refl
+reads_failing c p image retrieval_fault.Memory before after each = each (replied.Refused refusal.OutOfMemory) refl refl
+reads_failing c p image (retrieval_fault.Damaged key col) before after each = each (replied.Refused (refusal.Damaged key col)) refl refl
 
 -- ---- a retrieval over what the session has in memory
 

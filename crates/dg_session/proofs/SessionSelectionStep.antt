@@ -26,7 +26,6 @@ use Rattle.dg_history.specs.History.{History, events_of, span_of}
 use Rattle.dg_index.specs.OpenedIndex.{Opening}
 use Rattle.dg_machine.specs.declared.command.Command.{Command}
 use Rattle.dg_machine.specs.declared.command.Command.TheVariants as command
-use Rattle.dg_machine.specs.declared.reply.Head.{Head}
 use Rattle.dg_machine.specs.declared.reply.Head.TheVariants as head
 use Rattle.dg_machine.specs.declared.reply.Reply.{Reply}
 use Rattle.dg_machine.specs.declared.selection.Selection.{Selection}
@@ -46,7 +45,7 @@ use Rattle.dg_session.proofs.PartStates.{events_there, instants_are, one_image, 
 use Rattle.dg_session.proofs.ReplyNames.{head_names}
 use Rattle.dg_session.proofs.SessionRetrievals.{handles_taken, if_some, is_out, moved_with, reads_failed, retrieval_accepted, retrieval_free}
 use Rattle.dg_session.specs.BatchReads.{is_early}
-use Rattle.dg_session.specs.Decided.{IsHeadOf}
+use Rattle.dg_session.specs.Decided.{Fits}
 use Rattle.dg_session.specs.Parts.{Parts}
 use Rattle.dg_session.specs.Reads.{IsRetrieved, Reads, TakesAtMostRetrieval, with_new_handles}
 use Rattle.dg_session.specs.Session.{Accepts, StandsFor, is_reached, refused_by, retrieval_needs}
@@ -130,17 +129,17 @@ module _ (law : ChosenAreShown) (p : Parts) (e : Expr) (cols : Columns) (free : 
             (All-cons reaches new [] (chosen_reached p x m e cols s room.1) (All-nil reaches))
             (is ∙ ap (λ g. with_new_handles p (new ∷ []) (g ∷ [])) listed),
       )))
-      (ap (λ (r : Reply). is_refusal r.head) reply_is) free (subst (λ (r : Reply). IsHeadOf c r.head) (sym reply_is) tt) same is (head_names (length q.names) (head.Chosen p.next weight) reply reply_is)
+      (ap is_refusal reply_is) free (subst (Fits c) (sym reply_is) tt) same is (head_names (length q.names) (head.Chosen p.next weight) reply reply_is)
 
   -- where it fails, the bytes read are at most what its reply would tell
-  pub chosen_fails : (image : Option (List ℕ)) (h : Head) (before after : ℕ) → is_refusal h ≡ true → is_early h ≡ false
+  pub chosen_fails : (image : Option (List ℕ)) (reply : Reply) (before after : ℕ) → is_refusal reply ≡ true → is_early reply ≡ false
       → IfSome image (λ bytes. (m : MachineState) → StandsFor p bytes m → TakesAtMostRetrieval m (instants_of (words_of e)) (graph_columns cols) before after)
-      → Reads (command.Select (Chosen e) cols) p image h before after
-  chosen_fails image h before after refuses late most =
+      → Reads (command.Select (Chosen e) cols) p image reply before after
+  chosen_fails image reply before after refuses late most =
       let c : Command = command.Select (Chosen e) cols in
-      reads_failed c p image h before after refl refuses late (λ m got reads. reads) (λ got. free)
+      reads_failed c p image reply before after refl refuses late (λ m got reads. reads) (λ got. free)
       (if_some image (λ bytes. (m : MachineState) → StandsFor p bytes m → TakesAtMostRetrieval m (instants_of (words_of e)) (graph_columns cols) before after)
-      (λ bytes. (m : MachineState) → StandsFor p bytes m → (got : List ScriptLine) (plan : Planned) → IsPlanned m c plan → TakesAtMost (weight_told (accepted m c got plan).reply.head) before after)
+      (λ bytes. (m : MachineState) → StandsFor p bytes m → (got : List ScriptLine) (plan : Planned) → IsPlanned m c plan → TakesAtMost (weight_told (accepted m c got plan).reply) before after)
       (λ x f m s got plan planned.
       let least : (grafts : List (Graft NodeId)) → IsTree (arcs_of (edges_in m cols)) (Root ∷ []) (points_for m (instants_of (words_of e))) grafts → TakesAtMost (tree_weight (arcs_of (edges_in m cols)) grafts + 0) before after =
       subst (λ (es : List Edge). (grafts : List (Graft NodeId)) → IsTree (arcs_of es) (Root ∷ []) (points_for m (instants_of (words_of e))) grafts → TakesAtMost (tree_weight (arcs_of es) grafts + 0) before after) (edges_same m cols) (f m s) in

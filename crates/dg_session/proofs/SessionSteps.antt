@@ -6,12 +6,11 @@ use Rattle.std.proofs.lemmas.Option.{none-some}
 use Rattle.dg_graph.specs.declared.limits.TheConstants.{SKEW_MAX}
 use Rattle.dg_text.specs.Lines.{ScriptLine}
 use Rattle.dg_machine.specs.declared.command.Command.{Command}
-use Rattle.dg_machine.specs.declared.reply.Head.{Head}
-use Rattle.dg_machine.specs.declared.reply.Head.TheVariants as head
 use Rattle.dg_machine.specs.declared.reply.Refusal.{Refusal}
 use Rattle.dg_machine.specs.declared.reply.Refusal.TheVariants as refusal
 use Rattle.dg_machine.specs.declared.reply.Reply.{Reply}
-use Rattle.dg_machine.specs.Answer.{Answered, IsPlannedBy, accepted, answer, answer_by, headed, is_begun, is_behind_reads, no_memory, is_refusal, refusal_of, store_read}
+use Rattle.dg_machine.specs.declared.reply.Reply.TheVariants as replied
+use Rattle.dg_machine.specs.Answer.{Answered, IsPlannedBy, accepted, answer, answer_by, is_begun, is_behind_reads, no_memory, is_refusal, refusal_of, store_read}
 use Rattle.dg_machine.specs.CutImage.{IsAcceptedWrite}
 use Rattle.dg_machine.specs.MachineState.{MachineState, stands_at, dependent_on}
 use Rattle.dg_history.specs.History.{are_parameters}
@@ -30,13 +29,13 @@ use Rattle.dg_session.specs.Parts.{Parts}
 use Rattle.dg_batch.specs.declared.halt.Halt.{Halt}
 use Rattle.dg_batch.specs.declared.halt.Halt.TheVariants as halt
 use Rattle.dg_batch.specs.declared.stop.Stop.TheVariants as stop
-use Rattle.dg_session.specs.Decided.{IsHeadOf}
+use Rattle.dg_session.specs.Decided.{Fits}
 use Rattle.dg_session.specs.Session.{Accepts, ComesTo, Decides, Denies, IsDecided, LeavesAnswered, LeavesCommand, MayRead, Moves, StandsFor, Steps, TakesLines, WhereBothTold, is_indexed_by, is_of_read, is_too_full, is_wide_held, refused_by}
 
 -- ---- of the machine
 
 pub refused_steps : (m : MachineState) (c : Command) (lines : List ScriptLine) (r : Refusal) → refused m c lines ≡ Some r
-    → Step m (Asked c lines) (headed (head.Refused r)) m
+    → Step m (Asked c lines) (replied.Refused r) m
 refused_steps m c lines r is =
     subst (λ (o : Option Refusal). Step m (Asked c lines) (answer_by o m c lines no_plan).reply (answer_by o m c lines no_plan).state) is
     (Answers c lines no_plan (subst (λ (o : Option Refusal). IsPlannedBy o m c no_plan) (sym is) tt))
@@ -66,7 +65,7 @@ lacking_steps m c lines memory none = Lacks_memory c lines (λ i. memory i && be
 
 -- a failed read may take the index of the answer
 abbrev pub IsBehindReads : Command → List ScriptLine → MachineState → Type 0
-IsBehindReads c lines m = is_behind_reads (answer m c lines no_plan).reply.head ≡ true
+IsBehindReads c lines m = is_behind_reads (answer m c lines no_plan).reply ≡ true
 
 failing_steps : (m : MachineState) (c : Command) (lines : List ScriptLine) → (needs c).reads ≡ true → IsBehindReads c lines m
     → Step m (Asked c lines) store_read m
@@ -74,18 +73,18 @@ failing_steps m c lines reads behind = Fails_to_read c lines (λ i. reads i && b
 
 -- where the command is accepted, a failed read may take the index of what it answers then
 abbrev pub AcceptedBehindReads : Command → List ScriptLine → Type 0
-AcceptedBehindReads c lines = (m : MachineState) → is_behind_reads (accepted m c lines no_plan).reply.head ≡ true
+AcceptedBehindReads c lines = (m : MachineState) → is_behind_reads (accepted m c lines no_plan).reply ≡ true
 
 -- a command that writes and whose answer is no refusal may be cut off
-pub is_accepted : (m : MachineState) (c : Command) (lines : List ScriptLine) (a : Answered) → is_writing c ≡ true → answer m c lines no_plan ≡ a → is_refusal a.reply.head ≡ false
+pub is_accepted : (m : MachineState) (c : Command) (lines : List ScriptLine) (a : Answered) → is_writing c ≡ true → answer m c lines no_plan ≡ a → is_refusal a.reply ≡ false
     → IsAcceptedWrite m (Asked c lines)
-is_accepted m c lines a writes is accepted = (writes, ap (λ (x : Answered). is_refusal x.reply.head) is ∙ accepted)
+is_accepted m c lines a writes is accepted = (writes, ap (λ (x : Answered). is_refusal x.reply) is ∙ accepted)
 
 -- ---- of the session
 
 -- a refusal that the machine may give over the image that the disk tells, where nothing has changed
 pub denied_at : (c : Command) (got : List ScriptLine) (old new : Parts) (before after : Option (List ℕ)) (r : Refusal) → new ≡ old → after ≡ before
-    → ((m : MachineState) (image : List ℕ) → before ≡ Some image → StandsFor old image m → Step m (Asked c got) (headed (head.Refused r)) m)
+    → ((m : MachineState) (image : List ℕ) → before ≡ Some image → StandsFor old image m → Step m (Asked c got) (replied.Refused r) m)
     → (is_of_read r ≡ true → MayRead c got old) → IsDecided c got old r → Denies c got old before new after r
 denied_at c got old new before after r same same_image step reads decided = record {
   moves = λ x y a b m s. (m, step m x a s, stands_on old new x y m same (one_image before after x y same_image a b) s);
@@ -96,7 +95,7 @@ denied_at c got old new before after r same same_image step reads decided = reco
 
 -- over any image
 pub denied : (c : Command) (got : List ScriptLine) (old new : Parts) (before after : Option (List ℕ)) (r : Refusal) → new ≡ old → after ≡ before
-    → ((m : MachineState) (image : List ℕ) → StandsFor old image m → Step m (Asked c got) (headed (head.Refused r)) m)
+    → ((m : MachineState) (image : List ℕ) → StandsFor old image m → Step m (Asked c got) (replied.Refused r) m)
     → (is_of_read r ≡ true → MayRead c got old) → IsDecided c got old r → Denies c got old before new after r
 denied c got old new before after r same same_image step reads decided =
     denied_at c got old new before after r same same_image (λ m image at s. step m image s) reads decided
@@ -176,7 +175,7 @@ pub failing_accepted : (c : Command) (got : List ScriptLine) (old new : Parts) (
     → (needs c).reads ≡ true → refused_by old (length got) (needs c) ≡ None → AcceptedBehindReads c got → Denies c got old before new after refusal.StoreRead
 failing_accepted c got old new before after same same_image reads none behind =
     failing_denies c got old new before after same same_image reads none
-    (λ m image s. ap (λ (o : Option Refusal). is_behind_reads (answer_by o m c got no_plan).reply.head) (sym (refused_is old image m c got s) ∙ none) ∙ behind m)
+    (λ m image s. ap (λ (o : Option Refusal). is_behind_reads (answer_by o m c got no_plan).reply) (sym (refused_is old image m c got s) ∙ none) ∙ behind m)
 
 -- a reply of a command that is not refused, by a plan for it, and the state that the session then stands for
 pub moved_by : (c : Command) (got : List ScriptLine) (plan : Planned) (old new : Parts) (before after : Option (List ℕ)) (reply : Reply)
@@ -243,17 +242,17 @@ alone x lines left old before new after r crashes none has h crash =
     ([], takes_none (TakesBehind (following x) lines left lines left) (CutsWithin (following x) lines left lines left) [] r took has, h, crash)
 
 -- a reply that is no refusal tells of no read
-tells_of_none : (reply : Reply) (P : Type 0) (r : Refusal) → is_refusal reply.head ≡ false → reply.head ≡ head.Refused r → P
+tells_of_none : (reply : Reply) (P : Type 0) (r : Refusal) → is_refusal reply ≡ false → reply ≡ replied.Refused r → P
 tells_of_none reply P r accepts is = absurd (false≢true (sym accepts ∙ ap is_refusal is))
 
-same_refusal : (r why : Refusal) → head.Refused why ≡ head.Refused r → r ≡ why
+same_refusal : (r why : Refusal) → replied.Refused why ≡ replied.Refused r → r ≡ why
 same_refusal r why is = cc
 
 -- a reply that is no refusal is decided so
-fitting : (c : Command) (got : List ScriptLine) (old : Parts) (h : Head) (o : Option Refusal) → is_some o ≡ false → refused_by old (length got) (needs c) ≡ None → IsHeadOf c h
-    → Decides c got old h o
-fitting c got old h None accepts free fits = (free, fits)
-fitting c got old h (Some r) accepts free fits = absurd (false≢true (sym accepts))
+fitting : (c : Command) (got : List ScriptLine) (old : Parts) (reply : Reply) (o : Option Refusal) → is_some o ≡ false → refused_by old (length got) (needs c) ≡ None → Fits c reply
+    → Decides c got old reply o
+fitting c got old reply None accepts free fits = (free, fits)
+fitting c got old reply (Some r) accepts free fits = absurd (false≢true (sym accepts))
 
 pub answered : (c : Command) (taken : List ScriptLine → Type 0) (cut : Type 0) (old : Parts) (before : Option (List ℕ)) (new : Parts) (after : Option (List ℕ)) (reply : Reply) (crashes : (List ℕ → List ℕ → Type 0) → Type 0)
     → Carried c taken cut old before new after (Ok reply) crashes → Steps c taken old before new after reply crashes
@@ -263,14 +262,14 @@ answered c taken cut old before new after reply crashes k =
       k.1,
       a.moves,
       λ why is of_read. tells_of_none reply (MayRead c k.0 old) why a.accepted is,
-      fitting c k.0 old reply.head (refusal_of reply.head) a.accepted a.free a.fits,
+      fitting c k.0 old reply (refusal_of reply) a.accepted a.free a.fits,
       k.3,
     )
 
 pub refused_so : (c : Command) (taken : List ScriptLine → Type 0) (cut : Type 0) (old : Parts) (before : Option (List ℕ)) (new : Parts) (after : Option (List ℕ)) (why : Refusal) (crashes : (List ℕ → List ℕ → Type 0) → Type 0)
-    → ((got : List ScriptLine) → crashes (LeavesCommand c got old (Err (halt.Refusal why))) → crashes (LeavesAnswered c got old (headed (head.Refused why))))
+    → ((got : List ScriptLine) → crashes (LeavesCommand c got old (Err (halt.Refusal why))) → crashes (LeavesAnswered c got old (replied.Refused why)))
     → Carried c taken cut old before new after (Err (halt.Refusal why)) crashes
-    → Steps c taken old before new after (headed (head.Refused why)) crashes
+    → Steps c taken old before new after (replied.Refused why) crashes
 refused_so c taken cut old before new after why crashes widen k =
     let n : Denies c k.0 old before new after why = k.2 in (
       k.0,
@@ -284,49 +283,25 @@ refused_so c taken cut old before new after why crashes widen k =
 -- ---- the order of refusals
 
 -- the first refusal that follows from what the session keeps is the one that is decided, unless memory lacks for lines
-first_decided : (c : Command) (got : List ScriptLine) (old : Parts) (h : Head) (o : Option Refusal) (r : Refusal) → refused_by old (length got) (needs c) ≡ Some r → Decides c got old h o
+first_decided : (c : Command) (got : List ScriptLine) (old : Parts) (reply : Reply) (o : Option Refusal) (r : Refusal) → refused_by old (length got) (needs c) ≡ Some r → Decides c got old reply o
     → (o ≡ Some r) ⊎ ((is_followed c ≡ true) × (o ≡ Some refusal.OutOfMemory))
-first_decided c got old h None r is (free, fits) = absurd (none-some r (sym free ∙ is))
-first_decided c got old h (Some x) r is (inl first) = inl (sym first ∙ is)
-first_decided c got old h (Some x) r is (inr (inl (late, free))) = absurd (none-some r (sym free ∙ is))
-first_decided c got old h (Some x) r is (inr (inr (lacks, followed))) = inr (followed, ap (λ y. Some y) lacks)
+first_decided c got old reply None r is (free, fits) = absurd (none-some r (sym free ∙ is))
+first_decided c got old reply (Some x) r is (inl first) = inl (sym first ∙ is)
+first_decided c got old reply (Some x) r is (inr (inl (late, free))) = absurd (none-some r (sym free ∙ is))
+first_decided c got old reply (Some x) r is (inr (inr (lacks, followed))) = inr (followed, ap (λ y. Some y) lacks)
 
-refuses_so : (h : Head) (r : Refusal) → refusal_of h ≡ Some r → h ≡ head.Refused r
-refuses_so (head.Refused x) r is = cc
-refuses_so head.Created r is = absurd (none-some r is)
-refuses_so head.Upgraded r is = absurd (none-some r is)
-refuses_so (head.Loaded events total last) r is = absurd (none-some r is)
-refuses_so (head.Appended events total last) r is = absurd (none-some r is)
-refuses_so (head.At handle weight) r is = absurd (none-some r is)
-refuses_so (head.Several weight sum) r is = absurd (none-some r is)
-refuses_so (head.Materialised handle weight) r is = absurd (none-some r is)
-refuses_so (head.Chosen handle weight) r is = absurd (none-some r is)
-refuses_so (head.Indexed spans weight) r is = absurd (none-some r is)
-refuses_so (head.Found lines) r is = absurd (none-some r is)
-refuses_so (head.Added handle weight) r is = absurd (none-some r is)
-refuses_so (head.List handle lines) r is = absurd (none-some r is)
-refuses_so (head.Counts handle counts with_messages) r is = absurd (none-some r is)
-refuses_so (head.NodeThere handle id degree) r is = absurd (none-some r is)
-refuses_so (head.NodeAbsent handle id) r is = absurd (none-some r is)
-refuses_so (head.Neighbours handle id lines) r is = absurd (none-some r is)
-refuses_so (head.Released handle) r is = absurd (none-some r is)
-refuses_so head.Cleaned r is = absurd (none-some r is)
-refuses_so (head.CleanedAll cells) r is = absurd (none-some r is)
-refuses_so (head.Pool live size) r is = absurd (none-some r is)
-refuses_so (head.Plan weight steps) r is = absurd (none-some r is)
-refuses_so (head.Certified verdict) r is = absurd (none-some r is)
-refuses_so (head.Tree l k function events leaves records) r is = absurd (none-some r is)
-refuses_so (head.Verified soundness) r is = absurd (none-some r is)
-refuses_so (head.Generated events last nodes edges) r is = absurd (none-some r is)
+refuses_so : (reply : Reply) (r : Refusal) → refusal_of reply ≡ Some r → reply ≡ replied.Refused r
+refuses_so (replied.Refused x) r is = cc
+refuses_so (replied.Answered h body) r is = absurd (none-some r is)
 
 -- Whatever the image is, a step answers with the first refusal that follows from what the session keeps, unless memory
 -- lacks for the lines of the command.
 pub order_kept : (c : Command) (taken : List ScriptLine → Type 0) (old : Parts) (before : Option (List ℕ)) (new : Parts) (after : Option (List ℕ)) (reply : Reply) (crashes : (List ℕ → List ℕ → Type 0) → Type 0)
     → (s : Steps c taken old before new after reply crashes) (r : Refusal) → refused_by old (length s.0) (needs c) ≡ Some r
-    → (reply.head ≡ head.Refused r) ⊎ ((is_followed c ≡ true) × (reply.head ≡ head.Refused refusal.OutOfMemory))
-order_kept c taken old before new after reply crashes s r is = by (first_decided c s.0 old reply.head (refusal_of reply.head) r is s.4)
+    → (reply ≡ replied.Refused r) ⊎ ((is_followed c ≡ true) × (reply ≡ replied.Refused refusal.OutOfMemory))
+order_kept c taken old before new after reply crashes s r is = by (first_decided c s.0 old reply (refusal_of reply) r is s.4)
   where
-    by : (refusal_of reply.head ≡ Some r) ⊎ ((is_followed c ≡ true) × (refusal_of reply.head ≡ Some refusal.OutOfMemory))
-        → (reply.head ≡ head.Refused r) ⊎ ((is_followed c ≡ true) × (reply.head ≡ head.Refused refusal.OutOfMemory))
-    by (inl first) = inl (refuses_so reply.head r first)
-    by (inr (followed, lacks)) = inr (followed, refuses_so reply.head refusal.OutOfMemory lacks)
+    by : (refusal_of reply ≡ Some r) ⊎ ((is_followed c ≡ true) × (refusal_of reply ≡ Some refusal.OutOfMemory))
+        → (reply ≡ replied.Refused r) ⊎ ((is_followed c ≡ true) × (reply ≡ replied.Refused refusal.OutOfMemory))
+    by (inl first) = inl (refuses_so reply r first)
+    by (inr (followed, lacks)) = inr (followed, refuses_so reply refusal.OutOfMemory lacks)

@@ -25,6 +25,7 @@ use Rattle.dg_machine.specs.declared.limits.Limits.{Limits}
 use Rattle.dg_machine.specs.declared.reply.Head.TheVariants as head
 use Rattle.dg_machine.specs.declared.reply.Refusal.TheVariants as refusal
 use Rattle.dg_machine.specs.declared.reply.Reply.{Reply}
+use Rattle.dg_machine.specs.declared.reply.Reply.TheVariants as replied
 use Rattle.dg_machine.specs.declared.stands.Stands.{Stands}
 use Rattle.dg_machine.specs.declared.stands.Stands.TheVariants.{Overlay, Base, Selected}
 use Rattle.dg_machine.specs.declared.selection.Selection.TheVariants.{Chosen, Added}
@@ -38,7 +39,7 @@ use Rattle.dg_machine.specs.Script.{Asked}
 use Rattle.dg_session.proofs.PartStates.{IsOf, both_told, is_of, opening_of, passes, refused_is, stands}
 use Rattle.dg_session.proofs.ReplyNames.{head_names, names_stay}
 use Rattle.dg_session.proofs.SessionSteps.{accepted_is, accepted_steps, denied_at, is_accepted}
-use Rattle.dg_session.specs.Decided.{IsHeadOf}
+use Rattle.dg_session.specs.Decided.{Fits}
 use Rattle.dg_session.specs.Parts.{Parts}
 use Rattle.dg_session.specs.Session.{Accepts, ComesTo, CutsOff, Denies, HoldsImage, StandsFor, is_reached, is_wide_held, refused_by}
 use Rattle.dg_session.specs.Upgrade.{MarksHeld, upgrade_halt}
@@ -151,7 +152,7 @@ module _ (p : Parts) (limit : ℕ) (limit_is : limit ≡ p.limits.file_bytes) (n
     upgrade_steps fits = steps_as (record { reply = headed head.Upgraded; state = upgraded_in }) (answer_fits fits)
 
     -- the file has too little room
-    full_steps : limit < needed_for_marker o → Step m (Asked command.Upgrade []) (headed (head.Refused (refusal.FileFull (needed_for_marker o) limit))) m
+    full_steps : limit < needed_for_marker o → Step m (Asked command.Upgrade []) (replied.Refused (refusal.FileFull (needed_for_marker o) limit)) m
     full_steps over =
         steps_as (refuse m (refusal.FileFull (needed_for_marker o) limit))
         (answer_as true (lt-ltb m.limits.file_bytes (size (with_upgrade z)) (omega (arith, over, needed, limits)))
@@ -206,9 +207,9 @@ module _ (p : Parts) (limit : ℕ) (limit_is : limit ≡ p.limits.file_bytes) (n
           subst (λ (r : Reply). Step m (Asked command.Upgrade []) r k) (sym reply_is) (upgrade_steps x m s fits),
           stands_upgraded x m s q y is (both_told before after GainsUpgrade gained x y a b),
         );
-    accepted = ap (λ (r : Reply). is_refusal r.head) reply_is;
+    accepted = ap is_refusal reply_is;
     free = none;
-    fits = subst (λ (r : Reply). IsHeadOf command.Upgrade r.head) (sym reply_is) tt;
+    fits = subst (Fits command.Upgrade) (sym reply_is) tt;
     held = λ holds.
         subst (λ (x : Parts). HoldsImage x after) (sym is)
         (still_held before after told opened (subst (λ (i : Option Opening). IfSome before (λ x. IsHeldBy i p.names x)) free.there holds));

@@ -30,7 +30,7 @@ module _ (p : Parts) (limit : ℕ) (limit_is : limit ≡ p.limits.file_bytes) (n
   answered_left a left fits gains m s =
       let k : MachineState = upgraded_in p limit limit_is none free a m s in
       left_as p limit limit_is none free a m s left
-      (StandsAs m.index left ⊎ ((n : MachineState) × Step m (Asked command.Upgrade []) (headed head.Upgraded) n × StandsAs n.index left) ⊎ ((is_created head.Upgraded ≡ true) × (m.index ≡ None) × IsFirstByte a left))
+      (StandsAs m.index left ⊎ ((n : MachineState) × Step m (Asked command.Upgrade []) (headed head.Upgraded) n × StandsAs n.index left) ⊎ ((is_created (headed head.Upgraded) ≡ true) × (m.index ≡ None) × IsFirstByte a left))
       gains (λ same. inl same) (λ more. inr (inl (k, upgrade_steps p limit limit_is none free a m s fits, more)))
 
   module _ {D : Type 0} (g : Ghosts D) (old new : D) (run : LeftByCrash g old new GainsUpgradeOrNot) where

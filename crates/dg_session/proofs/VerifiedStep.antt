@@ -27,11 +27,11 @@ use Rattle.dg_index.specs.OpenedIndex.{Opened, Opening, bare, directory_of, entr
 use Rattle.dg_index.proofs.OpenedIndexRecords.{told_at}
 use Rattle.dg_machine.specs.declared.command.Command.{Command}
 use Rattle.dg_machine.specs.declared.command.Command.TheVariants as command
-use Rattle.dg_machine.specs.declared.reply.Head.{Head}
 use Rattle.dg_machine.specs.declared.reply.Head.TheVariants as head
 use Rattle.dg_machine.specs.declared.reply.Refusal.{Refusal}
 use Rattle.dg_machine.specs.declared.reply.Refusal.TheVariants as refusal
 use Rattle.dg_machine.specs.declared.reply.Reply.{Reply}
+use Rattle.dg_machine.specs.declared.reply.Reply.TheVariants as replied
 use Rattle.dg_machine.specs.Answer.{headed, is_refusal, verify_reply}
 use Rattle.dg_machine.specs.MachineState.{MachineState, history_in}
 use Rattle.dg_machine.specs.Needs.{needs}
@@ -45,7 +45,7 @@ use Rattle.dg_session.proofs.SessionRetrievals.{every_some}
 use Rattle.dg_session.proofs.PartStates.{IsOf, hit, is_of, miss, one_image, one_told, stands_on}
 use Rattle.dg_session.proofs.SessionSteps.{failing_accepted, lacking_denies, moved}
 use Rattle.dg_session.specs.Damage.{DamageIn}
-use Rattle.dg_session.specs.Decided.{IsHeadOf}
+use Rattle.dg_session.specs.Decided.{Fits}
 use Rattle.dg_session.specs.Parts.{Parts}
 use Rattle.dg_session.specs.BatchReads.{is_early}
 use Rattle.dg_session.specs.HistoryBytes.{record_length, records_length}
@@ -92,9 +92,9 @@ answers_over law p q before after o s reply there same same_image sound is = rec
         (λ i. record { reply = sym says i; state = m }),
         stands_on p q x y m same (one_image before after x y same_image a b) st,
       ));
-  accepted = ap (λ (x : Reply). is_refusal x.head) is;
+  accepted = ap is_refusal is;
   free = verify_free p (ap is_some there);
-  fits = subst (λ (x : Reply). IsHeadOf command.Verify x.head) (sym is) tt;
+  fits = subst (Fits command.Verify) (sym is) tt;
   held = λ h.
       subst (λ (x : Parts). IfSome after (λ image. IsHeldBy x.index x.names image)) (sym same)
       (subst (λ (t : Option (List ℕ)). IfSome t (λ image. IsHeldBy p.index p.names image)) (sym same_image) h);
@@ -191,29 +191,29 @@ records_read p (Some x) before after reads =
     let less = records_told z h.stands.legal in
     subst (λ (i : Option History). TakesAtMost (records_length (history_in i)) before after) (sym h.index) (omega (arith, most, opened, less))
 
-verify_reads : (p : Parts) (image : Option (List ℕ)) (h : Head) (before after : ℕ) → (is_early h ≡ true → after ≡ before)
-    → IfSome image (λ bytes. (m : MachineState) → StandsFor p bytes m → TakesAtMost (records_length (history_in m.index)) before after) → Reads command.Verify p image h before after
-verify_reads p image h before after early told = record {
+verify_reads : (p : Parts) (image : Option (List ℕ)) (reply : Reply) (before after : ℕ) → (is_early reply ≡ true → after ≡ before)
+    → IfSome image (λ bytes. (m : MachineState) → StandsFor p bytes m → TakesAtMost (records_length (history_in m.index)) before after) → Reads command.Verify p image reply before after
+verify_reads p image reply before after early told = record {
   told = λ reads.
       some_map image (λ bytes. (m : MachineState) → StandsFor p bytes m → TakesAtMost (records_length (history_in m.index)) before after)
-      (λ bytes. (m : MachineState) → StandsFor p bytes m → (got : List ScriptLine) → ReadsBy m command.Verify got h before after) (λ bytes most m s got. most m s) told;
+      (λ bytes. (m : MachineState) → StandsFor p bytes m → (got : List ScriptLine) → ReadsBy m command.Verify got reply before after) (λ bytes most m s got. most m s) told;
   early = early;
   nothing = λ e. absurd (false≢true (sym e));
 }
 
 -- one that is refused before has read nothing
-pub verify_unread : (p : Parts) (image : Option (List ℕ)) (h : Head) (before after : ℕ) → after ≡ before → Reads command.Verify p image h before after
-verify_unread p image h before after same =
-    verify_reads p image h before after (λ e. same)
+pub verify_unread : (p : Parts) (image : Option (List ℕ)) (reply : Reply) (before after : ℕ) → after ≡ before → Reads command.Verify p image reply before after
+verify_unread p image reply before after same =
+    verify_reads p image reply before after (λ e. same)
     (every_some image (λ bytes. (m : MachineState) → StandsFor p bytes m → TakesAtMost (records_length (history_in m.index)) before after)
     (λ bytes m s. none_read (records_length (history_in m.index)) before after same))
 
-pub verified_reads : (p : Parts) (image : Option (List ℕ)) (s : Soundness) (before after : ℕ) → ReadsRecords p image before after → Reads command.Verify p image (head.Verified s) before after
-verified_reads p image s before after reads = verify_reads p image (head.Verified s) before after (λ e. absurd (false≢true e)) (records_read p image before after reads)
+pub verified_reads : (p : Parts) (image : Option (List ℕ)) (s : Soundness) (before after : ℕ) → ReadsRecords p image before after → Reads command.Verify p image (headed (head.Verified s)) before after
+verified_reads p image s before after reads = verify_reads p image (headed (head.Verified s)) before after (λ e. absurd (false≢true e)) (records_read p image before after reads)
 
 pub failed_reads : (p : Parts) (image : Option (List ℕ)) (f : VerifyFault) (before after : ℕ) → ReadsRecords p image before after → ReadsIn command.Verify p image (Err (verify_halt f)) before after
-failed_reads p image fault.Disk before after reads = verify_reads p image (head.Refused refusal.StoreRead) before after (λ e. absurd (false≢true e)) (records_read p image before after reads)
-failed_reads p image fault.Memory before after reads = verify_reads p image (head.Refused refusal.OutOfMemory) before after (λ e. absurd (false≢true e)) (records_read p image before after reads)
+failed_reads p image fault.Disk before after reads = verify_reads p image (replied.Refused refusal.StoreRead) before after (λ e. absurd (false≢true e)) (records_read p image before after reads)
+failed_reads p image fault.Memory before after reads = verify_reads p image (replied.Refused refusal.OutOfMemory) before after (λ e. absurd (false≢true e)) (records_read p image before after reads)
 
 -- ---- of all commands
 
@@ -222,7 +222,7 @@ none_verified false p image = tt
 none_verified true p image = tt
 
 -- a refusal says nothing of the file
-pub refused_verifies : (c : Command) (p : Parts) (image : Option (List ℕ)) (r : Refusal) → VerifiesFile c p image (head.Refused r)
+pub refused_verifies : (c : Command) (p : Parts) (image : Option (List ℕ)) (r : Refusal) → VerifiesFile c p image (replied.Refused r)
 refused_verifies c p image r = none_verified (is_verify c) p image
 
 -- a command that does not verify says nothing of it

@@ -3,6 +3,7 @@
 -- source, the session and the disk before the step and after it.
 use Rattle.std.specs.Prelude.{◌≡◌, ◌≢◌, true, false, List, None, Result, Err, IfErr, IfOk, OnOk, length}
 use Rattle.dg_append.specs.Faults.{OnlyReadFailed}
+use Rattle.dg_ask.specs.ReplyNames.{ReplyNamesAreThere}
 use Rattle.dg_batch.specs.declared.halt.Halt.{Halt}
 use Rattle.dg_batch.specs.declared.halt.Halt.TheVariants as halt
 use Rattle.dg_batch.specs.declared.stop.Stop.{Stop}
@@ -24,7 +25,7 @@ use Rattle.dg_machine.specs.Run.{is_store_read}
 use Rattle.dg_session.specs.Damage.{DamageIn, DamageIs, MeetsNone, reads_for}
 use Rattle.dg_session.specs.Parts.{Parts}
 use Rattle.dg_session.specs.Reads.{Reads, ReadsIn, ReadsToStop}
-use Rattle.dg_session.specs.ReplyNames.{BeginWith, ReplyNamesAreThere}
+use Rattle.dg_session.specs.ReplyNames.{BeginWith}
 use Rattle.dg_session.specs.Session.{ComesTo, HoldsImage, IsAsBefore, LeavesCommand, Steps, Stops, TakesLines}
 use Rattle.dg_session.specs.SessionState.{SessionState}
 use Rattle.dg_session.specs.Sweeps.{SweepsNothing, SweepsPool}
@@ -56,7 +57,7 @@ pub record AnswersCommand {S D : Type 0} (s : source.Ghosts S) (d : disk.Ghosts 
   -- The session holds the image.
   pub held : HoldsImage new.parts (d.image after)
   -- A refusal leaves what the session keeps and the image.
-  pub refused : is_refusal reply.head ≡ true → IsAsBefore old.parts (d.image before) new.parts (d.image after)
+  pub refused : is_refusal reply ≡ true → IsAsBefore old.parts (d.image before) new.parts (d.image after)
   -- Each name in the reply is there.
   pub named : ReplyNamesAreThere (length new.parts.names) reply
   -- No name is gone or has another number, whatever the image is.
@@ -64,24 +65,24 @@ pub record AnswersCommand {S D : Type 0} (s : source.Ghosts S) (d : disk.Ghosts 
   -- Where there is no index behind it, there was none, and the image is as it was.
   pub no_index : new.parts.index ≡ None → (old.parts.index ≡ None) × (d.image after ≡ d.image before)
   -- It says that a read failed only where one did, and no write and no sync.
-  pub store_read : is_store_read reply.head ≡ true → OnlyReadFailed d before after
+  pub store_read : is_store_read reply ≡ true → OnlyReadFailed d before after
   -- It says that a column is damaged only where what is read for the command meets that damage first.
-  pub damaged : DamageIs command old.parts (d.image before) reply.head
+  pub damaged : DamageIs command old.parts (d.image before) reply
   -- Where it is no refusal, what is read for the command meets no damage.
-  pub undamaged : is_refusal reply.head ≡ false → MeetsNone (reads_for command) old.parts (d.image before)
+  pub undamaged : is_refusal reply ≡ false → MeetsNone (reads_for command) old.parts (d.image before)
   -- What it says of the file is what the file's own events determine.
-  pub verified : VerifiesFile command old.parts (d.image before) reply.head
+  pub verified : VerifiesFile command old.parts (d.image before) reply
   -- The pool is swept as the command says.
-  pub swept : SweepsPool command old.pool new.pool reply.head
+  pub swept : SweepsPool command old.pool new.pool reply
   -- As many bytes were read as such a reply owes.
-  pub reads : Reads command old.parts (d.image before) reply.head (d.taken before) (d.taken after)
+  pub reads : Reads command old.parts (d.image before) reply (d.taken before) (d.taken after)
   -- Where what the disk held was on the device, what it holds is.
   pub settled : StaysOnDevice d before after
   -- Where the image was just the bytes in use, it is just those in use now: the gate that closes them is 0, and no byte
   -- stands behind it.
   pub exact : StaysTidy (d.image before) (d.image after)
   -- Where it is refused, the disk was only read.
-  pub unwritten : is_refusal reply.head ≡ true → ReadsDisk d before after
+  pub unwritten : is_refusal reply ≡ true → ReadsDisk d before after
 
 -- A command, or a turn over a script, is stopped for this reason. `short` is what holds where a line could not be had, and
 -- `cut` where the file could not be written.
@@ -142,8 +143,8 @@ pub record CarriesOut {S D : Type 0} (s : source.Ghosts S) (d : disk.Ghosts D) (
   -- what is read of the file
   pub file : ReadsFile d command old.parts before after result
   -- what is said of the file, and what is swept, where it is no refusal
-  pub verified : IfOk result (λ reply. VerifiesFile command old.parts (d.image before) reply.head)
-  pub swept : IfOk result (λ reply. SweepsPool command old.pool new.pool reply.head)
+  pub verified : IfOk result (λ reply. VerifiesFile command old.parts (d.image before) reply)
+  pub swept : IfOk result (λ reply. SweepsPool command old.pool new.pool reply)
   -- a command that sweeps is answered
   pub unswept : IfErr result (λ halt. SweepsNothing command)
   -- a command that does not write only reads the disk, and so does one that is not carried out, unless a write failed

@@ -1,12 +1,13 @@
 -- What a crash within the making of an index may leave beside an image of a history.
 use Rattle.std.specs.Prelude.{◌≡◌, ℕ, Bool, true, false, List, length, drop}
-use Rattle.dg_machine.specs.declared.reply.Head.{Head}
 use Rattle.dg_machine.specs.declared.reply.Head.TheVariants as head
+use Rattle.dg_machine.specs.declared.reply.Reply.{Reply}
+use Rattle.dg_machine.specs.declared.reply.Reply.TheVariants as replied
 
 -- the reply says that an index was made
-abbrev pub is_created : Head → Bool
-is_created head.Created = true
-is_created h = false
+abbrev pub is_created : Reply → Bool
+is_created (replied.Answered head.Created body) = true
+is_created r = false
 
 -- both are just the bytes of a header, and differ at most in the first
 abbrev pub IsFirstByte : List ℕ → List ℕ → Type 0

@@ -18,7 +18,6 @@ use Rattle.dg_machine.specs.declared.command.Command.TheVariants as command
 use Rattle.dg_history.specs.declared.node.NodeId.{NodeId}
 use Rattle.dg_machine.specs.Planning.{bases_in}
 use Rattle.dg_machine.specs.Answer.{refusal_of}
-use Rattle.dg_machine.specs.declared.reply.Head.{Head}
 use Rattle.dg_machine.specs.declared.reply.Refusal.{Refusal}
 use Rattle.dg_machine.specs.declared.reply.Reply.{Reply}
 use Rattle.dg_machine.specs.declared.selection.Selection.TheVariants.{Chosen, Added}
@@ -35,7 +34,7 @@ use Rattle.dg_retrieval.specs.Retrieval.{IsFirstDamage}
 use Rattle.dg_batch.specs.declared.halt.Halt.{Halt}
 use Rattle.dg_ask.specs.HeldIndex.{points_over}
 use Rattle.dg_session.specs.Parts.{Parts}
-use Rattle.dg_session.specs.Reads.{reply_head}
+use Rattle.dg_session.specs.Reads.{reply_of}
 use Rattle.dg_session.specs.Session.{damage_of}
 
 -- What a command reads records for: the graphs as of instants, in columns; the set of a node, in columns; the older
@@ -153,9 +152,9 @@ damage_told None = None
 damage_told (Some r) = damage_of r
 
 -- a refusal for damage comes of what reads records alone, and names that damage
-abbrev pub DamageIs : Command → Parts → Option (List ℕ) → Head → Type 0
-DamageIs c old image h = IfSome (damage_told (refusal_of h)) (λ d. IsMetBy (reads_for c) old image d.0 d.1)
+abbrev pub DamageIs : Command → Parts → Option (List ℕ) → Reply → Type 0
+DamageIs c old image reply = IfSome (damage_told (refusal_of reply)) (λ d. IsMetBy (reads_for c) old image d.0 d.1)
 
 -- the same of what the command comes to
 abbrev pub DamageIn : Command → Parts → Option (List ℕ) → Result Reply Halt → Type 0
-DamageIn c old image r = IfSome (reply_head r) (λ h. DamageIs c old image h)
+DamageIn c old image r = IfSome (reply_of r) (λ reply. DamageIs c old image reply)

@@ -15,9 +15,8 @@ use Rattle.dg_history.specs.History.{events_of}
 use Rattle.dg_index.specs.OpenedIndex.{Opening}
 use Rattle.dg_machine.specs.declared.command.Command.{Command}
 use Rattle.dg_machine.specs.declared.command.Command.TheVariants as command
-use Rattle.dg_machine.specs.declared.reply.Head.{Head}
-use Rattle.dg_machine.specs.declared.reply.Head.TheVariants as head
 use Rattle.dg_machine.specs.declared.reply.Reply.{Reply}
+use Rattle.dg_machine.specs.declared.reply.Reply.TheVariants as replied
 use Rattle.dg_machine.specs.declared.stands.Stands.{Stands}
 use Rattle.dg_machine.specs.declared.stands.Stands.TheVariants.{Base}
 use Rattle.dg_machine.specs.Answer.{IsPlannedBy, answer, heard_for, is_refusal, weight_told, with_heard}
@@ -128,12 +127,12 @@ pub record AddsFor (m : MachineState) (from until : ℕ) (cols : Columns) (befor
 
 -- ---- the bytes read
 
--- A retrieval whose reply has this head has read exactly the weight that it tells. One that is refused has read
+-- A retrieval that is answered so has read exactly the weight that the reply tells. One that is refused has read
 -- at most what its answer would tell.
-abbrev pub ReadsAsTold : Bool → MachineState → Command → List ScriptLine → Head → ℕ → ℕ → Type 0
-ReadsAsTold false m c got h before after = Takes (weight_told h) before after
-ReadsAsTold true m c got h before after =
-    (p : Planned) → IsPlannedBy (refused m c got) m c p → TakesAtMost (weight_told (answer m c got p).reply.head) before after
+abbrev pub ReadsAsTold : Bool → MachineState → Command → List ScriptLine → Reply → ℕ → ℕ → Type 0
+ReadsAsTold false m c got reply before after = Takes (weight_told reply) before after
+ReadsAsTold true m c got reply before after =
+    (p : Planned) → IsPlannedBy (refused m c got) m c p → TakesAtMost (weight_told (answer m c got p).reply) before after
 
 -- A batch of so many lines has read at most what the single plans of those children weigh together, over the records
 -- alone.
@@ -147,20 +146,20 @@ ReadsRecords old image before after =
     (o : Opening) × (old.index ≡ Some o) × IfSome image (λ bytes. TakesAtMost (records_bytes o) before after)
 
 -- what a command that adds a batch, a retrieval, or `verify` reads over an image that stands for the state
-abbrev pub ReadsBy : MachineState → Command → List ScriptLine → Head → ℕ → ℕ → Type 0
-ReadsBy m (command.Load count) got h before after = ReadsOlder m count before after
-ReadsBy m (command.Append count) got h before after = ReadsOlder m count before after
-ReadsBy m command.Verify got h before after = TakesAtMost (records_length (history_in m.index)) before after
-ReadsBy m (command.Workload seed count) got h before after = ReadsOlder m count before after
-ReadsBy m c got h before after = ReadsAsTold (is_refusal h) m c got h before after
+abbrev pub ReadsBy : MachineState → Command → List ScriptLine → Reply → ℕ → ℕ → Type 0
+ReadsBy m (command.Load count) got reply before after = ReadsOlder m count before after
+ReadsBy m (command.Append count) got reply before after = ReadsOlder m count before after
+ReadsBy m command.Verify got reply before after = TakesAtMost (records_length (history_in m.index)) before after
+ReadsBy m (command.Workload seed count) got reply before after = ReadsOlder m count before after
+ReadsBy m c got reply before after = ReadsAsTold (is_refusal reply) m c got reply before after
 
--- The bytes that the command reads, where the reply has this head: over an image that stands for a state what the
+-- The bytes that the command reads, where it is answered so: over an image that stands for a state what the
 -- reply to a retrieval tells, and no more than the older children of a batch, or than all records for `verify`; nothing,
 -- where it is refused before that, and for a command that reads no records.
-pub record Reads (c : Command) (old : Parts) (image : Option (List ℕ)) (h : Head) (before after : ℕ) : Type 0 where
+pub record Reads (c : Command) (old : Parts) (image : Option (List ℕ)) (reply : Reply) (before after : ℕ) : Type 0 where
   pub told : (needs c).reads ≡ true → IfSome image (λ bytes. (m : MachineState) → StandsFor old bytes m
-      → (got : List ScriptLine) → ReadsBy m c got h before after)
-  pub early : is_early h ≡ true → after ≡ before
+      → (got : List ScriptLine) → ReadsBy m c got reply before after)
+  pub early : is_early reply ≡ true → after ≡ before
   pub nothing : (needs c).reads ≡ false → after ≡ before
 
 -- What a command that stops has read: nothing, where a line could not be had; and where the file could not be written, no
@@ -174,14 +173,14 @@ ReadsToStop c old image stop.Read before after = after ≡ before
 ReadsToStop c old image stop.Limit before after = after ≡ before
 ReadsToStop c old image stop.Store before after = ReadsToWrite c old image before after
 
--- the first line of the reply to a command that comes to this, unless it is stopped
-abbrev pub reply_head : Result Reply Halt → Option Head
-reply_head (Ok reply) = Some reply.head
-reply_head (Err (halt.Refusal r)) = Some (head.Refused r)
-reply_head (Err (halt.Stop s)) = None
+-- the reply to a command that comes to this, unless it is stopped
+abbrev pub reply_of : Result Reply Halt → Option Reply
+reply_of (Ok reply) = Some reply
+reply_of (Err (halt.Refusal r)) = Some (replied.Refused r)
+reply_of (Err (halt.Stop s)) = None
 
 -- the bytes read by a command that comes to this
 abbrev pub ReadsIn : Command → Parts → Option (List ℕ) → Result Reply Halt → ℕ → ℕ → Type 0
-ReadsIn c old image (Ok reply) before after = Reads c old image reply.head before after
-ReadsIn c old image (Err (halt.Refusal r)) before after = Reads c old image (head.Refused r) before after
+ReadsIn c old image (Ok reply) before after = Reads c old image reply before after
+ReadsIn c old image (Err (halt.Refusal r)) before after = Reads c old image (replied.Refused r) before after
 ReadsIn c old image (Err (halt.Stop s)) before after = ReadsToStop c old image s before after

@@ -13,14 +13,13 @@ use Rattle.dg_index.specs.ImageOfHistory.{StandsAs}
 use Rattle.dg_index.specs.OpenedIndex.{Opening}
 use Rattle.dg_machine.specs.declared.command.Command.{Command}
 use Rattle.dg_machine.specs.declared.limits.TheConstants.{HANDLE_MAX, INDEXES_MAX, LIVE_HANDLES_MAX}
-use Rattle.dg_machine.specs.declared.reply.Head.{Head}
-use Rattle.dg_machine.specs.declared.reply.Head.TheVariants as head
 use Rattle.dg_machine.specs.declared.reply.Refusal.{Refusal}
 use Rattle.dg_machine.specs.declared.reply.Refusal.TheVariants as refusal
 use Rattle.dg_machine.specs.declared.reply.Reply.{Reply}
+use Rattle.dg_machine.specs.declared.reply.Reply.TheVariants as replied
 use Rattle.dg_machine.specs.declared.stands.Stands.{Stands}
 use Rattle.dg_machine.specs.declared.stands.Stands.TheVariants.{Overlay, Base, Selected}
-use Rattle.dg_machine.specs.Answer.{headed, is_refusal, refusal_of}
+use Rattle.dg_machine.specs.Answer.{is_refusal, refusal_of}
 use Rattle.dg_machine.specs.CutImage.{IsCut}
 use Rattle.dg_machine.specs.MachineState.{MachineState, dependent_on, stands_at, graphs_of, history_in}
 use Rattle.dg_machine.specs.Needs.{Needs, can_be_held, earliest, end_asked, instants_asked, is_followed, is_out_of_range, is_set, is_writing, needs, nothing_more, of, when}
@@ -32,11 +31,12 @@ use Rattle.dg_batch.specs.declared.halt.Halt.{Halt}
 use Rattle.dg_batch.specs.declared.halt.Halt.TheVariants as halt
 use Rattle.dg_batch.specs.declared.stop.Stop.TheVariants as stop
 use Rattle.dg_session.specs.Crashes.{IsFirstByte, is_created}
-use Rattle.dg_session.specs.Decided.{IsHeadOf, is_late}
+use Rattle.dg_session.specs.Decided.{Fits, is_late}
 use Rattle.dg_session.specs.Parts.{Parts}
 use Rattle.dg_session.specs.ValuesSaid.{IndexKept, said_of}
-use Rattle.dg_session.specs.ReplyNames.{BeginWith, ReplyNamesAreThere}
+use Rattle.dg_session.specs.ReplyNames.{BeginWith}
 use Rattle.dg_ask.specs.HeldIndex.{events_held, has_node_held, span_held}
+use Rattle.dg_ask.specs.ReplyNames.{ReplyNamesAreThere}
 use Rattle.dg_stored.specs.StoredHistory.{IsHeldBy, KeepsHistory}
 
 -- the handle stands for a node of the index, with which plans may begin
@@ -92,7 +92,7 @@ LeavesAnswered command got old reply before left =
     (m : MachineState) → StandsFor old before m
     → StandsAs m.index left
     ⊎ ((k : MachineState) × Step m (Asked command got) reply k × StandsAs k.index left)
-    ⊎ ((is_created reply.head ≡ true) × (m.index ≡ None) × IsFirstByte before left)
+    ⊎ ((is_created reply ≡ true) × (m.index ≡ None) × IsFirstByte before left)
 
 -- the file goes on in the second form; without an index it would be made in that
 abbrev pub is_wide_held : Option Opening → Bool
@@ -168,9 +168,9 @@ IsDecided command got old r =
 
 -- Whatever the image is: a reply that is no refusal fits the command, which the session does not refuse by what it
 -- keeps; a refusal is decided.
-abbrev pub Decides : Command → List ScriptLine → Parts → Head → Option Refusal → Type 0
-Decides command got old h None = (refused_by old (length got) (needs command) ≡ None) × IsHeadOf command h
-Decides command got old h (Some r) = IsDecided command got old r
+abbrev pub Decides : Command → List ScriptLine → Parts → Reply → Option Refusal → Type 0
+Decides command got old reply None = (refused_by old (length got) (needs command) ≡ None) × Fits command reply
+Decides command got old reply (Some r) = IsDecided command got old r
 
 -- The command and the lines that follow it make such a step, where the disk tells its image. Whatever the image is, a reply
 -- that tells of a read takes the index of no refusal by what the session keeps, and the reply is decided by that. And
@@ -179,8 +179,8 @@ abbrev pub Steps : Command → (List ScriptLine → Type 0) → Parts → Option
 Steps command AreTaken old before new after reply crashes =
     (got : List ScriptLine) × AreTaken got
     × WhereBothTold before after (λ image then_image. Moves command got old image new then_image reply)
-    × ((r : Refusal) → reply.head ≡ head.Refused r → is_of_read r ≡ true → MayRead command got old)
-    × Decides command got old reply.head (refusal_of reply.head)
+    × ((r : Refusal) → reply ≡ replied.Refused r → is_of_read r ≡ true → MayRead command got old)
+    × Decides command got old reply (refusal_of reply)
     × crashes (LeavesAnswered command got old reply)
 
 -- The command and the lines that follow it were cut off so, where the disk tells its image. The command is not refused by
@@ -214,9 +214,9 @@ node_needs node = record nothing_more { index = true; node = Some node; handles 
 -- The command and these lines are answered so, by no refusal.
 pub record Accepts (command : Command) (got : List ScriptLine) (old : Parts) (before : Option (List ℕ)) (new : Parts) (after : Option (List ℕ)) (reply : Reply) : Type 0 where
   pub moves : WhereBothTold before after (λ image then_image. Moves command got old image new then_image reply)
-  pub accepted : is_refusal reply.head ≡ false
+  pub accepted : is_refusal reply ≡ false
   pub free : refused_by old (length got) (needs command) ≡ None
-  pub fits : IsHeadOf command reply.head
+  pub fits : Fits command reply
   pub held : HoldsImage old before → HoldsImage new after
   pub no_index : new.index ≡ None → (old.index ≡ None) × (after ≡ before)
   pub quiet : is_writing command ≡ false → after ≡ before
@@ -230,7 +230,7 @@ pub record IsAsBefore (old : Parts) (before : Option (List ℕ)) (new : Parts) (
 
 -- The command and these lines are refused so.
 pub record Denies (command : Command) (got : List ScriptLine) (old : Parts) (before : Option (List ℕ)) (new : Parts) (after : Option (List ℕ)) (r : Refusal) : Type 0 where
-  pub moves : WhereBothTold before after (λ image then_image. Moves command got old image new then_image (headed (head.Refused r)))
+  pub moves : WhereBothTold before after (λ image then_image. Moves command got old image new then_image (replied.Refused r))
   pub as_before : IsAsBefore old before new after
   pub reads : is_of_read r ≡ true → MayRead command got old
   pub decided : IsDecided command got old r

@@ -5,9 +5,10 @@ use Rattle.dg_batch.specs.declared.halt.Halt.TheVariants as halt
 use Rattle.dg_index.specs.OpenedIndex.{Opening}
 use Rattle.dg_machine.specs.declared.command.Command.{Command}
 use Rattle.dg_machine.specs.declared.command.Command.TheVariants as command
-use Rattle.dg_machine.specs.declared.reply.Head.{Head}
 use Rattle.dg_machine.specs.declared.reply.Head.TheVariants as head
 use Rattle.dg_machine.specs.declared.reply.Refusal.TheVariants as refusal
+use Rattle.dg_machine.specs.declared.reply.Reply.{Reply}
+use Rattle.dg_machine.specs.declared.reply.Reply.TheVariants as replied
 use Rattle.dg_session.specs.Parts.{Parts}
 use Rattle.dg_sound.specs.declared.soundness.Soundness.{Soundness}
 use Rattle.dg_sound.specs.Soundness.{soundness_of}
@@ -20,9 +21,9 @@ IsOfFile old image s =
     (o : Opening) × (old.index ≡ Some o) × IfSome image (λ bytes. s ≡ soundness_of bytes (record { index = o; names = old.names }))
 
 -- what the reply says of the file
-abbrev pub soundness_told : Head → Option Soundness
-soundness_told (head.Verified s) = Some s
-soundness_told h = None
+abbrev pub soundness_told : Reply → Option Soundness
+soundness_told (replied.Answered (head.Verified s) body) = Some s
+soundness_told r = None
 
 abbrev pub is_verify : Command → Bool
 is_verify command.Verify = true
@@ -34,8 +35,8 @@ VerifiesBy false old image told = Unit {0}
 VerifiesBy true old image told = IfSome told (λ s. IsOfFile old image s)
 
 -- `verify` says of the image what its own events determine. Of other commands nothing is said.
-abbrev pub VerifiesFile : Command → Parts → Option (List ℕ) → Head → Type 0
-VerifiesFile c old image h = VerifiesBy (is_verify c) old image (soundness_told h)
+abbrev pub VerifiesFile : Command → Parts → Option (List ℕ) → Reply → Type 0
+VerifiesFile c old image reply = VerifiesBy (is_verify c) old image (soundness_told reply)
 
 -- why the file is not verified
 abbrev pub verify_halt : VerifyFault → Halt

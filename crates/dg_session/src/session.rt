@@ -8,7 +8,6 @@ ghost use Rattle.dg_io.specs.Calls.{TakesFrom};
 ghost use Rattle.dg_io.specs.LinesState.{NeedsByte};
 ghost use Rattle.dg_handles.specs.Handles.{IsTied, slot_graphs};
 ghost use Rattle.dg_history.specs.declared.limits.TheConstants.{EVENTS_MAX};
-ghost use Rattle.dg_machine.specs.Answer.{headed};
 ghost use Rattle.dg_machine.specs.CommandGrammar.{CountIsInRange};
 ghost use Rattle.dg_machine.specs.Needs.{following, is_writing};
 ghost use Rattle.dg_history.specs.History.{History};
@@ -50,7 +49,7 @@ use dg_file::Index;
 use dg_handles::law_tie_is_kept;
 use dg_index::law_images_are_opened;
 use dg_io::{Lines, Source};
-use dg_machine::{BodyLines, Command, Head, Limits, Refusal, Reply, Selection};
+use dg_machine::{Command, Limits, Refusal, Reply, Selection};
 use dg_names::Names;
 use dg_pool::Pool;
 use dg_seed::Seed;
@@ -227,7 +226,7 @@ impl Session {
         self.forget_after(&outcome);
         match outcome {
             Ok(reply) => Ok(reply),
-            Err(Halt::Refusal(refusal)) => Ok(headed(self.alloc, Head::Refused(refusal))),
+            Err(Halt::Refusal(refusal)) => Ok(Reply::Refused(refusal)),
             Err(Halt::Stop(stop)) => Err(stop),
         }
     }
@@ -304,7 +303,7 @@ impl Session {
         requires command { CountIsInRange command.now }
         ensures comes { (image : Option (List ℕ)) → ComesTo command.now [] self.old.parts image self.new.parts image result }
         ensures no_stop { (stop : Stop) → result ≡ Err (Halt.Stop stop) → ⊥ }
-        ensures swept { IfOk result (λ reply. SweepsPool command.now self.old.pool self.new.pool reply.head) }
+        ensures swept { IfOk result (λ reply. SweepsPool command.now self.old.pool self.new.pool reply) }
         ensures unswept { IfErr result (λ halt. SweepsNothing command.now) }
     {
         match *command {
@@ -368,15 +367,5 @@ impl Session {
             Some(index) => Ok(index),
             None => Err(Refusal::NoIndex),
         }
-    }
-}
-
-// A reply of a head line alone.
-pub(super) fn headed(alloc: Global, head: Head) -> Reply
-    ensures { result ≡ headed head }
-{
-    Reply {
-        head,
-        body: BodyLines::new(alloc),
     }
 }

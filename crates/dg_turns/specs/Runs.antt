@@ -1,11 +1,10 @@
 -- The runs of a machine over the entries of a script: what it replies, one after another.
 use Rattle.std.specs.Prelude.{◌≡◌, ℕ, List, [], ◌∷◌}
 use Rattle.std.specs.List.{flat_map}
-use Rattle.dg_machine.specs.Answer.{headed}
 use Rattle.dg_machine.specs.CommandGrammar.{Grammar}
-use Rattle.dg_machine.specs.declared.reply.Head.TheVariants as head
 use Rattle.dg_machine.specs.declared.reply.Refusal.{Refusal}
 use Rattle.dg_machine.specs.declared.reply.Reply.{Reply}
+use Rattle.dg_machine.specs.declared.reply.Reply.TheVariants as replied
 use Rattle.dg_machine.specs.ReplyText.{text}
 use Rattle.dg_machine.specs.Script.{Entry, Asked, No_command, Long_line}
 use Rattle.dg_turns.specs.declared.machine.Machine as machine
@@ -19,7 +18,7 @@ pub record Turned (M W : Type 0) : Type 0 where
 
 -- the line is refused, and neither machine nor world is touched
 abbrev pub RefusesEntry : {M W : Type 0} → Grammar → M → W → Entry → Turned M W → Type 0
-RefusesEntry read m w e t = (r : Refusal) × RefusesLine read e r × (t.reply ≡ headed (head.Refused r)) × (t.machine ≡ m) × (t.world ≡ w)
+RefusesEntry read m w e t = (r : Refusal) × RefusesLine read e r × (t.reply ≡ replied.Refused r) × (t.machine ≡ m) × (t.world ≡ w)
 
 -- the entry is answered so
 abbrev pub Answers : {M W : Type 0} → machine.Ghosts M W → Grammar → M → W → Entry → Turned M W → Type 0

@@ -11,7 +11,6 @@ use crate::stop::Stop;
 use crate::turn::{Turn, next_turn};
 use dg_io::{Lines, Sink, Source};
 use dg_reply::write_reply;
-use std::alloc::Global;
 use std::thread::Threads;
 
 /// Answers a script that may have these commands, all of which the machine carries out, by the machine over its world. Of
@@ -20,7 +19,6 @@ use std::thread::Threads;
 #[inline(never)]
 pub fn answer_script<R: Threads + Sync, S: Source, K: Sink, W, M: Machine<W>>(
     rt: &R,
-    alloc: Global,
     commands: Commands,
     limit: u64,
     machine: &mut M,
@@ -37,10 +35,12 @@ pub fn answer_script<R: Threads + Sync, S: Source, K: Sink, W, M: Machine<W>>(
 {
     let mut lines = Lines::new(limit);
     loop {
-        match next_turn(rt, alloc, commands, machine, world, &mut lines, source) {
+        match next_turn(rt, commands, machine, world, &mut lines, source) {
             Ok(Turn::Skipped) => {}
             Ok(Turn::Replied(reply)) => {
-                if write_reply(sink, machine.names(), &reply).is_err() {
+                let written = write_reply(sink, machine.names(), &reply);
+                drop(reply);
+                if written.is_err() {
                     return End::SinkFault;
                 }
             }

@@ -2,7 +2,6 @@
 ghost use Rattle.std.specs.Prelude.{◌≡◌, ◌≢◌, ◌<◌, IfErr, IfOk, IsErrOf};
 ghost use Rattle.dg_io.specs.Calls.{FailsToRead, TakesFrom};
 ghost use Rattle.dg_io.specs.LinesState.{to_come};
-ghost use Rattle.dg_machine.specs.Answer.{headed};
 ghost use Rattle.dg_turns.specs.Grammars.{grammar_of};
 ghost use Rattle.dg_turns.specs.Turns.{BreaksTurn, CutsTurn, MakesTurn, TakesAll};
 
@@ -11,8 +10,7 @@ use crate::entry::{Taken, next_entry};
 use crate::machine::Machine;
 use crate::stop::Stop;
 use dg_io::{LineFault, Lines, Source};
-use dg_machine::{BodyLines, Head, Refusal, Reply};
-use std::alloc::Global;
+use dg_machine::Reply;
 use std::thread::Threads;
 
 /// What one turn over the script comes to.
@@ -30,7 +28,6 @@ pub enum Turn {
 /// it out.
 pub(crate) fn next_turn<R: Threads + Sync, S: Source, W, M: Machine<W>>(
     rt: &R,
-    alloc: Global,
     commands: Commands,
     machine: &mut M,
     world: &mut W,
@@ -58,22 +55,12 @@ pub(crate) fn next_turn<R: Threads + Sync, S: Source, W, M: Machine<W>>(
     match next_entry(commands, lines, source) {
         Ok(Taken::End) => Ok(Turn::End),
         Ok(Taken::Skipped) => Ok(Turn::Skipped),
-        Ok(Taken::Refused(refusal)) => Ok(Turn::Replied(refused(alloc, refusal))),
+        Ok(Taken::Refused(refusal)) => Ok(Turn::Replied(Reply::Refused(refusal))),
         Ok(Taken::Command(command)) => match machine.carry(rt, &command, lines, source, world) {
             Ok(reply) => Ok(Turn::Replied(reply)),
             Err(why) => Err(why),
         },
         Err(LineFault::Read) => Err(Stop::Read),
         Err(LineFault::Limit) => Err(Stop::Limit),
-    }
-}
-
-// The reply that refuses a line. It takes no memory.
-fn refused(alloc: Global, refusal: Refusal) -> Reply
-    ensures { result ≡ headed (Head.Refused refusal) }
-{
-    Reply {
-        head: Head::Refused(refusal),
-        body: BodyLines::new(alloc),
     }
 }

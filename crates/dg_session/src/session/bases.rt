@@ -16,7 +16,7 @@ ghost use Rattle.dg_session.specs.Reads.{HoldsNodeFor, with_new_handles};
 ghost use Rattle.dg_session.specs.Session.{ComesTo, HoldsImage, StandsFor, node_needs, refused_by};
 ghost use Rattle.dg_batch.specs.declared.stop.Stop.TheVariants as stop;
 
-use super::{Session, headed};
+use super::Session;
 use crate::retrieval::node_lead;
 use dg_ask::has_node;
 use dg_batch::{Halt, Stop};
@@ -139,6 +139,6 @@ impl Session {
         let NodeLead { delta, weight } = self.lead_to_node(rt, node, cols, disk)?;
         let handle = self.held.handles.next() as u32;
         self.add_base(node, cols, &delta)?;
-        Ok(headed(self.alloc, Head::Materialised { handle, weight }))
+        Ok(Reply::headed(self.alloc, Head::Materialised { handle, weight }))
     }
 }

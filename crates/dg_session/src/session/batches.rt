@@ -16,8 +16,8 @@ ghost use Rattle.dg_session.specs.CreationCommand.{making};
 ghost use Rattle.dg_session.specs.Reads.{ReadsIn};
 ghost use Rattle.dg_session.specs.Session.{ComesTo, HoldsImage, LeavesCommand, TakesLines, is_too_full, refused_by};
 
+use super::Session;
 use super::indexes::{barred_with, pass, reserve};
-use super::{Session, headed};
 use crate::batch_command::BatchCommand;
 use crate::creation_command::AskedFunction;
 use dg_ask::span;
@@ -83,7 +83,7 @@ impl Session {
         let index = Index::create(self.alloc, disk, Form::Two, params)?;
         self.planner.forget();
         self.held.live.history.index = Some(index);
-        Ok(headed(self.alloc, Head::Created))
+        Ok(Reply::headed(self.alloc, Head::Created))
     }
 
     // Why no batch of so many lines is added, whatever its lines are.
@@ -162,7 +162,7 @@ impl Session {
             disk,
         )?;
         pass(&mut self.indexes, &added.events);
-        Ok(headed(self.alloc, which.head(added)))
+        Ok(Reply::headed(self.alloc, which.head(added)))
     }
 
     // The batch that a seed leads to, as the history's first one.
@@ -214,7 +214,7 @@ impl Session {
             unreachable!()
         };
         let counts = pool.counts_now();
-        Ok(headed(
+        Ok(Reply::headed(
             self.alloc,
             Head::Generated {
                 events: added.events.len() as u64,

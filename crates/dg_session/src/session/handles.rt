@@ -13,7 +13,7 @@ ghost use Rattle.dg_session.specs.Session.{ComesTo, is_of_node};
 ghost use Rattle.dg_session.specs.Sweeps.{SweepsPool};
 ghost use Rattle.dg_batch.specs.declared.stop.Stop.TheVariants as stop;
 
-use super::{Session, headed};
+use super::Session;
 use dg_append::Live;
 use dg_ask::KeptPlanner;
 use dg_batch::{Halt, Held, Stop};
@@ -37,30 +37,30 @@ impl Session {
         forget_base(&mut self.planner, stands);
         self.held.adjacency.forget_handle(handle);
         give_up(&mut self.held.handles, &mut self.held.live.pool, handle);
-        Ok(headed(self.alloc, Head::Released { handle }))
+        Ok(Reply::headed(self.alloc, Head::Released { handle }))
     }
 
     // Sweeps so many cells of the pool, if there is one.
     pub(super) fn clean(&mut self, cells: u32) -> Reply
         requires { 1 ≤ cells }
         ensures comes { (image : Option (List ℕ)) → ComesTo (Command.Clean cells) [] self.old.parts image self.new.parts image (Ok result) }
-        ensures swept { SweepsPool (Command.Clean cells) self.old.pool self.new.pool result.head }
+        ensures swept { SweepsPool (Command.Clean cells) self.old.pool self.new.pool result }
     {
         law_tie_is_kept();
         sweep(&mut self.held.live.pool, cells);
-        headed(self.alloc, Head::Cleaned)
+        Reply::headed(self.alloc, Head::Cleaned)
     }
 
     // Sweeps all cells of the pool, if there is one. Else there is the current graph alone.
     pub(super) fn clean_all(&mut self) -> Reply
         ensures comes { (image : Option (List ℕ)) → ComesTo Command.CleanAll [] self.old.parts image self.new.parts image (Ok result) }
-        ensures swept { SweepsPool Command.CleanAll self.old.pool self.new.pool result.head }
+        ensures swept { SweepsPool Command.CleanAll self.old.pool self.new.pool result }
     {
         law_tie_is_kept();
         law_union_of_handles();
         sweep_whole(&mut self.held.live.pool);
         let cells = cells_left(&self.held.live);
-        headed(self.alloc, Head::CleanedAll { cells })
+        Reply::headed(self.alloc, Head::CleanedAll { cells })
     }
 
     // How many handles live, and how many elements their graphs and the current one have together.
@@ -69,7 +69,7 @@ impl Session {
     {
         let live = self.held.handles.live();
         let size = union_len(&self.held);
-        headed(self.alloc, Head::Pool { live, size })
+        Reply::headed(self.alloc, Head::Pool { live, size })
     }
 }
 
@@ -102,7 +102,7 @@ fn give_up(handles: &mut Handles, pool: &mut Option<Box<Pool>>, handle: u32)
 fn sweep(pool: &mut Option<Box<Pool>>, cells: u32)
     requires { 1 ≤ cells }
     ensures graphs { SameOverlay (pool_in pool.old) (pool_in pool.new) }
-    ensures swept { SweepsPool (Command.Clean cells) (pool_in pool.old) (pool_in pool.new) Head.Cleaned }
+    ensures swept { SweepsPool (Command.Clean cells) (pool_in pool.old) (pool_in pool.new) (headed Head.Cleaned) }
 {
     if let Some(pool) = pool {
         pool.clean(cells);

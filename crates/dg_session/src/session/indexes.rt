@@ -19,8 +19,8 @@ ghost use Rattle.dg_session.specs.ValuesSaid.{AreFound, IndexKept, all_said_with
 ghost use Rattle.dg_text.specs.declared.limits.TheConstants.{KEY_BYTES_MAX, NAME_BYTES_MAX};
 ghost use Rattle.dg_text.specs.Names.{number_of};
 
+use super::Session;
 use super::plans::in_range;
-use super::{Session, headed};
 use dg_aux::{
     Aux, law_found_nodes_are_there, law_turns_add_as_their_events, law_turns_stand_for_events,
 };
@@ -62,7 +62,7 @@ impl Session {
         let values = self.read_values(number, disk)?;
         let spans = values.spans();
         self.keep(values)?;
-        Ok(headed(self.alloc, Head::Indexed { spans, weight }))
+        Ok(Reply::headed(self.alloc, Head::Indexed { spans, weight }))
     }
 
     // The number of the key of this text, or why no index of it is made.
@@ -158,7 +158,7 @@ impl Session {
         let value = self.held.live.history.names.number(value_text(&value));
         let ids = found(self.alloc, values, t, value)?;
         let nodes = nodes_of(self.alloc, &ids)?;
-        Ok(Reply {
+        Ok(Reply::Answered {
             head: Head::Found {
                 lines: nodes.len() as u64,
             },

@@ -14,7 +14,7 @@ ghost use Rattle.dg_session.specs.Session.{ComesTo, TakesLines, refused_by, retr
 ghost use Rattle.dg_stored.specs.StoredHistory.{index_opening};
 ghost use Rattle.dg_batch.specs.declared.stop.Stop.TheVariants as stop;
 
-use super::{Session, headed};
+use super::Session;
 use dg_ask::{judge, plan_reply, span, tree_reply};
 use dg_batch::{Halt, Stop, read_plan_lines};
 use dg_file::Index;
@@ -76,7 +76,7 @@ impl Session {
         let planner = self.planner.planner(cols);
         let recent = &self.held.live.history.recent;
         let verdict = judge(self.alloc, planner, index, recent, t, &written.said)?;
-        Ok(headed(self.alloc, Head::Certified(verdict)))
+        Ok(Reply::headed(self.alloc, Head::Certified(verdict)))
     }
 
     // The parameters of the index, and a line for each of its records.

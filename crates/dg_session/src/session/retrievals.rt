@@ -17,8 +17,8 @@ ghost use Rattle.dg_session.specs.Reads.{HasRetrieved, RetrievesFor, bases_of, l
 ghost use Rattle.dg_session.specs.Session.{ComesTo, HoldsImage, StandsFor, refused_by, retrieval_needs};
 ghost use Rattle.dg_batch.specs.declared.stop.Stop.TheVariants as stop;
 
+use super::Session;
 use super::plans::in_range;
-use super::{Session, headed};
 use crate::retrieval::{handle_lines, leads_at};
 use dg_ask::span;
 use dg_batch::{Halt, Stop};
@@ -153,7 +153,7 @@ impl Session {
         let Retrieved { leads, weight, .. } = self.retrieve(rt, &times, cols, disk)?;
         let handle = self.held.handles.next() as u32;
         self.add_handles(cols, &times, &leads)?;
-        Ok(headed(self.alloc, Head::At { handle, weight }))
+        Ok(Reply::headed(self.alloc, Head::At { handle, weight }))
     }
 
     // A new handle for the graph as of each of the first `count` instants in these columns, by one tree.
@@ -188,7 +188,7 @@ impl Session {
         let next = self.held.handles.next();
         let lines = handle_lines(self.alloc, next, asked, &retrieved.singles)?;
         self.add_handles(cols, asked, &retrieved.leads)?;
-        Ok(Reply {
+        Ok(Reply::Answered {
             head: Head::Several {
                 weight: retrieved.weight,
                 sum: retrieved.sum,

@@ -25,9 +25,9 @@ ghost use Rattle.dg_session.specs.Reads.{AddsFor, listed_by, with_new_handles};
 ghost use Rattle.dg_session.specs.Session.{ComesTo, HoldsImage, StandsFor, interval_needs, refused_by};
 ghost use Rattle.dg_batch.specs.declared.stop.Stop.TheVariants as stop;
 
+use super::Session;
 use super::plans::in_range;
 use super::retrievals::first_of;
-use super::{Session, headed};
 use crate::graph_sets::led_sets;
 use dg_batch::{Halt, Stop};
 use dg_delta::Delta;
@@ -82,7 +82,7 @@ impl Session {
         let elements = self.chosen_of(&expr, &leads, read)?;
         let handle = self.held.handles.next() as u32;
         self.add_selected(Selection::Chosen(expr), cols, elements)?;
-        Ok(headed(self.alloc, Head::Chosen { handle, weight }))
+        Ok(Reply::headed(self.alloc, Head::Chosen { handle, weight }))
     }
 
     // What the expression chooses of the graphs to which the leads come, in these columns. The graphs are given back.
@@ -129,7 +129,7 @@ impl Session {
         let elements = self.read_interval(from, until, cols, disk)?;
         let handle = self.held.handles.next() as u32;
         self.add_selected(Selection::Added { from, until }, cols, elements)?;
-        Ok(headed(self.alloc, Head::Added { handle, weight }))
+        Ok(Reply::headed(self.alloc, Head::Added { handle, weight }))
     }
 
     // Why nothing that is added between these instants is read for a new handle.

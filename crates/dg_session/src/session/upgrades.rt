@@ -13,7 +13,7 @@ ghost use Rattle.dg_session.specs.Session.{ComesTo, HoldsImage, LeavesCommand, r
 ghost use Rattle.dg_session.specs.Upgrade.{IsNarrow, MarksHeld, upgrade_halt};
 ghost use Rattle.dg_stored.specs.StoredHistory.{index_opening};
 
-use super::{Session, headed};
+use super::Session;
 use dg_batch::{Halt, Held, Stop};
 use dg_disk::Disk;
 use dg_file::CommitFault;
@@ -57,7 +57,7 @@ impl Session {
         let limit = self.limits.file_bytes;
         self.planner.forget();
         match mark(self.alloc, limit, &mut self.held, disk) {
-            Ok(()) => Ok(headed(self.alloc, Head::Upgraded)),
+            Ok(()) => Ok(Reply::headed(self.alloc, Head::Upgraded)),
             Err(fault) => Err(upgrade_halt(fault, limit)),
         }
     }

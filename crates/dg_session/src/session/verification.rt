@@ -9,7 +9,7 @@ ghost use Rattle.dg_session.specs.Session.{ComesTo, HoldsImage};
 ghost use Rattle.dg_session.specs.Verified.{IsOfFile, VerifiesFile, verify_halt};
 ghost use Rattle.dg_batch.specs.declared.stop.Stop.TheVariants as stop;
 
-use super::{Session, headed};
+use super::Session;
 use dg_batch::{Halt, Stop};
 use dg_disk::Disk;
 use dg_machine::{Command, Head, Refusal, Reply};
@@ -30,7 +30,7 @@ impl Session {
         // what it comes to
         ensures comes { ComesTo Command.Verify [] self.old.parts (D.image disk.old) self.new.parts (D.image disk.new) result }
         ensures no_stop { (stop : Stop) → result ≡ Err (Halt.Stop stop) → ⊥ }
-        ensures verified { IfOk result (λ reply. VerifiesFile Command.Verify self.old.parts (D.image disk.old) reply.head) }
+        ensures verified { IfOk result (λ reply. VerifiesFile Command.Verify self.old.parts (D.image disk.old) reply) }
 
         // why it is refused for a read
         ensures store_read { IsErrOf result (Halt.Refusal Refusal.StoreRead) → Fails D.Disk disk.old disk.new }
@@ -45,7 +45,7 @@ impl Session {
             Ok(soundness) => soundness,
             Err(fault) => return Err(verify_halt(fault)),
         };
-        Ok(headed(self.alloc, Head::Verified(soundness)))
+        Ok(Reply::headed(self.alloc, Head::Verified(soundness)))
     }
 
     // Whether the file is what its own events determine.

@@ -4,6 +4,7 @@ use Rattle.dg_index.specs.Hierarchy.{leaves}
 use Rattle.dg_index.specs.IndexRecords.{keys_of}
 use Rattle.dg_index.specs.OpenedIndex.{Opening, event_total}
 use Rattle.dg_machine.specs.declared.reply.Head.TheVariants as head
+use Rattle.dg_machine.specs.declared.reply.Reply.TheVariants as replied
 use Rattle.dg_retrieval.specs.KeptGraph.{shape_with}
 use Rattle.dg_catalogue.specs.declared.shape.Shape.{Shape}
 use Rattle.dg_catalogue.specs.Shapes.{made_with}
@@ -22,7 +23,4 @@ returns c =
     let held : c.len.result ≡ length c.in_ok-lines.lines.items = search rules in
     let count : c.len.result ≡ length (keys_of o.params n) = held ∙ ap length lines_are ∙ length-map (keys_of o.params n) (held_line o.records) in
     let leaves_are : c.leaves.result ≡ leaves o.params n = c.leaves.ensures.leaves o.params.function ∙ ap (λ (s : Shape). s.events / s.l) shape_is in
-    λ i. record {
-      head = head.Tree (c.params-l.ensures i).l (c.params-l.ensures i).k (c.params-l.ensures i).function (many i) (leaves_are i) (count i);
-      body = (c.from_vec.ensures ∙ lines_are) i;
-    }
+    λ i. replied.Answered (head.Tree (c.params-l.ensures i).l (c.params-l.ensures i).k (c.params-l.ensures i).function (many i) (leaves_are i) (count i)) ((c.from_vec.ensures ∙ lines_are) i)

@@ -1,5 +1,5 @@
 use Rattle.dg_plan.specs.declared.certificate.PlanLine.TheVariants as plan_line
-use Rattle.dg_line.proofs.CommandGrammarSteps.{step_is}
+use Rattle.dg_line.proofs.Steps.{step_is}
 use Rattle.dg_line.proofs.plan_line.step.Goals as goal
 
 pub returns-in-None-node_and_number : goal.returns-in-None-node_and_number

@@ -31,47 +31,31 @@ loop-reply-preserved-in-Ok-Skipped g c =
       sink_counted = l.invariant.sink_counted;
     }
 
-pub loop-reply-preserved-else-is_err : goal.loop-reply-preserved-else-is_err
-loop-reply-preserved-else-is_err g c =
-    let l = c.loop-reply in
-    let turn = rw c.in-Ok-Replied.field-0-is at c.in-Ok-Replied.ensures.turn in
-    let written = at_ok c.write_reply.result (g.K.Sink.written c.write_reply.new.sink ≡ grown (g.K.Sink.written l.sink) (text c.names.result.now c.in-Ok-Replied.reply))
-    (sym c.is_err.ensures.value ∙ c.if-is_err.false) c.write_reply.ensures.ok
-    ∙ ap (λ (names : List (List ℕ)). grown (g.K.Sink.written l.sink) (text names c.in-Ok-Replied.reply)) c.names.ensures in record {
-      so_far = so_far_on g.M.Machine (grammar_of c.args.commands) c.new-lines.result (g.S.Source.left c.args.source.now) (g.K.Sink.written c.args.sink.now) c.args.machine.now c.args.world.now
-          l.lines (g.S.Source.left l.source) (g.K.Sink.written l.sink) l.machine l.world c.next_turn.new.lines (g.S.Source.left c.next_turn.new.source) (g.K.Sink.written c.write_reply.new.sink) turn.0
-          (record { reply = c.in-Ok-Replied.reply; machine = c.next_turn.new.machine; world = c.next_turn.new.world })
-          l.invariant.so_far turn.1 turn.2 c.next_turn.ensures.lines.ended turn.3 written;
-      holds = c.in-Ok-Replied.ensures.holds;
-      lines = advances_both c.new-lines.result l.lines c.next_turn.new.lines _ _ _ _ _ _ l.invariant.lines c.next_turn.ensures.lines;
-      sink_counted = omega (arith, l.invariant.sink_counted, c.write_reply.ensures.counted);
-    }
-
 pub loop-reply-preserved : goal.loop-reply-preserved
 loop-reply-preserved g c =
     let l = c.loop-reply in
     let turn = rw c.in-Ok-Replied.field-0-is at c.in-Ok-Replied.ensures.turn in
-    let written = at_ok c.write_reply.result (g.K.Sink.written c.write_reply.new.sink ≡ grown (g.K.Sink.written l.sink) (text c.names.result.now c.in-Ok-Replied.reply))
-    (sym c.is_err.ensures.value ∙ c.if-is_err.false) c.write_reply.ensures.ok
+    let written = at_ok c.write_reply-written.result (g.K.Sink.written c.write_reply-written.new.sink ≡ grown (g.K.Sink.written l.sink) (text c.names.result.now c.in-Ok-Replied.reply))
+    (sym c.is_err.ensures.value ∙ c.if-is_err.false) c.write_reply-written.ensures.ok
     ∙ ap (λ (names : List (List ℕ)). grown (g.K.Sink.written l.sink) (text names c.in-Ok-Replied.reply)) c.names.ensures in record {
       so_far = so_far_on g.M.Machine (grammar_of c.args.commands) c.new-lines.result (g.S.Source.left c.args.source.now) (g.K.Sink.written c.args.sink.now) c.args.machine.now c.args.world.now
-          l.lines (g.S.Source.left l.source) (g.K.Sink.written l.sink) l.machine l.world c.next_turn.new.lines (g.S.Source.left c.next_turn.new.source) (g.K.Sink.written c.write_reply.new.sink) turn.0
+          l.lines (g.S.Source.left l.source) (g.K.Sink.written l.sink) l.machine l.world c.next_turn.new.lines (g.S.Source.left c.next_turn.new.source) (g.K.Sink.written c.write_reply-written.new.sink) turn.0
           (record { reply = c.in-Ok-Replied.reply; machine = c.next_turn.new.machine; world = c.next_turn.new.world })
           l.invariant.so_far turn.1 turn.2 c.next_turn.ensures.lines.ended turn.3 written;
       holds = c.in-Ok-Replied.ensures.holds;
       lines = advances_both c.new-lines.result l.lines c.next_turn.new.lines _ _ _ _ _ _ l.invariant.lines c.next_turn.ensures.lines;
-      sink_counted = omega (arith, l.invariant.sink_counted, c.write_reply.ensures.counted);
+      sink_counted = omega (arith, l.invariant.sink_counted, c.write_reply-written.ensures.counted);
     }
 
 pub returns-then-is_err : goal.returns-then-is_err
 returns-then-is_err g c =
     let l = c.loop-reply in
     let turn = rw c.in-Ok-Replied.field-0-is at c.in-Ok-Replied.ensures.turn in
-    let part = subst (λ (names : List (List ℕ)). GrowsByPart (g.K.Sink.written l.sink) (text names c.in-Ok-Replied.reply) (g.K.Sink.written c.write_reply.new.sink)) c.names.ensures
-    (at_err c.write_reply.result (GrowsByPart (g.K.Sink.written l.sink) (text c.names.result.now c.in-Ok-Replied.reply) (g.K.Sink.written c.write_reply.new.sink))
-    (sym c.is_err.ensures.value ∙ c.if-is_err.true) c.write_reply.ensures.err) in
-    let rose = at_err c.write_reply.result (CountRose (g.K.Sink.faults l.sink) (g.K.Sink.faults c.write_reply.new.sink)) (sym c.is_err.ensures.value ∙ c.if-is_err.true) c.write_reply.ensures.cause in record {
-      ran = ends_in_part c.args.limit (streams g.S.Source g.K.Sink c.args.source.now c.args.sink.now) (streams g.S.Source g.K.Sink l.source l.sink) (streams g.S.Source g.K.Sink c.next_turn.new.source c.write_reply.new.sink)
+    let part = subst (λ (names : List (List ℕ)). GrowsByPart (g.K.Sink.written l.sink) (text names c.in-Ok-Replied.reply) (g.K.Sink.written c.write_reply-written.new.sink)) c.names.ensures
+    (at_err c.write_reply-written.result (GrowsByPart (g.K.Sink.written l.sink) (text c.names.result.now c.in-Ok-Replied.reply) (g.K.Sink.written c.write_reply-written.new.sink))
+    (sym c.is_err.ensures.value ∙ c.if-is_err.true) c.write_reply-written.ensures.err) in
+    let rose = at_err c.write_reply-written.result (CountRose (g.K.Sink.faults l.sink) (g.K.Sink.faults c.write_reply-written.new.sink)) (sym c.is_err.ensures.value ∙ c.if-is_err.true) c.write_reply-written.ensures.cause in record {
+      ran = ends_in_part c.args.limit (streams g.S.Source g.K.Sink c.args.source.now c.args.sink.now) (streams g.S.Source g.K.Sink l.source l.sink) (streams g.S.Source g.K.Sink c.next_turn.new.source c.write_reply-written.new.sink)
           c.next_turn.new.lines c.next_turn.new.machine c.next_turn.new.world c.new-lines.ensures l.invariant.so_far
           c.next_turn.ensures.lines.ended (advances_both c.new-lines.result l.lines c.next_turn.new.lines _ _ _ _ _ _ l.invariant.lines c.next_turn.ensures.lines)
           turn.0 (record { reply = c.in-Ok-Replied.reply; machine = c.next_turn.new.machine; world = c.next_turn.new.world }) refl refl turn.1 turn.2 turn.3 part

@@ -24,7 +24,7 @@ returns-in-Ok-add g c = record {
       ∙ c.read_parts.ensures.same ∙ c.deref_mut.ensures.value) refl c.read_parts.ensures.disks c.in-Ok-add.handle c.in-Ok.weight c.in-Ok.set
       (λ limits. subst (λ (l : List SessionState). ReadsParts limits l (images_of g.D.Disk c.args.disks.now) c.args.t c.args.cols (Ok (c.in-Ok.set, c.in-Ok.weight))) c.deref_mut.ensures.value (c.in-Ok.ensures.reads limits))
       (subst (λ (l : List SessionState). AreWhole c.args.t c.args.cols l (images_of g.D.Disk c.args.disks.now)) c.deref_mut.ensures.value c.in-Ok.ensures.damage)
-      c.in-Ok-add.ensures.added c.in-Ok-add.ensures.handle;
+      c.in-Ok-add.ensures.added c.in-Ok-add.ensures.handle c.headed.result c.headed.ensures;
 }
 
 pub returns-in-Err-add : goal.returns-in-Err-add

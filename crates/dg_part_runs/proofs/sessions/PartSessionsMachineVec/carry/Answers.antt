@@ -1,17 +1,15 @@
 use Rattle.std.proofs.Common.{◌≡◌, [], ap, refl, ◌∙◌}
-use Rattle.dg_machine.specs.Answer.{headed}
 use Rattle.dg_machine.specs.declared.command.Command.TheVariants as command
-use Rattle.dg_machine.specs.declared.command.Query.{Query}
-use Rattle.dg_machine.specs.declared.command.Query.TheVariants as query
-use Rattle.dg_machine.specs.declared.reply.Head.{Head}
+use Rattle.dg_machine.specs.declared.query.Query.{Query}
+use Rattle.dg_machine.specs.declared.query.Query.TheVariants as query
 use Rattle.dg_part_runs.proofs.CarriedCommands.{answered_by, answers_back, ready_after}
 use Rattle.dg_part_runs.proofs.PartSteps.{lists, releases}
 use Rattle.dg_part_runs.proofs.sessions.PartSessionsMachineVec.carry.Goals as goal
 
 pub returns-in-At-clause-holds : goal.returns-in-At-clause-holds
 returns-in-At-clause-holds g c =
-    ready_after g.D.Disk (command.At c.in-At.t c.in-At.cols) [] c.args.self.now c.at-head.new.self c.args.world.now.items _ (headed c.at-head.result) c.requires.holds
-    (answers_back g.D.Disk c.args.world.now c.deref_mut.result.now c.at-head.new.disks (command.At c.in-At.t c.in-At.cols) c.args.self.now c.at-head.new.self (headed c.at-head.result) c.deref_mut.ensures.value c.at-head.ensures.answers)
+    ready_after g.D.Disk (command.At c.in-At.t c.in-At.cols) [] c.args.self.now c.at.new.self c.args.world.now.items _ c.at.result c.requires.holds
+    (answers_back g.D.Disk c.args.world.now c.deref_mut.result.now c.at.new.disks (command.At c.in-At.t c.in-At.cols) c.args.self.now c.at.new.self c.at.result c.deref_mut.ensures.value c.at.ensures.answers)
 
 pub returns-in-Ask-default-List-clause-answered : goal.returns-in-Ask-default-List-clause-answered
 returns-in-Ask-default-List-clause-answered g c =
@@ -22,8 +20,8 @@ returns-in-Ask-default-List-clause-answered g c =
 
 pub returns-in-Release-clause-answered : goal.returns-in-Release-clause-answered
 returns-in-Release-clause-answered g c =
-    answered_by g.D.Disk c.args.command.now (command.Release c.in-Release.handle) c.args.lines.now (g.S.Source.left c.args.source.now) c.args.self.now c.release-head.new.self
-    c.args.world.now.items c.args.world.now.items c.headed-in-Release.result c.in-Release.is refl
-    (releases g.D.Disk c.in-Release.handle c.args.self.now c.args.world.now.items c.release-head.new.self c.headed-in-Release.result
-    (c.headed-in-Release.ensures ∙ ap (λ (h : Head). headed h) c.release-head.ensures.released) c.release-head.ensures.sets c.release-head.ensures.next
-    (ap (λ v. v.items) c.release-head.ensures.sessions) c.release-head.ensures.nameless)
+    answered_by g.D.Disk c.args.command.now (command.Release c.in-Release.handle) c.args.lines.now (g.S.Source.left c.args.source.now) c.args.self.now c.release.new.self
+    c.args.world.now.items c.args.world.now.items c.release.result c.in-Release.is refl
+    (releases g.D.Disk c.in-Release.handle c.args.self.now c.args.world.now.items c.release.new.self c.release.result
+    c.release.ensures.released c.release.ensures.sets c.release.ensures.next
+    (ap (λ v. v.items) c.release.ensures.sessions) c.release.ensures.nameless)

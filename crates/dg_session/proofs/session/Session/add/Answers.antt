@@ -215,7 +215,7 @@ returns-in_err-added-clause-file g c = record {
 
 pub returns-clause-file : goal.returns-clause-file
 returns-clause-file g c = record {
-  damaged = accepted_tells_none (command_with c.args.which c.args.count) c.args.self.now.parts (g.D.Disk.image c.args.disk.now) c.headed.result.head (returns-clause-comes g c).2.accepted;
+  damaged = accepted_tells_none (command_with c.args.which c.args.count) c.args.self.now.parts (g.D.Disk.image c.args.disk.now) c.headed.result (returns-clause-comes g c).2.accepted;
   undamaged =
       subst (λ x. MeetsNone x c.args.self.now.parts (g.D.Disk.image c.args.disk.now)) (sym (reads_of c.args.which c.args.count)) (let made : List AuxState = lent c.self.inside.indexes.len c.self.inside.indexes.items c.barred_with-barred.new.indexes in
       let kept : map kept_of made ≡ map kept_of c.self.inside.indexes.items =
@@ -253,7 +253,7 @@ returns-clause-file g c = record {
       let then_taken : ℕ = g.D.Disk.taken c.add_changes.new.disk in
       let older : ReadsNoMore p image c.args.count taken then_taken =
       reads_no_more (Lines_of c.args.which) got p c.args.count c.self.inside.limits.file_bytes old c.in_ok-batch.batch asked image c.add_changes.result taken then_taken c.add_changes.ensures.reads in
-      subst (λ (r : Reply). Reads (command_with c.args.which c.args.count) c.args.self.now.parts image r.head taken then_taken) (sym (c.headed.ensures ∙ ap headed c.head.ensures))
+      subst (λ (r : Reply). Reads (command_with c.args.which c.args.count) c.args.self.now.parts image r taken then_taken) (sym (c.headed.ensures ∙ ap headed c.head.ensures))
       (added_reads (Lines_of c.args.which) c.args.count c.args.self.now.parts image c.add_changes.new.held.live.history.now.graph (length c.in_ok-added.added.events.items) c.in_ok-added.added.total c.in_ok-added.added.last taken then_taken
       (subst (λ (x : Parts). ReadsNoMore x image c.args.count taken then_taken) same older));
 }

@@ -3,6 +3,7 @@ use Rattle.dg_machine.specs.declared.command.Command.TheVariants as command
 use Rattle.dg_machine.specs.declared.reply.Head.TheVariants as head
 use Rattle.dg_machine.specs.declared.reply.Refusal.TheVariants as refusal
 use Rattle.dg_machine.specs.declared.reply.Reply.{Reply}
+use Rattle.dg_machine.specs.declared.reply.Reply.TheVariants as replied
 use Rattle.dg_handles.specs.Handles.{overlays_on}
 use Rattle.dg_machine.specs.Answer.{headed}
 use Rattle.dg_machine.specs.Needs.{needs}
@@ -86,15 +87,15 @@ returns-in_err-add_handles-clause-file g c = record {
   reads =
       handed_out c.from_residual-in_err-add_handles.result (halt.Refusal refusal.OutOfMemory)
       (λ r. ReadsIn (command.At c.args.t c.args.cols) c.args.self.now.parts (g.D.Disk.image c.args.disk.now) r (g.D.Disk.taken c.args.disk.now) (g.D.Disk.taken c.retrieve.new.disk)) c.from_residual-in_err-add_handles.ensures
-      (at_fails c.args.self.now.parts c.args.t c.args.cols (g.D.Disk.image c.args.disk.now) (head.Refused refusal.OutOfMemory) (g.D.Disk.taken c.args.disk.now) (g.D.Disk.taken c.retrieve.new.disk) refl refl
+      (at_fails c.args.self.now.parts c.args.t c.args.cols (g.D.Disk.image c.args.disk.now) (replied.Refused refusal.OutOfMemory) (g.D.Disk.taken c.args.disk.now) (g.D.Disk.taken c.retrieve.new.disk) refl refl
       (sym c.refused_retrieval.ensures ∙ c.in_default.is) (most_of c.args.self.now.parts (c.args.t ∷ []) c.args.cols (g.D.Disk.image c.args.disk.now) (g.D.Disk.taken c.args.disk.now) (g.D.Disk.taken c.retrieve.new.disk) c.retrieve.result c.retrieve.ensures.over));
 }
 
 pub returns-clause-file : goal.returns-clause-file
 returns-clause-file g c = record {
-  damaged = subst (λ (x : Reply). DamageIs (command.At c.args.t c.args.cols) c.args.self.now.parts (g.D.Disk.image c.args.disk.now) x.head) (sym c.headed.ensures) tt;
+  damaged = subst (DamageIs (command.At c.args.t c.args.cols) c.args.self.now.parts (g.D.Disk.image c.args.disk.now)) (sym c.headed.ensures) tt;
   undamaged = c.in_ok-leads.ensures.damage;
   reads =
-      subst (λ (x : Reply). Reads (command.At c.args.t c.args.cols) c.args.self.now.parts (g.D.Disk.image c.args.disk.now) x.head (g.D.Disk.taken c.args.disk.now) (g.D.Disk.taken c.retrieve.new.disk)) (sym c.headed.ensures)
+      subst (λ (x : Reply). Reads (command.At c.args.t c.args.cols) c.args.self.now.parts (g.D.Disk.image c.args.disk.now) x (g.D.Disk.taken c.args.disk.now) (g.D.Disk.taken c.retrieve.new.disk)) (sym c.headed.ensures)
       (reads_exactly (command.At c.args.t c.args.cols) c.args.self.now.parts (g.D.Disk.image c.args.disk.now) _ (g.D.Disk.taken c.args.disk.now) (g.D.Disk.taken c.retrieve.new.disk) refl refl (λ m got takes. takes) (taken_of c.args.self.now.parts (c.args.t ∷ []) c.args.cols (g.D.Disk.image c.args.disk.now) (g.D.Disk.taken c.args.disk.now) (g.D.Disk.taken c.retrieve.new.disk) c.in_ok-leads.field-0 c.in_ok-leads.ensures.over));
 }

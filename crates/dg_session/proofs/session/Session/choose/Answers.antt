@@ -14,6 +14,7 @@ use Rattle.dg_machine.specs.declared.command.Command.TheVariants as command
 use Rattle.dg_machine.specs.declared.reply.Head.TheVariants as head
 use Rattle.dg_machine.specs.declared.reply.Refusal.TheVariants as refusal
 use Rattle.dg_machine.specs.declared.reply.Reply.{Reply}
+use Rattle.dg_machine.specs.declared.reply.Reply.TheVariants as replied
 use Rattle.dg_machine.specs.declared.selection.Selection.TheVariants.{Chosen}
 use Rattle.dg_machine.specs.declared.stands.Stands.TheVariants.{Selected}
 use Rattle.dg_machine.specs.MachineState.{MachineState}
@@ -163,7 +164,7 @@ returns-in_err-elements-clause-file g c =
       undamaged = none_met c.from_residual-in_err-elements.result (MeetsNone (reads_for done) p image) c.from_residual-in_err-elements.ensures.0;
       reads = handed_out c.from_residual-in_err-elements.result (halt.Refusal refusal.OutOfMemory)
           (λ r. ReadsIn done p image r (g.D.Disk.taken c.args.disk.now) (g.D.Disk.taken c.retrieve.new.disk)) c.from_residual-in_err-elements.ensures
-          (chosen_fails c.law_chosen_elements_are_shown.ensures p c.args.expr c.args.cols none image (head.Refused refusal.OutOfMemory) (g.D.Disk.taken c.args.disk.now) (g.D.Disk.taken c.retrieve.new.disk) refl refl
+          (chosen_fails c.law_chosen_elements_are_shown.ensures p c.args.expr c.args.cols none image (replied.Refused refusal.OutOfMemory) (g.D.Disk.taken c.args.disk.now) (g.D.Disk.taken c.retrieve.new.disk) refl refl
           (subst (λ ts. IfSome image (λ bytes. (m : MachineState) → StandsFor p bytes m → TakesAtMostRetrieval m ts (graph_columns c.args.cols) (g.D.Disk.taken c.args.disk.now) (g.D.Disk.taken c.retrieve.new.disk))) asked
           (most_of p c.first_of-times.result.now (graph_columns c.args.cols) image (g.D.Disk.taken c.args.disk.now) (g.D.Disk.taken c.retrieve.new.disk) c.retrieve.result c.retrieve.ensures.over)));
     }
@@ -180,7 +181,7 @@ returns-in_err-add_selected-clause-file g c =
       undamaged = none_met c.from_residual-in_err-add_selected.result (MeetsNone (reads_for done) p image) c.from_residual-in_err-add_selected.ensures.0;
       reads = handed_out c.from_residual-in_err-add_selected.result (halt.Refusal refusal.OutOfMemory)
           (λ r. ReadsIn done p image r (g.D.Disk.taken c.args.disk.now) (g.D.Disk.taken c.retrieve.new.disk)) c.from_residual-in_err-add_selected.ensures
-          (chosen_fails c.law_chosen_elements_are_shown.ensures p c.args.expr c.args.cols none image (head.Refused refusal.OutOfMemory) (g.D.Disk.taken c.args.disk.now) (g.D.Disk.taken c.retrieve.new.disk) refl refl
+          (chosen_fails c.law_chosen_elements_are_shown.ensures p c.args.expr c.args.cols none image (replied.Refused refusal.OutOfMemory) (g.D.Disk.taken c.args.disk.now) (g.D.Disk.taken c.retrieve.new.disk) refl refl
           (subst (λ ts. IfSome image (λ bytes. (m : MachineState) → StandsFor p bytes m → TakesAtMostRetrieval m ts (graph_columns c.args.cols) (g.D.Disk.taken c.args.disk.now) (g.D.Disk.taken c.retrieve.new.disk))) asked
           (most_of p c.first_of-times.result.now (graph_columns c.args.cols) image (g.D.Disk.taken c.args.disk.now) (g.D.Disk.taken c.retrieve.new.disk) c.retrieve.result c.retrieve.ensures.over)));
     }
@@ -193,9 +194,9 @@ returns-clause-file g c =
     let read = graph_columns c.args.cols in
     let asked : c.first_of-times.result.now ≡ instants_of (words_of c.args.expr) = c.first_of-times.ensures.times ∙ c.instants-instants.ensures.times in
     record {
-      damaged = subst (λ (x : Reply). DamageIs done p image x.head) (sym c.headed.ensures) tt;
+      damaged = subst (DamageIs done p image) (sym c.headed.ensures) tt;
       undamaged = subst (λ ts. MeetsNone (Graphs ts read) p image) asked c.in_ok-leads.ensures.damage;
-      reads = subst (λ (x : Reply). Reads done p image x.head (g.D.Disk.taken c.args.disk.now) (g.D.Disk.taken c.retrieve.new.disk)) (sym c.headed.ensures)
+      reads = subst (λ (x : Reply). Reads done p image x (g.D.Disk.taken c.args.disk.now) (g.D.Disk.taken c.retrieve.new.disk)) (sym c.headed.ensures)
           (reads_exactly done p image _ (g.D.Disk.taken c.args.disk.now) (g.D.Disk.taken c.retrieve.new.disk) refl refl (λ m got takes. takes)
           (taken_of p c.first_of-times.result.now read image (g.D.Disk.taken c.args.disk.now) (g.D.Disk.taken c.retrieve.new.disk) c.in_ok-leads.field-0 c.in_ok-leads.ensures.over));
     }

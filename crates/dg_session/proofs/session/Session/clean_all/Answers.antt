@@ -3,7 +3,6 @@ use Rattle.dg_append.proofs.Overlays.{overlay_stays, same_slots}
 use Rattle.dg_append.specs.Overlays.{overlaid, pool_in}
 use Rattle.dg_ask.proofs.KeptAdjacencies.{graphs_same}
 use Rattle.dg_machine.specs.declared.command.Command.TheVariants as command
-use Rattle.dg_machine.specs.declared.reply.Reply.{Reply}
 use Rattle.dg_machine.specs.MachineState.{union_of_sets}
 use Rattle.dg_session.proofs.PoolOverlays.{held_over, left_is}
 use Rattle.dg_session.proofs.SessionPoolStep.{clean_all_answers, whole_sweep}
@@ -34,9 +33,8 @@ returns-clause-swept c =
     let s = c.self.inside in
     let old = pool_in s.held.live.pool in
     let new = pool_in c.sweep_whole.new.pool in
-    subst (λ (x : SessionState). SweepsPool command.CleanAll x.pool new c.headed.result.head) c.self.view_is
-    (whole_sweep old new (length s.held.live.history.now.graph) c.cells_left-cells.result c.headed.result.head c.sweep_whole.ensures.graphs c.sweep_whole.ensures.whole c.cells_left-cells.ensures
-    (ap (λ (r : Reply). r.head) c.headed.ensures))
+    subst (λ (x : SessionState). SweepsPool command.CleanAll x.pool new c.headed.result) c.self.view_is
+    (whole_sweep old new (length s.held.live.history.now.graph) c.cells_left-cells.result c.headed.result c.sweep_whole.ensures.graphs c.sweep_whole.ensures.whole c.cells_left-cells.ensures c.headed.ensures)
 
 pub invariant_of-self : goal.invariant_of-self
 invariant_of-self c =

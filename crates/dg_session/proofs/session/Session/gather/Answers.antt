@@ -1,6 +1,5 @@
-use Rattle.std.proofs.Common.{◌≡◌, ℕ, ◌∷◌, [], List, length, map, sym, ◌∙◌, ap, subst}
+use Rattle.std.proofs.Common.{◌≡◌, ◌∷◌, [], length, map, sym, subst}
 use Rattle.std.specs.List.{All}
-use Rattle.dg_graph.specs.declared.element.Element.{Element}
 use Rattle.dg_gather.specs.Gathered.{shown_by}
 use Rattle.dg_records.specs.declared.fault.RecordFault.TheVariants as fault
 use Rattle.dg_retrieval.specs.Beginnings.{GraphLead, leads_in, led_to}

@@ -3,9 +3,9 @@ use Rattle.dg_batch.specs.declared.halt.Halt.TheVariants as halt
 use Rattle.dg_batch.specs.Halt.{retrieval_halt}
 use Rattle.dg_machine.specs.declared.command.Command.{Command}
 use Rattle.dg_machine.specs.declared.command.Command.TheVariants as command
-use Rattle.dg_machine.specs.declared.reply.Head.TheVariants as head
 use Rattle.dg_machine.specs.declared.reply.Refusal.TheVariants as refusal
 use Rattle.dg_machine.specs.declared.reply.Reply.{Reply}
+use Rattle.dg_machine.specs.declared.reply.Reply.TheVariants as replied
 use Rattle.dg_machine.specs.Needs.{needs}
 use Rattle.dg_machine.specs.ValueIndex.{key_text}
 use Rattle.dg_range.specs.ListValues.{values_along}
@@ -159,8 +159,8 @@ returns-in_err-keep-clause-file g c =
       damaged = handed_out c.from_residual-in_err-keep.result (halt.Refusal refusal.OutOfMemory) (λ x. DamageIn done c.args.self.now.parts image x) c.from_residual-in_err-keep.ensures tt;
       undamaged = none_met c.from_residual-in_err-keep.result (MeetsNone (reads_for done) c.args.self.now.parts image) c.from_residual-in_err-keep.ensures.0;
       reads = handed_out c.from_residual-in_err-keep.result (halt.Refusal refusal.OutOfMemory) (λ x. ReadsIn done c.args.self.now.parts image x before after) c.from_residual-in_err-keep.ensures
-          (subst (λ (x : Parts). Reads done x image (head.Refused refusal.OutOfMemory) before after) (same g here)
-          (index_fails p c.args.key (free g here) image (head.Refused refusal.OutOfMemory) before after refl refl
+          (subst (λ (x : Parts). Reads done x image (replied.Refused refusal.OutOfMemory) before after) (same g here)
+          (index_fails p c.args.key (free g here) image (replied.Refused refusal.OutOfMemory) before after refl refl
           (index_most_of p c.in_ok-number.number image before after c.read_values.result c.read_values.ensures.over)));
     }
 
@@ -173,10 +173,10 @@ returns-clause-file g c =
     let before = g.D.Disk.taken c.args.disk.now in
     let after = g.D.Disk.taken c.read_values.new.disk in
     record {
-      damaged = subst (λ (x : Reply). DamageIs done c.args.self.now.parts image x.head) (sym c.headed.ensures) tt;
+      damaged = subst (DamageIs done c.args.self.now.parts image) (sym c.headed.ensures) tt;
       undamaged = subst (λ (x : Parts). MeetsNone (reads_for done) x image) (same g here) c.in_ok-values.ensures.damage;
-      reads = subst (λ (x : Parts). Reads done x image c.headed.result.head before after) (same g here)
-          (subst (λ (x : Reply). Reads done p image x.head before after) (sym c.headed.ensures)
+      reads = subst (λ (x : Parts). Reads done x image c.headed.result before after) (same g here)
+          (subst (λ (x : Reply). Reads done p image x before after) (sym c.headed.ensures)
           (reads_exactly done p image _ before after refl refl (λ m got takes. takes)
           (index_taken_of p c.in_ok-number.number image before after c.in_ok-values.values c.values_bytes-weight.result c.values_bytes-weight.ensures c.in_ok-values.ensures.over)));
     }

@@ -7,6 +7,7 @@ use Rattle.dg_machine.specs.declared.command.Command.TheVariants as command
 use Rattle.dg_machine.specs.declared.reply.Head.TheVariants as head
 use Rattle.dg_machine.specs.declared.reply.Refusal.TheVariants as refusal
 use Rattle.dg_machine.specs.declared.reply.Reply.{Reply}
+use Rattle.dg_machine.specs.declared.reply.Reply.TheVariants as replied
 use Rattle.dg_machine.specs.declared.selection.Selection.TheVariants.{Added}
 use Rattle.dg_machine.specs.Needs.{needs}
 use Rattle.dg_session.proofs.DamageStep.{list_damage_in, none_met, tells_no_damage}
@@ -107,7 +108,7 @@ returns-in_err-add_selected-clause-file g c =
       damaged = handed_out c.from_residual-in_err-add_selected.result (halt.Refusal refusal.OutOfMemory) (λ r. DamageIn done p image r) c.from_residual-in_err-add_selected.ensures tt;
       undamaged = none_met c.from_residual-in_err-add_selected.result (MeetsNone (reads_for done) p image) c.from_residual-in_err-add_selected.ensures.0;
       reads = handed_out c.from_residual-in_err-add_selected.result (halt.Refusal refusal.OutOfMemory) (λ r. ReadsIn done p image r before after) c.from_residual-in_err-add_selected.ensures
-          (interval_fails p c.args.from c.args.until c.args.cols (sym c.refused_interval.ensures ∙ c.in_default.is) image (head.Refused refusal.OutOfMemory) before after refl refl
+          (interval_fails p c.args.from c.args.until c.args.cols (sym c.refused_interval.ensures ∙ c.in_default.is) image (replied.Refused refusal.OutOfMemory) before after refl refl
           (interval_most_of p c.args.from c.args.until c.args.cols image before after c.read_interval.result c.read_interval.ensures.over));
     }
 
@@ -119,9 +120,9 @@ returns-clause-file g c =
     let before = g.D.Disk.taken c.args.disk.now in
     let after = g.D.Disk.taken c.read_interval.new.disk in
     record {
-      damaged = subst (λ (x : Reply). DamageIs done p image x.head) (sym c.headed.ensures) tt;
+      damaged = subst (DamageIs done p image) (sym c.headed.ensures) tt;
       undamaged = c.in_ok-elements.ensures.damage;
-      reads = subst (λ (x : Reply). Reads done p image x.head before after) (sym c.headed.ensures)
+      reads = subst (λ (x : Reply). Reads done p image x before after) (sym c.headed.ensures)
           (reads_exactly done p image _ before after refl refl (λ m got takes. takes)
           (interval_taken_of p c.args.from c.args.until c.args.cols image before after c.in_ok-elements.elements c.interval_bytes-weight.result c.interval_bytes-weight.ensures c.in_ok-elements.ensures.over));
     }

@@ -6,6 +6,7 @@ use Rattle.dg_machine.specs.declared.command.Command.TheVariants as command
 use Rattle.dg_machine.specs.declared.reply.Head.TheVariants as head
 use Rattle.dg_machine.specs.declared.reply.Refusal.TheVariants as refusal
 use Rattle.dg_machine.specs.declared.reply.Reply.{Reply}
+use Rattle.dg_machine.specs.declared.reply.Reply.TheVariants as replied
 use Rattle.dg_machine.specs.declared.stands.Stands.TheVariants.{Base}
 use Rattle.dg_machine.specs.Answer.{headed}
 use Rattle.dg_machine.specs.Needs.{needs}
@@ -84,14 +85,14 @@ returns-in_err-add_base-clause-file g c = record {
   reads =
       handed_out c.from_residual-in_err-add_base.result (halt.Refusal refusal.OutOfMemory)
       (λ r. ReadsIn (command.Materialise c.args.node c.args.cols) c.args.self.now.parts (g.D.Disk.image c.args.disk.now) r (g.D.Disk.taken c.args.disk.now) (g.D.Disk.taken c.lead_to_node.new.disk)) c.from_residual-in_err-add_base.ensures
-      (node_fails c.args.self.now.parts c.args.node c.args.cols (g.D.Disk.image c.args.disk.now) (head.Refused refusal.OutOfMemory) (g.D.Disk.taken c.args.disk.now) (g.D.Disk.taken c.lead_to_node.new.disk) refl refl (sym c.refused_node.ensures ∙ c.in_default.is) (node_most_of c.args.self.now.parts c.args.node c.args.cols (g.D.Disk.image c.args.disk.now) (g.D.Disk.taken c.args.disk.now) (g.D.Disk.taken c.lead_to_node.new.disk) c.lead_to_node.result c.lead_to_node.ensures.over));
+      (node_fails c.args.self.now.parts c.args.node c.args.cols (g.D.Disk.image c.args.disk.now) (replied.Refused refusal.OutOfMemory) (g.D.Disk.taken c.args.disk.now) (g.D.Disk.taken c.lead_to_node.new.disk) refl refl (sym c.refused_node.ensures ∙ c.in_default.is) (node_most_of c.args.self.now.parts c.args.node c.args.cols (g.D.Disk.image c.args.disk.now) (g.D.Disk.taken c.args.disk.now) (g.D.Disk.taken c.lead_to_node.new.disk) c.lead_to_node.result c.lead_to_node.ensures.over));
 }
 
 pub returns-clause-file : goal.returns-clause-file
 returns-clause-file g c = record {
-  damaged = subst (λ (x : Reply). DamageIs (command.Materialise c.args.node c.args.cols) c.args.self.now.parts (g.D.Disk.image c.args.disk.now) x.head) (sym c.headed.ensures) tt;
+  damaged = subst (DamageIs (command.Materialise c.args.node c.args.cols) c.args.self.now.parts (g.D.Disk.image c.args.disk.now)) (sym c.headed.ensures) tt;
   undamaged = c.in_ok-delta.ensures.damage;
   reads =
-      subst (λ (x : Reply). Reads (command.Materialise c.args.node c.args.cols) c.args.self.now.parts (g.D.Disk.image c.args.disk.now) x.head (g.D.Disk.taken c.args.disk.now) (g.D.Disk.taken c.lead_to_node.new.disk)) (sym c.headed.ensures)
+      subst (λ (x : Reply). Reads (command.Materialise c.args.node c.args.cols) c.args.self.now.parts (g.D.Disk.image c.args.disk.now) x (g.D.Disk.taken c.args.disk.now) (g.D.Disk.taken c.lead_to_node.new.disk)) (sym c.headed.ensures)
       (reads_exactly (command.Materialise c.args.node c.args.cols) c.args.self.now.parts (g.D.Disk.image c.args.disk.now) _ (g.D.Disk.taken c.args.disk.now) (g.D.Disk.taken c.lead_to_node.new.disk) refl refl (λ m got takes. takes) (node_taken_of c.args.self.now.parts c.args.node c.args.cols (g.D.Disk.image c.args.disk.now) (g.D.Disk.taken c.args.disk.now) (g.D.Disk.taken c.lead_to_node.new.disk) c.in_ok-delta.field-0 c.in_ok-delta.ensures.over));
 }

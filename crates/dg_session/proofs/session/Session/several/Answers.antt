@@ -3,6 +3,7 @@ use Rattle.std.specs.Prelude.{IfSome}
 use Rattle.dg_machine.specs.declared.command.Command.TheVariants as command
 use Rattle.dg_machine.specs.declared.reply.Head.TheVariants as head
 use Rattle.dg_machine.specs.declared.reply.Refusal.TheVariants as refusal
+use Rattle.dg_machine.specs.declared.reply.Reply.TheVariants as replied
 use Rattle.dg_handles.specs.Handles.{overlays_on}
 use Rattle.dg_machine.specs.Answer.{handle_lines}
 use Rattle.dg_machine.specs.MachineState.{MachineState}
@@ -79,7 +80,7 @@ returns-clause-comes g c =
     (c.in_ok-add_handles.ensures.added ∙ (λ i. with_new_handles (same i) (overlays_on cols (asked i) (bases_of (leads_in r.leads))) (map (led_to (same i).graph (listed_by (same i)) cols) (leads_in r.leads))))
     c.in_ok-retrieved.ensures.done.sum
     (c.in_ok-lines.ensures ∙ (let singles : c.deref.result.now ≡ r.singles.items = c.deref.ensures.value in λ i. handle_lines (next i) (asked i) (singles i)))
-    (let body = c.from_vec.ensures in λ i. record { head = head.Several r.weight r.sum; body = body i })
+    (let body = c.from_vec.ensures in λ i. replied.Answered (head.Several r.weight r.sum) (body i))
 
 pub returns-in-Some-clause-file : goal.returns-in-Some-clause-file
 returns-in-Some-clause-file g c = record {
@@ -127,7 +128,7 @@ returns-in_err-lines-clause-file g c = record {
       let none : refused_by p 0 (retrieval_needs (take c.args.count c.args.times) (length (take c.args.count c.args.times))) ≡ None = (λ i. refused_by p 0 (retrieval_needs (sym asked i) (number i))) ∙ sym c.refused_retrieval.ensures ∙ c.in_default.is in
       handed_out c.from_residual-in_err-lines.result (halt.Refusal refusal.OutOfMemory)
       (λ r. ReadsIn (command.Several c.args.cols c.args.times c.args.count) p (g.D.Disk.image c.args.disk.now) r (g.D.Disk.taken c.args.disk.now) (g.D.Disk.taken c.retrieve.new.disk)) c.from_residual-in_err-lines.ensures
-      (several_fails p c.args.cols c.args.times c.args.count number c.requires.some none (g.D.Disk.image c.args.disk.now) (head.Refused refusal.OutOfMemory) (g.D.Disk.taken c.args.disk.now) (g.D.Disk.taken c.retrieve.new.disk) refl refl
+      (several_fails p c.args.cols c.args.times c.args.count number c.requires.some none (g.D.Disk.image c.args.disk.now) (replied.Refused refusal.OutOfMemory) (g.D.Disk.taken c.args.disk.now) (g.D.Disk.taken c.retrieve.new.disk) refl refl
       (subst (λ ts. IfSome (g.D.Disk.image c.args.disk.now) (λ image. (m : MachineState) → StandsFor p image m → TakesAtMostRetrieval m ts c.args.cols (g.D.Disk.taken c.args.disk.now) (g.D.Disk.taken c.retrieve.new.disk))) asked (most_of c.args.self.now.parts c.first_of-asked.result.now c.args.cols (g.D.Disk.image c.args.disk.now) (g.D.Disk.taken c.args.disk.now) (g.D.Disk.taken c.retrieve.new.disk) c.retrieve.result c.retrieve.ensures.over)));
 }
 
@@ -142,7 +143,7 @@ returns-in_err-add_handles-clause-file g c = record {
       let none : refused_by p 0 (retrieval_needs (take c.args.count c.args.times) (length (take c.args.count c.args.times))) ≡ None = (λ i. refused_by p 0 (retrieval_needs (sym asked i) (number i))) ∙ sym c.refused_retrieval.ensures ∙ c.in_default.is in
       handed_out c.from_residual-in_err-add_handles.result (halt.Refusal refusal.OutOfMemory)
       (λ r. ReadsIn (command.Several c.args.cols c.args.times c.args.count) p (g.D.Disk.image c.args.disk.now) r (g.D.Disk.taken c.args.disk.now) (g.D.Disk.taken c.retrieve.new.disk)) c.from_residual-in_err-add_handles.ensures
-      (several_fails p c.args.cols c.args.times c.args.count number c.requires.some none (g.D.Disk.image c.args.disk.now) (head.Refused refusal.OutOfMemory) (g.D.Disk.taken c.args.disk.now) (g.D.Disk.taken c.retrieve.new.disk) refl refl
+      (several_fails p c.args.cols c.args.times c.args.count number c.requires.some none (g.D.Disk.image c.args.disk.now) (replied.Refused refusal.OutOfMemory) (g.D.Disk.taken c.args.disk.now) (g.D.Disk.taken c.retrieve.new.disk) refl refl
       (subst (λ ts. IfSome (g.D.Disk.image c.args.disk.now) (λ image. (m : MachineState) → StandsFor p image m → TakesAtMostRetrieval m ts c.args.cols (g.D.Disk.taken c.args.disk.now) (g.D.Disk.taken c.retrieve.new.disk))) asked (most_of c.args.self.now.parts c.first_of-asked.result.now c.args.cols (g.D.Disk.image c.args.disk.now) (g.D.Disk.taken c.args.disk.now) (g.D.Disk.taken c.retrieve.new.disk) c.retrieve.result c.retrieve.ensures.over)));
 }
 

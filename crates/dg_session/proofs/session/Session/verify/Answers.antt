@@ -1,9 +1,9 @@
 use Rattle.std.proofs.Common.{◌≡◌, [], Err, refl, sym, ap, subst}
 use Rattle.std.specs.Prelude.{IsErrAnd, is_some}
 use Rattle.dg_machine.specs.declared.command.Command.TheVariants as command
-use Rattle.dg_machine.specs.declared.reply.Head.TheVariants as head
 use Rattle.dg_machine.specs.declared.reply.Refusal.TheVariants as refusal
 use Rattle.dg_machine.specs.declared.reply.Reply.{Reply}
+use Rattle.dg_machine.specs.declared.reply.Reply.TheVariants as replied
 use Rattle.dg_batch.specs.declared.halt.Halt.{Halt}
 use Rattle.dg_batch.specs.declared.halt.Halt.TheVariants as halt
 use Rattle.dg_session.specs.Damage.{DamageIn, DamageIs}
@@ -37,7 +37,7 @@ returns-clause-comes g c =
 
 pub returns-clause-verified : goal.returns-clause-verified
 returns-clause-verified g c =
-    subst (λ (r : Reply). VerifiesFile command.Verify c.args.self.now.parts (g.D.Disk.image c.args.disk.now) r.head) (sym c.headed.ensures) c.in-Ok.ensures.sound
+    subst (VerifiesFile command.Verify c.args.self.now.parts (g.D.Disk.image c.args.disk.now)) (sym c.headed.ensures) c.in-Ok.ensures.sound
 
 pub returns-in_err-index-clause-file : goal.returns-in_err-index-clause-file
 returns-in_err-index-clause-file g c = record {
@@ -48,7 +48,7 @@ returns-in_err-index-clause-file g c = record {
   reads =
       handed_out c.from_residual.result (halt.Refusal refusal.NoIndex) (λ r. ReadsIn command.Verify c.args.self.now.parts (g.D.Disk.image c.args.disk.now) r (g.D.Disk.taken c.args.disk.now) (g.D.Disk.taken c.args.disk.now))
       (c.from_residual.ensures.0, subst (λ r. IsErrAnd c.from_residual.result (λ y. y ≡ halt.Refusal r)) c.in_err-index.ensures.none.1 c.from_residual.ensures.1)
-      (verify_unread c.args.self.now.parts (g.D.Disk.image c.args.disk.now) (head.Refused refusal.NoIndex) (g.D.Disk.taken c.args.disk.now) (g.D.Disk.taken c.args.disk.now) refl);
+      (verify_unread c.args.self.now.parts (g.D.Disk.image c.args.disk.now) (replied.Refused refusal.NoIndex) (g.D.Disk.taken c.args.disk.now) (g.D.Disk.taken c.args.disk.now) refl);
 }
 
 pub returns-in-Err-clause-file : goal.returns-in-Err-clause-file
@@ -64,9 +64,9 @@ returns-in-Err-clause-file g c = record {
 
 pub returns-clause-file : goal.returns-clause-file
 returns-clause-file g c = record {
-  damaged = subst (λ (r : Reply). DamageIs command.Verify c.args.self.now.parts (g.D.Disk.image c.args.disk.now) r.head) (sym c.headed.ensures) tt;
+  damaged = subst (DamageIs command.Verify c.args.self.now.parts (g.D.Disk.image c.args.disk.now)) (sym c.headed.ensures) tt;
   undamaged = tt;
   reads =
-      subst (λ (r : Reply). Reads command.Verify c.args.self.now.parts (g.D.Disk.image c.args.disk.now) r.head (g.D.Disk.taken c.args.disk.now) (g.D.Disk.taken c.soundness.new.disk)) (sym c.headed.ensures)
+      subst (λ (r : Reply). Reads command.Verify c.args.self.now.parts (g.D.Disk.image c.args.disk.now) r (g.D.Disk.taken c.args.disk.now) (g.D.Disk.taken c.soundness.new.disk)) (sym c.headed.ensures)
       (verified_reads c.args.self.now.parts (g.D.Disk.image c.args.disk.now) c.in-Ok.soundness (g.D.Disk.taken c.args.disk.now) (g.D.Disk.taken c.soundness.new.disk) c.soundness.ensures.takes);
 }

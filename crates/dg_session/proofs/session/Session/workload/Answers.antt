@@ -220,7 +220,7 @@ returns-in_err-added-clause-file g c = record {
 
 pub returns-clause-file : goal.returns-clause-file
 returns-clause-file g c = record {
-  damaged = subst (λ (x : Reply). DamageIs (command.Workload c.args.seed c.args.count) c.args.self.now.parts (g.D.Disk.image c.args.disk.now) x.head) (sym c.headed.ensures) tt;
+  damaged = subst (DamageIs (command.Workload c.args.seed c.args.count) c.args.self.now.parts (g.D.Disk.image c.args.disk.now)) (sym c.headed.ensures) tt;
   undamaged =
       let made : List AuxState = lent c.self.inside.indexes.len c.self.inside.indexes.items c.reserve.new.indexes in
       let kept : map kept_of made ≡ map kept_of c.self.inside.indexes.items = made_kept c.self.inside.indexes c.deref_mut.result.now c.reserve.new.indexes c.deref_mut.ensures.value c.reserve.ensures.kept in
@@ -254,7 +254,7 @@ returns-clause-file g c = record {
       let counts : c.counts_now-counts.result ≡ counts_of graph = c.counts_now-counts.ensures ∙ ap (λ p. counts_of (graph_now p)) c.deref-2.ensures ∙ ap counts_of (subst (λ pool. IsOverlayOf graph (pool_in pool)) c.in-Some-pool.is c.add_changes.ensures.held.live.pool) in
       let older : ReadsNoMore p image c.args.count taken then_taken =
       reads_no_more (Seed c.args.seed) [] p c.args.count c.self.inside.limits.file_bytes old b asked image c.add_changes.result taken then_taken c.add_changes.ensures.reads in
-      subst (λ (r : Reply). Reads (command.Workload c.args.seed c.args.count) c.args.self.now.parts image r.head taken then_taken) (sym (c.headed.ensures ∙ ap (λ (k : ℕ). headed (head.Generated k added.last c.counts_now-counts.result.nodes c.counts_now-counts.result.edges)) (c.len.ensures ∙ many added.events) ∙ ap (λ (n : Counts). headed (head.Generated (length added.events.items) added.last n.nodes n.edges)) counts))
+      subst (λ (r : Reply). Reads (command.Workload c.args.seed c.args.count) c.args.self.now.parts image r taken then_taken) (sym (c.headed.ensures ∙ ap (λ (k : ℕ). headed (head.Generated k added.last c.counts_now-counts.result.nodes c.counts_now-counts.result.edges)) (c.len.ensures ∙ many added.events) ∙ ap (λ (n : Counts). headed (head.Generated (length added.events.items) added.last n.nodes n.edges)) counts))
       (added_reads (Seed c.args.seed) c.args.count c.args.self.now.parts image graph (length added.events.items) added.total added.last taken then_taken
       (subst (λ (x : Parts). ReadsNoMore x image c.args.count taken then_taken) same older));
 }

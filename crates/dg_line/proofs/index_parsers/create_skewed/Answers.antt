@@ -1,8 +1,0 @@
-use Rattle.dg_machine.specs.declared.command.Command.TheVariants as command
-use Rattle.dg_line.proofs.index_parsers.create_skewed.Goals as goal
-
-pub returns-in-None-clause-command : goal.returns-in-None-clause-command
-returns-in-None-clause-command c = c.in-None.ensures.number (λ r. command.CreateSkewed c.args.l c.args.k r)
-
-pub returns-clause-command : goal.returns-clause-command
-returns-clause-command c = c.in-Some.ensures.number (λ r. command.CreateSkewed c.args.l c.args.k r)
