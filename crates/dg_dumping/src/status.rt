@@ -17,17 +17,17 @@ use thiserror::Error;
 #[derive(Clone, Copy, Debug, PartialEq, Eq, Error)]
 pub enum DumpFault {
     /// The file is no index.
-    #[error("foreign: it is no index of this program")]
+    #[error("foreign: it is no index of this program; name an index")]
     Foreign,
     /// A segment breaks the format; the offset of its first byte.
-    #[error("damaged at offset {0}: the segment there breaks the format")]
+    #[error("damaged at offset {0}: the segment there breaks the format; restore the file from a copy")]
     Damaged(u64),
     /// A record of events has a column that is in no spelling, or its columns do not come together.
-    #[error("damaged in {record}", record = RecordColumn(*.0, *.1))]
+    #[error("damaged in {record}; restore the file from a copy", record = RecordColumn(*.0, *.1))]
     BadRecord(Key, Column),
     /// With `checked`: the first record, in the order of keys, and its first column, that is not what the
     /// file's own events determine.
-    #[error("unsound at {record}: it is not what the events of the file determine", record = RecordColumn(*.0, *.1))]
+    #[error("unsound at {record}: it is not what the events of the file determine; its events are written without --checked", record = RecordColumn(*.0, *.1))]
     Unsound(Key, Column),
 }
 

@@ -185,28 +185,61 @@ number_in_index m text = number_of (names_in m.index) text
 abbrev pub is_indexed : MachineState → List ℕ → Bool
 is_indexed m text = is_among m.indexes (number_in_index m text)
 
--- The refusals of a command that needs this and is followed by these lines, in the order in which they are
+-- What the refusals of a command are computed from: the machine has it, and so has a session.
+pub record Seen : Type 0 where
+  pub index : Bool  -- there is an index
+  pub wide : Bool  -- its file is in the second form
+  pub span : Option (ℕ × ℕ)  -- its first and its last instant
+  pub events : ℕ  -- how many it has
+  pub is_full : ℕ → Bool  -- so many more are too many
+  pub has_node : NodeId → Bool  -- it has this leaf or interior node
+  pub is_name : List ℕ → Bool  -- some name has this text
+  pub is_indexed : List ℕ → Bool  -- the key of this text is indexed
+  pub indexes : ℕ  -- how many keys are
+  pub table : List (ℕ × Stands)  -- the live handles
+  pub next : ℕ  -- the number of the next one
+
+abbrev pub seen : MachineState → Seen
+seen m = record {
+  index = is_some m.index;
+  wide = is_wide (history_in m.index).form;
+  span = span_of (events_in_index m.index);
+  events = length (events_in_index m.index);
+  is_full = is_full m;
+  has_node = has_index_node m;
+  is_name = λ text. is_some (number_in_index m text);
+  is_indexed = is_indexed m;
+  indexes = length m.indexes;
+  table = m.table;
+  next = m.next;
+}
+
+-- The refusals of a command that needs this and is followed by so many lines, in the order in which they are
 -- tested. Refused lines of a batch, and a file that is full, come later.
-abbrev pub refusals : MachineState → List ScriptLine → Needs → List Refusal
-refusals m lines n =
-    of n.lines (λ count. when (nat_lt (length lines) count) (refusal.ShortBatch (length lines) count))
-    ++ (when (n.index && not (is_some m.index)) refusal.NoIndex
-    ++ (of n.parameters (λ p. when (is_some m.index) refusal.IndexExists)
-    ++ (when (n.first_form && is_wide (history_in m.index).form) refusal.NewFormat
+abbrev pub refusals_seen : Seen → ℕ → Needs → List Refusal
+refusals_seen s read n =
+    of n.lines (λ count. when (nat_lt read count) (refusal.ShortBatch read count))
+    ++ (when (n.index && not s.index) refusal.NoIndex
+    ++ (of n.parameters (λ p. when s.index refusal.IndexExists)
+    ++ (when (n.first_form && s.wide) refusal.NewFormat
     ++ (of n.parameters (λ p. when (not (are_parameters p.0 p.1 && nat_le p.2 SKEW_MAX)) refusal.Parameters)
-    ++ (when (n.unloaded && is_some (span_of (events_in_index m.index))) refusal.AlreadyLoaded
-    ++ (when (nat_lt 0 n.changes && is_full m n.changes) (refusal.HistoryFull (length (events_in_index m.index)) n.changes)
-    ++ (when (is_out_of_range (span_of (events_in_index m.index)) n.instants n.until) (refusal.OutOfRange (span_of (events_in_index m.index)))
-    ++ (of n.handle (λ h. when (not (is_some (stands_at h m.table))) (refusal.UnknownHandle h))
-    ++ (of n.handle (λ h. when (n.overlay && is_set (stands_at h m.table)) (refusal.NotAnOverlay h))
-    ++ (of n.unused (λ h. of (dependent_on h m.table) (λ d. refusal.InUse d ∷ []))
-    ++ (of n.node (λ v. when (not (has_index_node m v)) refusal.UnknownNode)
-    ++ (of n.unindexed (λ key. when (not (is_some (number_in_index m key))) refusal.UnknownKey)
-    ++ (of n.indexed (λ key. when (not (is_indexed m key)) refusal.NotIndexed)
-    ++ (of n.unindexed (λ key. when (is_indexed m key) refusal.AlreadyIndexed)
-    ++ (of n.unindexed (λ key. when (nat_le INDEXES_MAX (length m.indexes)) refusal.IndexesFull)
-    ++ (when (nat_lt 0 n.handles && nat_lt LIVE_HANDLES_MAX (length m.table + n.handles)) (refusal.PoolFull (length m.table) n.handles)
-    ++ when (nat_lt 0 n.handles && nat_lt (HANDLE_MAX + 1) (m.next + n.handles)) refusal.HandlesSpent))))))))))))))))
+    ++ (when (n.unloaded && is_some s.span) refusal.AlreadyLoaded
+    ++ (when (nat_lt 0 n.changes && s.is_full n.changes) (refusal.HistoryFull s.events n.changes)
+    ++ (when (is_out_of_range s.span n.instants n.until) (refusal.OutOfRange s.span)
+    ++ (of n.handle (λ h. when (not (is_some (stands_at h s.table))) (refusal.UnknownHandle h))
+    ++ (of n.handle (λ h. when (n.overlay && is_set (stands_at h s.table)) (refusal.NotAnOverlay h))
+    ++ (of n.unused (λ h. of (dependent_on h s.table) (λ d. refusal.InUse d ∷ []))
+    ++ (of n.node (λ v. when (not (s.has_node v)) refusal.UnknownNode)
+    ++ (of n.unindexed (λ key. when (not (s.is_name key)) refusal.UnknownKey)
+    ++ (of n.indexed (λ key. when (not (s.is_indexed key)) refusal.NotIndexed)
+    ++ (of n.unindexed (λ key. when (s.is_indexed key) refusal.AlreadyIndexed)
+    ++ (of n.unindexed (λ key. when (nat_le INDEXES_MAX s.indexes) refusal.IndexesFull)
+    ++ (when (nat_lt 0 n.handles && nat_lt LIVE_HANDLES_MAX (length s.table + n.handles)) (refusal.PoolFull (length s.table) n.handles)
+    ++ when (nat_lt 0 n.handles && nat_lt (HANDLE_MAX + 1) (s.next + n.handles)) refusal.HandlesSpent))))))))))))))))
+
+-- those of the machine
+abbrev pub refusals : MachineState → List ScriptLine → Needs → List Refusal
+refusals m lines n = refusals_seen (seen m) (length lines) n
 
 -- the first refusal that holds
 abbrev pub refused : MachineState → Command → List ScriptLine → Option Refusal

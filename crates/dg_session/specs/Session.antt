@@ -1,18 +1,16 @@
 -- How the steps of a session are steps of the machine.
-use Rattle.std.specs.Prelude.{◌≡◌, ◌⊎◌, ℕ, ◌+◌, ◌*◌, Bool, true, false, ◌&&◌, ◌||◌, not, List, [], ◌∷◌, ◌++◌, Option, Some, None, Result, Ok, Err, IfSome, is_some, length, map, nat_le, nat_lt}
+use Rattle.std.specs.Prelude.{◌≡◌, ◌⊎◌, ℕ, ◌+◌, ◌*◌, Bool, true, false, ◌&&◌, ◌||◌, not, List, [], ◌∷◌, Option, Some, None, Result, Ok, Err, IfSome, is_some, length, map, nat_lt}
 use Rattle.std.specs.List.{All}
 use Rattle.dg_aux.specs.Turns.{said_over}
 use Rattle.dg_graph.specs.declared.element.Column.{Column}
-use Rattle.dg_graph.specs.declared.limits.TheConstants.{SKEW_MAX}
 use Rattle.dg_text.specs.declared.limits.TheConstants.{NAMES_MAX}
 use Rattle.dg_text.specs.Lines.{ScriptLine}
 use Rattle.dg_history.specs.declared.node.Key.{Key}
 use Rattle.dg_history.specs.declared.node.NodeId.{NodeId}
-use Rattle.dg_history.specs.History.{History, are_parameters, events_of, span_of, in_range, is_wide}
+use Rattle.dg_history.specs.History.{History, events_of, span_of, in_range, is_wide}
 use Rattle.dg_index.specs.ImageOfHistory.{StandsAs}
 use Rattle.dg_index.specs.OpenedIndex.{Opening}
 use Rattle.dg_machine.specs.declared.command.Command.{Command}
-use Rattle.dg_machine.specs.declared.limits.TheConstants.{HANDLE_MAX, INDEXES_MAX, LIVE_HANDLES_MAX}
 use Rattle.dg_machine.specs.declared.reply.Refusal.{Refusal}
 use Rattle.dg_machine.specs.declared.reply.Refusal.TheVariants as refusal
 use Rattle.dg_machine.specs.declared.reply.Reply.{Reply}
@@ -21,8 +19,8 @@ use Rattle.dg_machine.specs.declared.stands.Stands.{Stands}
 use Rattle.dg_machine.specs.declared.stands.Stands.TheVariants.{Overlay, Base, Selected}
 use Rattle.dg_machine.specs.Answer.{is_refusal, refusal_of}
 use Rattle.dg_machine.specs.CutImage.{IsCut}
-use Rattle.dg_machine.specs.MachineState.{MachineState, dependent_on, stands_at, graphs_of, history_in}
-use Rattle.dg_machine.specs.Needs.{Needs, can_be_held, earliest, end_asked, instants_asked, is_followed, is_out_of_range, is_set, is_writing, needs, nothing_more, of, when}
+use Rattle.dg_machine.specs.MachineState.{MachineState, graphs_of, history_in}
+use Rattle.dg_machine.specs.Needs.{Needs, Seen, can_be_held, earliest, end_asked, instants_asked, is_followed, is_out_of_range, is_writing, needs, nothing_more, refusals_seen}
 use Rattle.dg_machine.specs.Run.{Step, is_failed_read}
 use Rattle.dg_machine.specs.Script.{Asked}
 use Rattle.dg_machine.specs.ValueIndex.{is_among}
@@ -111,27 +109,25 @@ indexed_keys p = map (λ (kept : IndexKept). kept.key) p.indexes
 abbrev pub is_indexed_by : Parts → List ℕ → Bool
 is_indexed_by p text = is_among (indexed_keys p) (number_of p.names text)
 
+-- What is seen of what a session keeps; and of whether there is an index, which is said by itself.
+abbrev pub seen_by : Bool → Parts → Seen
+seen_by there p = record {
+  index = there;
+  wide = is_wide_held p.index;
+  span = span_held p.index;
+  events = events_held p.index;
+  is_full = is_too_full p;
+  has_node = has_node_held p.index;
+  is_name = λ text. is_some (number_of p.names text);
+  is_indexed = is_indexed_by p;
+  indexes = length p.indexes;
+  table = p.table;
+  next = p.next;
+}
+
 -- The refusals of a command that needs this and is followed by so many lines, by what a session keeps.
 abbrev pub refusals_by : Bool → Parts → ℕ → Needs → List Refusal
-refusals_by there p read n =
-    of n.lines (λ count. when (nat_lt read count) (refusal.ShortBatch read count))
-    ++ (when (n.index && not there) refusal.NoIndex
-    ++ (of n.parameters (λ p. when there refusal.IndexExists)
-    ++ (when (n.first_form && is_wide_held p.index) refusal.NewFormat
-    ++ (of n.parameters (λ p. when (not (are_parameters p.0 p.1 && nat_le p.2 SKEW_MAX)) refusal.Parameters)
-    ++ (when (n.unloaded && is_some (span_held p.index)) refusal.AlreadyLoaded
-    ++ (when (nat_lt 0 n.changes && is_too_full p n.changes) (refusal.HistoryFull (events_held p.index) n.changes)
-    ++ (when (is_out_of_range (span_held p.index) n.instants n.until) (refusal.OutOfRange (span_held p.index))
-    ++ (of n.handle (λ h. when (not (is_some (stands_at h p.table))) (refusal.UnknownHandle h))
-    ++ (of n.handle (λ h. when (n.overlay && is_set (stands_at h p.table)) (refusal.NotAnOverlay h))
-    ++ (of n.unused (λ h. of (dependent_on h p.table) (λ d. refusal.InUse d ∷ []))
-    ++ (of n.node (λ v. when (not (has_node_held p.index v)) refusal.UnknownNode)
-    ++ (of n.unindexed (λ key. when (not (is_some (number_of p.names key))) refusal.UnknownKey)
-    ++ (of n.indexed (λ key. when (not (is_indexed_by p key)) refusal.NotIndexed)
-    ++ (of n.unindexed (λ key. when (is_indexed_by p key) refusal.AlreadyIndexed)
-    ++ (of n.unindexed (λ key. when (nat_le INDEXES_MAX (length p.indexes)) refusal.IndexesFull)
-    ++ (when (nat_lt 0 n.handles && nat_lt LIVE_HANDLES_MAX (length p.table + n.handles)) (refusal.PoolFull (length p.table) n.handles)
-    ++ when (nat_lt 0 n.handles && nat_lt (HANDLE_MAX + 1) (p.next + n.handles)) refusal.HandlesSpent))))))))))))))))
+refusals_by there p read n = refusals_seen (seen_by there p) read n
 
 -- the first of them that holds
 abbrev pub refused_by : Parts → ℕ → Needs → Option Refusal

@@ -20,7 +20,7 @@ pub enum SessionFault {
     Start(StartFault),
     /// With `checked`: the first record, in the order of keys, and its first column, that is not what the
     /// file's own events determine.
-    #[error("unsound at {record}: it is not what the events of the file determine", record = RecordColumn(*.0, *.1))]
+    #[error("unsound at {record}: it is not what the events of the file determine; dump its events, and load them into a new file", record = RecordColumn(*.0, *.1))]
     Unsound(Key, Column),
 }
 

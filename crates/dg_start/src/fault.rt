@@ -41,20 +41,20 @@ pub enum StartFault {
     #[error("a call of the disk failed")]
     Disk,
     /// The file is no index.
-    #[error("foreign: it is no index of this program")]
+    #[error("foreign: it is no index of this program; name an index, or a file that is not there yet")]
     Foreign,
     /// A segment breaks the format; the offset of its first byte.
-    #[error("damaged at offset {0}: the segment there breaks the format")]
+    #[error("damaged at offset {0}: the segment there breaks the format; restore the file from a copy")]
     Damaged(u64),
     /// A record that the start reads has a column that is in no spelling, or the columns of a recent piece do not
     /// come together.
-    #[error("damaged in {record}", record = RecordColumn(*.0, *.1))]
+    #[error("damaged in {record}; restore the file from a copy", record = RecordColumn(*.0, *.1))]
     BadRecord(Key, Column),
     /// The records along the plan of the last leaf come to a set that is no graph.
-    #[error("damaged: the records of the last leaf come to no graph")]
+    #[error("damaged: the records of the last leaf come to no graph; restore the file from a copy")]
     NotGraph,
     /// A recent event is not what some change comes to, or is out of its time; its number in the history, from 1.
-    #[error("damaged at event {0}: it is none that a change comes to")]
+    #[error("damaged at event {0}: it is none that a change comes to; restore the file from a copy")]
     BadRecent(u64),
     /// Want of memory.
     #[error("out of memory")]
