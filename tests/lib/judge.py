@@ -20,7 +20,7 @@ from tests.lib.history import (
 )
 from tests.lib.machine import Machine
 from tests.lib.plans import IndexGraph
-from tests.lib.runs import HEADER, OPEN, is_blank
+from tests.lib.runs import FOREIGN, HEADER, OPEN, RESTORE, is_blank
 
 NAME_MOST, KEY_MOST = 1024, 64  # bytes
 BATCH_MOST, EVENTS_MOST = 2**20, 2**28
@@ -71,7 +71,7 @@ class Opened:
         has_function = 1 <= code <= 3 and share == 0 or self.is_wide and code == 4 and share <= 256
         in_range = 2 <= self.size <= 65536 and 2 <= self.arity <= 64 and has_function
         if image[0] != OPEN or image[1:8] not in (b"DGRAPH1", b"DGRAPH2") or not in_range:
-            raise Refused("foreign: it is no index of this program")
+            raise Refused(FOREIGN)
         self.function = f"skewed {share}" if code == 4 else FUNCTIONS[code - 1]
         self.batches, self.rows, self.names, self.used = [], {}, [], HEADER
         self.known, self.total = set(), 0
@@ -79,7 +79,7 @@ class Opened:
             try:
                 self.read_segment()
             except Unread:
-                raise Refused(f"damaged at offset {self.used}: the segment there breaks the format") from None
+                raise Refused(f"damaged at offset {self.used}: the segment there breaks the format; {RESTORE}") from None
 
     def read_segment(self):
         image, at = self.image, self.used
@@ -547,13 +547,13 @@ class Judgement:
             graph = Graph.of(self.last_leaf(), opened.names)
         except Wrong as wrong:
             key, column = wrong.args
-            return f"damaged in record {key}, column {LETTERS[column]}"
+            return f"damaged in record {key}, column {LETTERS[column]}; {RESTORE}"
         if graph is None:
-            return "damaged: the records of the last leaf come to no graph"
+            return f"damaged: the records of the last leaf come to no graph; {RESTORE}"
         leaves = opened.total // opened.size
         last = opened.rows[f"list {leaves - 1}"].ends[1] if leaves else 0
         for batch, start, events in recent:
             for number, event in enumerate(events, start + 1):
                 if not max(batch.first, last) <= event[0] <= batch.last or not graph.take(event):
-                    return f"damaged at event {number}: it is none that a change comes to"
+                    return f"damaged at event {number}: it is none that a change comes to; {RESTORE}"
         return None

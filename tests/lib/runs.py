@@ -10,6 +10,11 @@ CLOSED = 0
 OPEN = 1
 HEADER = 18  # bytes, with the gate of the first segment
 
+# What is said of a file that is refused, as docs/SCRIPT.md has it: of another program, damaged, and not sound.
+FOREIGN = "foreign: it is no index of this program; name an index, or a file that is not there yet"
+RESTORE = "restore the file from a copy"
+UNSOUND = "it is not what the events of the file determine; dump its events, and load them into a new file"
+
 # The five changes of docs/FORMATS.md, whose file has 544 bytes.
 CREATE = "create 2 2 intersection"
 FIVE = "load 5\n10 +node 1\n20 +node 2\n30 +edge 5 1 2 dir\n40 nset 1 name A\n50 -edge 5"

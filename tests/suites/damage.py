@@ -25,7 +25,7 @@ from tests.lib import judge
 from tests.lib.changes import Changes
 from tests.lib.history import LETTERS, History
 from tests.lib.machine import Batch, text_of
-from tests.lib.runs import CREATE, FIVE, HEADER, Program, Tests, in_use, lines
+from tests.lib.runs import CREATE, FIVE, FOREIGN, HEADER, RESTORE, UNSOUND, Program, Tests, in_use, lines
 
 SEED, DAMAGES = 20, 2000
 ADDED = 24  # changes of the last batch, which completes nodes of the small indexes
@@ -201,14 +201,14 @@ class Damage:
         if due.is_blank or due.is_sound:
             return f"a file that is {'blank' if due.is_blank else 'sound'} is refused: {reason}"
         if due.said:
-            self.count("refused as " + re.sub(r":.*| \d+", "", due.said))
+            self.count("refused as " + re.sub(r"[:;].*| \d+", "", due.said))
             return None if reason == due.said else f"{reason}, and not {due.said}"
         fault = due.start_fault()
         if fault:
             self.count("refused as " + re.sub(r" (?:record|at event) .*|:.*", "", fault))
             return None if reason == fault else f"{reason}, and not {fault}"
         _, *key, column = due.soundness.split(" ")
-        unsound = f"unsound at record {' '.join(key)}, column {column}: it is not what the events of the file determine"
+        unsound = f"unsound at record {' '.join(key)}, column {column}: {UNSOUND}"
         self.count("refused as unsound")
         return None if words and reason == unsound else f"{reason}, and not {unsound}"
 
@@ -355,8 +355,7 @@ def five_changes(tests, damage):
     run, image = damage.program.over(None, lines([CREATE, FIVE]))
     tests.same("five changes", (run.status, run.replies, len(image)), (0, b"ok create\nend\nok load 5 5 50\nend\n", 544))
     script = questions([10, 20, 30, 40, 50], 2, ("name", "A"), ("A", "name"))
-    damaged_at = "damaged at offset 18: the segment there breaks the format"
-    foreign = "foreign: it is no index of this program"
+    damaged_at = f"damaged at offset 18: the segment there breaks the format; {RESTORE}"
 
     def begins(name, bytes_of_file, due):
         """`due` is a reply to `at 20 s`, or why the start is refused."""
@@ -371,7 +370,7 @@ def five_changes(tests, damage):
         due = "refused 2 no-index" if length < HEADER else damaged_at if length < 544 else "ok at 1 26"
         begins(f"cut at {length}", image[:length], due)
         damage.look(f"cut at {length}", image[:length], script, in_use(image))
-    header = {**{at: foreign for at in [*range(10), 12, 13, 14]}, **{at: damaged_at for at in [10, 11, 15]}}
+    header = {**{at: FOREIGN for at in [*range(10), 12, 13, 14]}, **{at: damaged_at for at in [10, 11, 15]}}
     header[16] = "ok at 1 26"  # union in place of intersection, of which the start reads nothing
     header[17] = "refused 7 out-of-range empty"
     fields = {at: damaged_at for at in range(18, 50)}

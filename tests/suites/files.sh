@@ -51,7 +51,7 @@ check 'a path that is not UTF-8' 2 '' 'list 1\n' $'in\xffdex'
 
 echo 'a text of more than eighteen bytes' > text && cp text text.copy
 check 'a file of another program' 7 '' "$history" text
-says 'a file of another program' 'the index is refused' 'text: foreign: it is no index of this program'
+says 'a file of another program' 'the index is refused' 'text: foreign: it is no index of this program; name an index, or a file that is not there yet'
 same 'a file of another program' text text.copy
 for size in 1 17; do
     head -c "$size" text.copy > blank
@@ -64,7 +64,7 @@ same 'a file of 18 bytes whose first is not 1 is blank' blank index
 
 head -c 232 index > short && cp short short.copy
 check 'a file that is too short' 7 '' 'at 30 s\n' short
-says 'a file that is too short' 'the index is refused' 'short: damaged at offset 18: the segment there breaks the format'
+says 'a file that is too short' 'the index is refused' 'short: damaged at offset 18: the segment there breaks the format; restore the file from a copy'
 same 'a file that is too short' short short.copy
 cp index closed && printf '\a' | dd of=closed bs=1 seek=17 conv=notrunc status=none
 check 'a gate of 7 is closed' 0 'refused 7 out-of-range empty' 'at 30 s\n' closed
@@ -141,11 +141,11 @@ refused_by() {
     check "$3" 7 '' 'at 30 s\n' broken
     says "$3" 'the index is refused' "broken: $3"
 }
-refused_by 503 '\377' 'damaged in record piece 0, column s'
-refused_by 427 '\3' 'damaged in record top 1, column s'
-refused_by 479 '\377' 'damaged in record down 1 2, column n'
-refused_by 444 '\3' 'damaged: the records of the last leaf come to no graph'
-refused_by 525 '\6' 'damaged at event 5: it is none that a change comes to'
+refused_by 503 '\377' 'damaged in record piece 0, column s; restore the file from a copy'
+refused_by 427 '\3' 'damaged in record top 1, column s; restore the file from a copy'
+refused_by 479 '\377' 'damaged in record down 1 2, column n; restore the file from a copy'
+refused_by 444 '\3' 'damaged: the records of the last leaf come to no graph; restore the file from a copy'
+refused_by 525 '\6' 'damaged at event 5: it is none that a change comes to; restore the file from a copy'
 
 # `verify` names the first record that is not what the events of the file determine, also where no start enters it. In
 # the file of five changes the columns of the second list begin at byte 345, and its node attributes at byte 385; the
@@ -176,7 +176,7 @@ refused_if_checked() {
 checked 'a sound file' 0 'ok verify sound 5\nend\nok at 1 26\nend\n' 'verify\nat 20 s\n' five
 refused_if_checked 306 '\3'
 says 'checked: a record that is not right' 'the index is refused' \
-    'broken: unsound at record list 0, column s: it is not what the events of the file determine'
+    'broken: unsound at record list 0, column s: it is not what the events of the file determine; dump its events, and load them into a new file'
 refused_if_checked 344 '\3'
 refused_if_checked 418 '\3'
 refused_if_checked 90 '\25'

@@ -19,7 +19,7 @@ from typing import List, NamedTuple
 
 from tests.lib.changes import Changes
 from tests.lib.machine import Due, Machine
-from tests.lib.runs import CREATE, FIVE, NEVER_REFUSED, Program, Ran, Tests, content, in_use, lines, put
+from tests.lib.runs import CREATE, FIVE, NEVER_REFUSED, RESTORE, UNSOUND, Program, Ran, Tests, content, in_use, lines, put
 
 FAILED = "the index file failed"
 TOO_LARGE = "{}: File too large (os error 27)"
@@ -124,9 +124,9 @@ class Limits:
                     replies.append(f"refused 15 damaged {named}" if column in columns else f"ok at {handle} 42")
                 due = 0, "".join(f"{reply}\nend\n" for reply in replies).encode(), b""
                 self.long_list(f"{more} bytes more in {named}", five, {column: more}, script, due)
-                said = f"unsound at record list 0, column {column}: it is not what the events of the file determine"
+                said = f"unsound at record list 0, column {column}: {UNSOUND}"
                 self.long_list(f"{more} bytes more in {named}, checked", five, {column: more}, script, said, ("--checked",))
-            said = "damaged in record list 0, column s"
+            said = f"damaged in record list 0, column s; {RESTORE}"
             self.long_list(f"{more} bytes more in a list that a start reads", two, {"s": more}, script, said)
         first = b"refused 15 damaged list 0 n\nend\n"
         self.long_list("the first of two columns", five, {"n": 5, "e": 10**9}, ["at 10 snet"], (0, first, b""))

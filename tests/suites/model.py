@@ -14,7 +14,7 @@ from tests.lib.changes import Changes
 from tests.lib.history import COLUMNS, FUNCTIONS, LETTERS, MESSAGES, NODE_ATTR, NODES, History
 from tests.lib.machine import INDEXES_MOST, LIVE_MOST, Machine
 from tests.lib.plans import IndexGraph, older_children, point
-from tests.lib.runs import Tests, content, put
+from tests.lib.runs import RESTORE, Tests, content, put
 
 ASKED = ["s", "sn", "se", "sne"]  # the columns of graphs that a command may ask for
 SHARES = [0, 1, 64, 128, 200, 255, 256]  # of 256, of a skewed function
@@ -436,7 +436,7 @@ class FirstDamage:
             (key, column), other = self.rng.choice(found)
             put(self.index, with_damage(self.history, [(key, column), other]))
             ran = subprocess.run([self.program, self.index], input=b"tree\n", capture_output=True)
-            said = f"{self.index}: damaged in record {key}, column {LETTERS[column]}"
+            said = f"{self.index}: damaged in record {key}, column {LETTERS[column]}; {RESTORE}"
             due = f"deltagraph: the index is refused\ndeltagraph: {said}\n"
             self.tests.same(f"seed {self.seed}: a start", (ran.returncode, ran.stderr.decode()), (7, due))
         return bool(found)
