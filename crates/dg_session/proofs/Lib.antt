@@ -2,6 +2,7 @@ pub mod IndexesSaid
 pub mod IndexRuns
 pub mod PartStates
 pub mod SessionSteps
+pub mod Needed
 pub mod AnswerHandles
 pub mod SessionQueryStep
 pub mod SessionReleaseStep

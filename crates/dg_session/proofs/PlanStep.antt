@@ -1,8 +1,8 @@
 -- The answers to a plan and to a certificate.
-use Rattle.std.proofs.Common.{◌≡◌, ℕ, ◌+◌, ◌≤◌, ◌<◌, Bool, true, false, not, List, [], ◌∷◌, Option, Some, None, Err, if◌then◌else◌, length, map, refl, sym, ◌∙◌, ap, subst, nat_lt, arith}
-use Rattle.std.specs.Prelude.{is_some, unwrap_or, ◌||◌}
+use Rattle.std.proofs.Common.{◌≡◌, ℕ, ◌+◌, Bool, true, false, not, List, [], ◌∷◌, Option, Some, None, Err, length, map, refl, sym, ◌∙◌, ap, subst, nat_lt}
+use Rattle.std.specs.Prelude.{unwrap_or, ◌||◌}
 use Rattle.std.specs.List.{AllZip}
-use borrow.Author.Tests.{le-ltb, lt-ltb}
+use Rattle.std.proofs.lemmas.Bool.{not-false}
 use Rattle.dg_graph.specs.declared.element.Columns.{Columns}
 use Rattle.dg_text.specs.Lines.{ScriptLine}
 use Rattle.dg_history.specs.declared.node.Key.{Key}
@@ -17,13 +17,11 @@ use Rattle.dg_index.specs.OlderNodes.{older}
 use Rattle.dg_index.specs.OpenedIndex.{Opening, event_total, opened_of}
 use Rattle.dg_machine.specs.declared.command.Command.TheVariants as command
 use Rattle.dg_machine.specs.declared.reply.Head.TheVariants as head
-use Rattle.dg_machine.specs.declared.reply.Refusal.{Refusal}
-use Rattle.dg_machine.specs.declared.reply.Refusal.TheVariants as refusal
 use Rattle.dg_machine.specs.declared.reply.Reply.{Reply}
 use Rattle.dg_machine.specs.Answer.{headed, is_refusal, plan_reply}
 use Rattle.dg_machine.specs.CommandGrammar.{plan_line_in}
 use Rattle.dg_machine.specs.MachineState.{MachineState, history_in}
-use Rattle.dg_machine.specs.Needs.{needs}
+use Rattle.dg_machine.specs.Needs.{is_out_of_range, needs}
 use Rattle.dg_machine.specs.Planning.{IsPlanned, bases_in, edges_in, nodes_in, point_for, record_edges_in}
 use Rattle.dg_plan.specs.declared.certificate.Verdict.{Verdict}
 use Rattle.dg_plan.specs.declared.edge.Edge.{Edge}
@@ -40,45 +38,31 @@ use Rattle.dg_catalogue.specs.Points.{point_of}
 use Rattle.dg_ask.proofs.HeldIndexHistory.{count_is, kept_span_is, span_is}
 use Rattle.dg_index.proofs.OpenedLegalHistories.{behind}
 use Rattle.dg_session.proofs.ReplyNames.{head_names, names_stay, plan_names}
-use Rattle.dg_session.proofs.PartStates.{IsOf, by_first, is_of, miss, one_image, opening_of, stands_on}
+use Rattle.dg_session.proofs.PartStates.{IsOf, is_of, one_image, opening_of, stands_on}
 use Rattle.dg_batch.specs.declared.halt.Halt.TheVariants as halt
 use Rattle.dg_batch.specs.declared.stop.Stop.{Stop}
 use Rattle.dg_batch.specs.declared.stop.Stop.TheVariants as stop
-use Rattle.dg_session.proofs.SessionSteps.{Comes, lacking_denies, moved, moved_by, refused_denies}
-use Rattle.dg_batch.specs.BatchLines.{first_refusal}
+use Rattle.dg_session.proofs.SessionSteps.{Comes, moved, moved_by}
+use Rattle.dg_session.proofs.Needed.{has_needed}
 use Rattle.dg_session.specs.Decided.{Fits}
 use Rattle.dg_session.specs.Parts.{Parts}
 use Rattle.dg_retrieval.specs.KeptGraph.{holding, index_edges, kept_edges, kept_nodes, record_edges, shape_with}
 use Rattle.dg_ask.specs.HeldIndex.{catalogue_of, point_over, span_held}
 use Rattle.dg_ask.specs.Plans.{IsPlanReply}
 use Rattle.dg_session.specs.BatchReads.{older_for}
-use Rattle.dg_session.specs.Session.{Accepts, Denies, StandsFor, refusals_by, refused_by, retrieval_needs}
+use Rattle.dg_session.specs.Session.{Accepts, StandsFor, refused_by}
 
--- ---- what is refused
+-- ---- what is not refused
 
-pub inside_there : (p : Parts) (t : ℕ) (o : Opening) → p.index ≡ Some o → in_range (span_held (Some o)) t ≡ true → in_range (span_held p.index) t ≡ true
-inside_there p t o there inside = ap (λ i. in_range (span_held i) t) there ∙ inside
+or_none : (a : Bool) → (a || false) ≡ a
+or_none true = refl
+or_none false = refl
 
--- where there is an index and the instant is in its history, nothing is
-pub free_at : (p : Parts) (t : ℕ) (o : Opening) → p.index ≡ Some o → in_range (span_held (Some o)) t ≡ true → refused_by p 0 (retrieval_needs (t ∷ []) 0) ≡ None
-free_at p t o there inside =
-    miss (not (is_some p.index)) refusal.NoIndex _ (ap (λ i. not (is_some i)) there)
-    ∙ miss (not (in_range (span_held p.index) t) || false) (refusal.OutOfRange (span_held p.index)) [] (ap (λ b. not b || false) (inside_there p t o there inside))
-
--- a certificate is refused by the lines that were read, or as a plan is
-pub certificate_refused : (p : Parts) (t : ℕ) (cols : Columns) (count read : ℕ) → refused_by p read (needs (command.Certify t cols count)) ≡ first_refusal read count (refused_by p 0 (retrieval_needs (t ∷ []) 0))
-certificate_refused p t cols count read = by_first (nat_lt read count) (refusal.ShortBatch read count) (refusals_by (is_some p.index) p 0 (retrieval_needs (t ∷ []) 0))
-
-pub short_refused : (p : Parts) (t : ℕ) (cols : Columns) (count read : ℕ) → nat_lt read count ≡ true → refused_by p read (needs (command.Certify t cols count)) ≡ Some (refusal.ShortBatch read count)
-short_refused p t cols count read short =
-    certificate_refused p t cols count read
-    ∙ ap (λ (b : Bool). if b then Some (refusal.ShortBatch read count) else refused_by p 0 (retrieval_needs (t ∷ []) 0)) short
-
--- enough lines were read
-pub enough_refused : (p : Parts) (t : ℕ) (cols : Columns) (count read : ℕ) → nat_lt read count ≡ false → refused_by p read (needs (command.Certify t cols count)) ≡ refused_by p 0 (retrieval_needs (t ∷ []) 0)
-enough_refused p t cols count read enough =
-    certificate_refused p t cols count read
-    ∙ ap (λ (b : Bool). if b then Some (refusal.ShortBatch read count) else refused_by p 0 (retrieval_needs (t ∷ []) 0)) enough
+-- an instant that is not refused is in the history of the index
+pub inside_of : (p : Parts) (t : ℕ) (o : Opening) → p.index ≡ Some o → is_out_of_range (span_held p.index) (t ∷ []) None ≡ false → in_range (span_held (Some o)) t ≡ true
+inside_of p t o there within =
+    not-false (in_range (span_held (Some o)) t)
+    (sym (or_none (not (in_range (span_held (Some o)) t))) ∙ ap (λ (i : Option Opening). is_out_of_range (span_held i) (t ∷ []) None) (sym there) ∙ within)
 
 -- ---- the graph
 
@@ -169,19 +153,19 @@ module _ (p : Parts) (o : Opening) (image : List ℕ) (m : MachineState) (there 
 
 -- ---- the answers
 
-pub plan_answers : (p : Parts) (t : ℕ) (cols : Columns) (image : Option (List ℕ)) (o : Opening) (reply : Reply) → p.index ≡ Some o → in_range (span_held (Some o)) t ≡ true → IsPlanReply o p.recent (bases_in cols p.table) t cols reply
+pub plan_answers : (p : Parts) (t : ℕ) (cols : Columns) (image : Option (List ℕ)) (o : Opening) (reply : Reply) → p.index ≡ Some o → refused_by p 0 (needs (command.Plan t cols)) ≡ None → IsPlanReply o p.recent (bases_in cols p.table) t cols reply
     → Accepts (command.Plan t cols) [] p image p image reply
-plan_answers p t cols image o reply there inside r = record {
+plan_answers p t cols image o reply there free r = record {
   moves =
-      moved_by (command.Plan t cols) [] r.plan p p image image reply (free_at p t o there inside)
-      (λ m x y a b s free. (
+      moved_by (command.Plan t cols) [] r.plan p p image image reply free
+      (λ m x y a b s none. (
         m,
-        is_planned p o x m there s t cols reply inside r,
+        is_planned p o x m there s t cols reply (inside_of p t o there (has_needed p 0 (needs (command.Plan t cols)) free).instants) r,
         (λ i. record { reply = plan_due p o x m there s t cols reply r i; state = m }),
         stands_on p p x y m refl (one_image image image x y refl a b) s,
       ));
   accepted = ap is_refusal r.says;
-  free = free_at p t o there inside;
+  free = free;
   fits = subst (Fits (command.Plan t cols)) (sym r.says) tt;
   held = λ h. h;
   no_index = λ h. (h, refl);
@@ -192,19 +176,19 @@ plan_answers p t cols image o reply there inside r = record {
 }
 
 pub certificate_answers : (p : Parts) (t : ℕ) (cols : Columns) (count : ℕ) (got : List ScriptLine) (image : Option (List ℕ)) (o : Opening) (verdict : Verdict) (reply : Reply)
-    → p.index ≡ Some o → in_range (span_held (Some o)) t ≡ true → nat_lt (length got) count ≡ false
+    → p.index ≡ Some o → refused_by p (length got) (needs (command.Certify t cols count)) ≡ None
     → verdict ≡ judged (kept_edges o (event_total o.batches) cols (bases_in cols p.table)) (kept_nodes o (event_total o.batches) cols) (point_over o p.recent t) (map plan_line_in got) → reply ≡ headed (head.Certified verdict)
     → Accepts (command.Certify t cols count) got p image p image reply
-certificate_answers p t cols count got image o verdict reply there inside enough is reply_is = record {
+certificate_answers p t cols count got image o verdict reply there free is reply_is = record {
   moves =
-      moved (command.Certify t cols count) got p p image image reply (λ m. refl) (enough_refused p t cols count (length got) enough ∙ free_at p t o there inside)
-      (λ m x y a b s free. (
+      moved (command.Certify t cols count) got p p image image reply (λ m. refl) free
+      (λ m x y a b s none. (
         m,
-        (λ i. record { reply = sym (reply_is ∙ ap (λ v. headed (head.Certified v)) (is ∙ verdict_due p o x m there s t cols got inside)) i; state = m }),
+        (λ i. record { reply = sym (reply_is ∙ ap (λ v. headed (head.Certified v)) (is ∙ verdict_due p o x m there s t cols got (inside_of p t o there (has_needed p (length got) (needs (command.Certify t cols count)) free).instants))) i; state = m }),
         stands_on p p x y m refl (one_image image image x y refl a b) s,
       ));
   accepted = ap is_refusal reply_is;
-  free = enough_refused p t cols count (length got) enough ∙ free_at p t o there inside;
+  free = free;
   fits = subst (Fits (command.Certify t cols count)) (sym reply_is) tt;
   held = λ h. h;
   no_index = λ h. (h, refl);
@@ -213,39 +197,9 @@ certificate_answers p t cols count got image o verdict reply there inside enough
   keeps_names = names_stay p.names p.names refl;
 }
 
--- ---- a certificate whose lines were read
-
--- it is refused so
-pub certificate_denied : (p : Parts) (t : ℕ) (cols : Columns) (count : ℕ) (got : List ScriptLine) (image : Option (List ℕ)) (r : Refusal)
-    → refused_by p (length got) (needs (command.Certify t cols count)) ≡ Some r → Denies (command.Certify t cols count) got p image p image r
-certificate_denied p t cols count got image r is = refused_denies (command.Certify t cols count) got p p image image r refl refl is
-
-pub certificate_lacks : (p : Parts) (t : ℕ) (cols : Columns) (count : ℕ) (got : List ScriptLine) (image : Option (List ℕ)) (o : Opening)
-    → p.index ≡ Some o → in_range (span_held (Some o)) t ≡ true → nat_lt (length got) count ≡ false
-    → Denies (command.Certify t cols count) got p image p image refusal.OutOfMemory
-certificate_lacks p t cols count got image o there inside enough =
-    lacking_denies (command.Certify t cols count) got p p image image refl refl refl (enough_refused p t cols count (length got) enough ∙ free_at p t o there inside)
-
 -- the script was cut within its lines
 pub certificate_stopped : (p : Parts) (t : ℕ) (cols : Columns) (count : ℕ) (taken : List ScriptLine → Type 0) (cut : Type 0) (image : Option (List ℕ)) (s : Stop) → cut → (s ≡ stop.Store → ⊥)
     → Comes (command.Certify t cols count) taken cut p image p image (Err (halt.Stop s))
 certificate_stopped p t cols count taken cut image stop.Read short no_store = ([], short, record { same = refl; same_image = refl })
 certificate_stopped p t cols count taken cut image stop.Limit short no_store = ([], short, record { same = refl; same_image = refl })
 certificate_stopped p t cols count taken cut image stop.Store short no_store = absurd (no_store refl)
-
--- enough lines were read of those that were counted
-pub enough_read : (got : List ScriptLine) (read count : ℕ) → length got ≡ read → count ≤ read → nat_lt (length got) count ≡ false
-enough_read got read count is le = le-ltb (length got) count (omega (arith, is, le))
-
--- too few lines were read
-pub certificate_short : (p : Parts) (t : ℕ) (cols : Columns) (count read : ℕ) (got : List ScriptLine) (image : Option (List ℕ)) → length got ≡ read → read < count
-    → Denies (command.Certify t cols count) got p image p image (refusal.ShortBatch read count)
-certificate_short p t cols count read got image is lt =
-    certificate_denied p t cols count got image (refusal.ShortBatch read count)
-    (short_refused p t cols count (length got) (lt-ltb (length got) count (omega (arith, is, lt))) ∙ ap (λ n. Some (refusal.ShortBatch n count)) is)
-
--- enough lines were read, and the instant is refused
-pub certificate_out : (p : Parts) (t : ℕ) (cols : Columns) (count read : ℕ) (got : List ScriptLine) (image : Option (List ℕ)) (r : Refusal) → length got ≡ read → count ≤ read
-    → refused_by p 0 (retrieval_needs (t ∷ []) 0) ≡ Some r → Denies (command.Certify t cols count) got p image p image r
-certificate_out p t cols count read got image r is le refused =
-    certificate_denied p t cols count got image r (enough_refused p t cols count (length got) (enough_read got read count is le) ∙ refused)

@@ -1,5 +1,5 @@
 -- The answer to a listing of the records.
-use Rattle.std.proofs.Common.{◌≡◌, ℕ, suc, true, not, List, [], ◌∷◌, Option, Some, None, length, map, refl, sym, ◌∙◌, ap, subst, arith}
+use Rattle.std.proofs.Common.{◌≡◌, ℕ, suc, true, List, [], ◌∷◌, Option, Some, None, length, map, refl, sym, ◌∙◌, ap, subst, arith}
 use Rattle.std.specs.Prelude.{is_some}
 use Rattle.std.specs.List.{Contains}
 use Rattle.std.specs.Map.{lookup}
@@ -15,7 +15,6 @@ use Rattle.dg_index.specs.OpenedIndex.{Opening, event_total, opened_of}
 use Rattle.dg_index.proofs.OpenedIndexRecords.{told_at}
 use Rattle.dg_machine.specs.declared.command.Command.TheVariants as command
 use Rattle.dg_machine.specs.declared.reply.BodyLine.TheVariants as line
-use Rattle.dg_machine.specs.declared.reply.Refusal.TheVariants as refusal
 use Rattle.dg_machine.specs.declared.reply.Reply.{Reply}
 use Rattle.dg_machine.specs.declared.reply.Reply.TheVariants as replied
 use Rattle.dg_machine.specs.declared.reply.Head.TheVariants as head
@@ -26,18 +25,12 @@ use Rattle.dg_planner.proofs.HistoryLawGraphs.{keys_held}
 use Rattle.dg_index.proofs.OpenedLegalHistories.{behind}
 use Rattle.dg_ask.proofs.HeldIndexHistory.{count_is}
 use Rattle.dg_session.proofs.ReplyNames.{names_stay, record_names}
-use Rattle.dg_session.proofs.PartStates.{IsOf, hit, is_of, miss, one_image, opening_of, stands_on}
+use Rattle.dg_session.proofs.PartStates.{IsOf, is_of, one_image, opening_of, stands_on}
 use Rattle.dg_session.proofs.SessionSteps.{moved}
 use Rattle.dg_session.specs.Decided.{Fits}
 use Rattle.dg_session.specs.Parts.{Parts}
 use Rattle.dg_ask.specs.RecordListing.{held_line, lengths_held, listing_of}
 use Rattle.dg_session.specs.Session.{Accepts, refused_by}
-
-pub tree_refused : (p : Parts) → p.index ≡ None → refused_by p 0 (needs command.Tree) ≡ Some refusal.NoIndex
-tree_refused p none = hit (not (is_some p.index)) refusal.NoIndex [] (ap (λ i. not (is_some i)) none)
-
-pub tree_free : (p : Parts) (o : Opening) → p.index ≡ Some o → refused_by p 0 (needs command.Tree) ≡ None
-tree_free p o there = miss (not (is_some p.index)) refusal.NoIndex [] (ap (λ i. not (is_some i)) there)
 
 -- ---- the lines
 
@@ -63,12 +56,12 @@ listed z legal =
 
 -- ---- the answer
 
-pub tree_answers : (p : Parts) (image : Option (List ℕ)) (o : Opening) (reply : Reply) → p.index ≡ Some o → reply ≡ listing_of o (event_total o.batches)
+pub tree_answers : (p : Parts) (image : Option (List ℕ)) (o : Opening) (reply : Reply) → p.index ≡ Some o → refused_by p 0 (needs command.Tree) ≡ None → reply ≡ listing_of o (event_total o.batches)
     → Accepts command.Tree [] p image p image reply
-tree_answers p image o reply there is = record {
+tree_answers p image o reply there free is = record {
   moves =
-      moved command.Tree [] p p image image reply (λ m. refl) (tree_free p o there)
-      (λ m x y a b s free.
+      moved command.Tree [] p p image image reply (λ m. refl) free
+      (λ m x y a b s none.
       let found = is_of p o x m there s in
       let z : History = found.0 in
       let h : IsOf p o x m z = found.1 in
@@ -79,7 +72,7 @@ tree_answers p image o reply there is = record {
         stands_on p p x y m refl (one_image image image x y refl a b) s,
       ));
   accepted = ap is_refusal is;
-  free = tree_free p o there;
+  free = free;
   fits = subst (Fits command.Tree) (sym is) tt;
   held = λ h. h;
   no_index = λ h. (h, refl);

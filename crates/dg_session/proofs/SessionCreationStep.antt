@@ -1,7 +1,7 @@
 -- The answer to the making of an index.
-use Rattle.std.proofs.Common.{◌≡◌, inl, inr, ℕ, zero, suc, ◌*◌, true, false, ◌&&◌, not, List, [], ◌++◌, Option, Some, None, Ok, Err, drop, length, map, nat_le, refl, sym, ◌∙◌, ap, subst}
+use Rattle.std.proofs.Common.{◌≡◌, inl, inr, ℕ, zero, suc, ◌*◌, true, false, List, [], Option, Some, None, Ok, Err, drop, length, map, nat_le, refl, sym, ◌∙◌, ap, subst}
 use Rattle.std.specs.Prelude.{IfSome, is_some}
-use Rattle.std.proofs.lemmas.Bool.{and_parts, false≢true, not-false}
+use Rattle.std.proofs.lemmas.Bool.{and_parts, false≢true}
 use Rattle.dg_file.specs.declared.fault.CreateFault.{CreateFault}
 use Rattle.dg_file.specs.declared.fault.CreateFault.TheVariants as fault
 use Rattle.dg_file.specs.Images.{IsMadeInPart}
@@ -15,19 +15,18 @@ use Rattle.dg_history.specs.History.{History, are_parameters, empty_history, eve
 use Rattle.dg_index.specs.ImageOfHistory.{IsImageOf, StandsAs}
 use Rattle.dg_index.specs.OpenedIndex.{Opening, opened_of, opening}
 use Rattle.dg_machine.specs.declared.reply.Head.TheVariants as head
-use Rattle.dg_machine.specs.declared.reply.Refusal.TheVariants as refusal
 use Rattle.dg_machine.specs.declared.reply.Reply.{Reply}
 use Rattle.dg_machine.specs.Answer.{accepted, answer, headed, is_refusal}
 use Rattle.dg_machine.specs.CutImage.{IsAcceptedWrite, IsCut, As_before, As_after, First_byte, makes_index}
 use Rattle.dg_machine.specs.MachineState.{MachineState, history_in}
-use Rattle.dg_machine.specs.Needs.{Needs, earliest, is_writing, needs, nothing_more, refused, when}
+use Rattle.dg_machine.specs.Needs.{Needs, is_writing, needs, nothing_more, refused}
 use Rattle.dg_machine.specs.Planning.{IsPlanned, no_plan}
 use Rattle.dg_machine.specs.Run.{Step}
 use Rattle.dg_machine.specs.Script.{Asked}
 use Rattle.dg_index.specs.Hierarchy.{leaves}
 use Rattle.dg_index.specs.IndexRecords.{recent_of}
 use Rattle.dg_session.proofs.ReplyNames.{head_names, names_stay}
-use Rattle.dg_session.proofs.PartStates.{AreOf, are_of, both_told, graph_in, no_graphs, no_handle_reached, no_index, one_told, opening_of, passes, recent_in, refused_is, stands}
+use Rattle.dg_session.proofs.PartStates.{AreOf, are_of, both_told, graph_in, no_graphs, no_handle_reached, no_index, one_told, opening_of, recent_in, refused_is, stands}
 use Rattle.dg_session.proofs.SessionSteps.{accepted_is, accepted_steps, is_accepted, lacking_denies, moved}
 use Rattle.dg_batch.specs.Halt.{creation_halt}
 use Rattle.dg_session.specs.CreationCommand.{making, params_asked, share_asked}
@@ -36,6 +35,7 @@ use Rattle.dg_session.specs.declared.creation_command.AskedFunction.{AskedFuncti
 use Rattle.dg_session.specs.declared.creation_command.AskedFunction.TheVariants.{Named, Share}
 use Rattle.dg_session.specs.Parts.{Parts}
 use Rattle.dg_stored.specs.StoredHistory.{AreCounted, IsHeldBy}
+use Rattle.dg_session.proofs.Needed.{has_needed}
 use Rattle.dg_session.specs.Session.{Accepts, ComesTo, CutsOff, StandsFor, refused_by}
 
 -- it needs no index yet, and parameters in their ranges
@@ -67,19 +67,19 @@ fits_head : (l k : ℕ) (asked : AskedFunction) → IsHeadOf (making l k asked) 
 fits_head l k (Named f) = tt
 fits_head l k (Share r) = tt
 
--- why no index is made, in the order of the tests
-pub refused_as : (p : Parts) (l k : ℕ) (asked : AskedFunction) → refused_by p 0 (needs (making l k asked))
-    ≡ earliest (when (is_some p.index) refusal.IndexExists ++ (when (not (are_parameters l k && nat_le (share_asked asked) SKEW_MAX)) refusal.Parameters ++ []))
-refused_as p l k asked = ap (refused_by p 0) (needs_are l k asked)
+-- what is refused of it is refused of the share that it says
+pub asked_refused : (p : Parts) (l k : ℕ) (asked : AskedFunction) (share : ℕ) → share ≡ share_asked asked → refused_by p 0 (needs (making l k asked)) ≡ refused_by p 0 (creation_needs l k share)
+asked_refused p l k asked share is = ap (refused_by p 0) (needs_are l k asked) ∙ ap (λ n. refused_by p 0 (creation_needs l k n)) (sym is)
 
 -- what is found where it is not refused: no index, and parameters in their ranges
 pub creation_free : (p : Parts) (l k : ℕ) (asked : AskedFunction) → refused_by p 0 (needs (making l k asked)) ≡ None
     → (is_some p.index ≡ false) × (are_parameters l k ≡ true) × (nat_le (share_asked asked) SKEW_MAX ≡ true)
 creation_free p l k asked none =
-    let a = passes (is_some p.index) refusal.IndexExists _ (sym (refused_as p l k asked) ∙ none) in
-    let b = passes (not (are_parameters l k && nat_le (share_asked asked) SKEW_MAX)) refusal.Parameters [] a.1 in
-    let both = and_parts (are_parameters l k) (nat_le (share_asked asked) SKEW_MAX) (not-false (are_parameters l k && nat_le (share_asked asked) SKEW_MAX) b.0) in
-    (a.0, both.0, both.1)
+    let asks : ℕ × ℕ × ℕ = (l, k, share_asked asked) in
+    let has = has_needed p 0 (needs (making l k asked)) none in
+    let is : (needs (making l k asked)).parameters ≡ Some asks = ap (λ (n : Needs). n.parameters) (needs_are l k asked) in
+    let both = and_parts (are_parameters l k) (nat_le (share_asked asked) SKEW_MAX) (has.parameters asks is) in
+    (has.no_index asks is, both.0, both.1)
 
 pub none_there : (p : Parts) (image : List ℕ) (m : MachineState) (l k : ℕ) (asked : AskedFunction) → StandsFor p image m → refused_by p 0 (needs (making l k asked)) ≡ None → m.index ≡ None
 none_there p image m l k asked s none = no_index m.index (ap is_some (sym (are_of m.index p s.kept).index_is) ∙ (creation_free p l k asked none).0)

@@ -1,10 +1,8 @@
 -- The answer to `find`.
-use Rattle.std.proofs.Common.{◌≡◌, ℕ, Bool, true, false, not, List, [], ◌∷◌, Option, Some, None, length, map, refl, sym, ◌∙◌, ap, subst}
-use Rattle.std.specs.Prelude.{◌||◌, is_some}
+use Rattle.std.proofs.Common.{◌≡◌, ℕ, List, [], ◌∷◌, Option, Some, None, length, map, refl, sym, ◌∙◌, ap, subst}
 use Rattle.std.specs.List.{All, Contains}
 use Rattle.std.proofs.lemmas.List.{length-map}
 use Rattle.std.proofs.lemmas.List.Elements.{All-cons, All-contains, All-head, All-nil, All-tail}
-use Rattle.dg_ask.specs.HeldIndex.{span_held}
 use Rattle.dg_aux.specs.Turns.{ValuesSaid, said_over}
 use Rattle.dg_aux.specs.TurnLaws.{FoundNodesAreThere, TurnsStandForEvents}
 use Rattle.dg_graph.proofs.ExactEvents.{IsSet-replay_from}
@@ -12,12 +10,11 @@ use Rattle.dg_graph.specs.declared.element.Element.{Element}
 use Rattle.dg_graph.specs.declared.element.Element.TheVariants as element
 use Rattle.dg_graph.specs.declared.event.Event.{Event}
 use Rattle.dg_graph.specs.Replay.{events_until, replay_at}
-use Rattle.dg_history.specs.History.{History, events_of, in_range}
+use Rattle.dg_history.specs.History.{History, events_of}
 use Rattle.dg_machine.specs.declared.command.Command.TheVariants as command
 use Rattle.dg_machine.specs.declared.reply.BodyLine.{BodyLine}
 use Rattle.dg_machine.specs.declared.reply.BodyLine.TheVariants as line
 use Rattle.dg_machine.specs.declared.reply.Head.TheVariants as head
-use Rattle.dg_machine.specs.declared.reply.Refusal.TheVariants as refusal
 use Rattle.dg_machine.specs.declared.reply.Reply.{Reply}
 use Rattle.dg_machine.specs.declared.reply.Reply.TheVariants as replied
 use Rattle.dg_machine.specs.declared.texts.KeyText.{KeyText}
@@ -25,48 +22,15 @@ use Rattle.dg_machine.specs.declared.texts.ValueText.{ValueText}
 use Rattle.dg_machine.specs.Answer.{found_reply, is_refusal}
 use Rattle.dg_machine.specs.MachineState.{MachineState, history_in, names_in}
 use Rattle.dg_machine.specs.Needs.{number_in_index}
-use Rattle.dg_machine.specs.ValueIndex.{found, is_among, key_text, value_text}
-use Rattle.dg_session.proofs.PartStates.{are_of, hit, miss, one_image, stands_on}
+use Rattle.dg_machine.specs.ValueIndex.{found, key_text, value_text}
+use Rattle.dg_session.proofs.PartStates.{are_of, one_image, stands_on}
 use Rattle.dg_session.proofs.ReplyNames.{found_names, names_stay}
 use Rattle.dg_session.proofs.SessionSteps.{moved}
 use Rattle.dg_session.specs.Decided.{Fits}
 use Rattle.dg_session.specs.Parts.{Parts}
-use Rattle.dg_session.specs.Session.{Accepts, StandsFor, find_needs, indexed_keys, is_indexed_by, refused_by}
+use Rattle.dg_session.specs.Session.{Accepts, StandsFor, find_needs, refused_by}
 use Rattle.dg_session.specs.ValuesSaid.{AreFound, IndexKept, said_of}
 use Rattle.dg_text.specs.Names.{number_of}
-
--- ---- what is refused
-
-or_none : (a : Bool) → (a || false) ≡ a
-or_none true = refl
-or_none false = refl
-
-module _ (p : Parts) (t : ℕ) (text : List ℕ) where
-  pub find_none_there : is_some p.index ≡ false → refused_by p 0 (find_needs t text) ≡ Some refusal.NoIndex
-  find_none_there e = hit (not (is_some p.index)) refusal.NoIndex _ (ap not e)
-
-  module _ (there : is_some p.index ≡ true) where
-    pub find_outside : in_range (span_held p.index) t ≡ false → refused_by p 0 (find_needs t text) ≡ Some (refusal.OutOfRange (span_held p.index))
-    find_outside e =
-        miss (not (is_some p.index)) refusal.NoIndex _ (ap not there)
-        ∙ hit (not (in_range (span_held p.index) t) || false) (refusal.OutOfRange (span_held p.index)) _ (or_none (not (in_range (span_held p.index) t)) ∙ ap not e)
-
-    module _ (inside : in_range (span_held p.index) t ≡ true) where
-      pub find_not_indexed : is_indexed_by p text ≡ false → refused_by p 0 (find_needs t text) ≡ Some refusal.NotIndexed
-      find_not_indexed e =
-          miss (not (is_some p.index)) refusal.NoIndex _ (ap not there)
-          ∙ miss (not (in_range (span_held p.index) t) || false) (refusal.OutOfRange (span_held p.index)) _ (or_none (not (in_range (span_held p.index) t)) ∙ ap not inside)
-          ∙ hit (not (is_indexed_by p text)) refusal.NotIndexed _ (ap not e)
-
-      pub find_free : is_indexed_by p text ≡ true → refused_by p 0 (find_needs t text) ≡ None
-      find_free e =
-          miss (not (is_some p.index)) refusal.NoIndex _ (ap not there)
-          ∙ miss (not (in_range (span_held p.index) t) || false) (refusal.OutOfRange (span_held p.index)) _ (or_none (not (in_range (span_held p.index) t)) ∙ ap not inside)
-          ∙ miss (not (is_indexed_by p text)) refusal.NotIndexed _ (ap not e)
-
--- the key has this number
-pub indexed_as : (p : Parts) (text : List ℕ) (number : Option ℕ) (there : Bool) → number_of p.names text ≡ number → is_among (indexed_keys p) number ≡ there → is_indexed_by p text ≡ there
-indexed_as p text number there named is = ap (is_among (indexed_keys p)) named ∙ is
 
 -- ---- what is found
 

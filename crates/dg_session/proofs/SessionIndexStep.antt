@@ -1,7 +1,6 @@
 -- The answer to `index`.
-use Rattle.std.proofs.Common.{◌≡◌, inl, inr, ℕ, true, false, not, List, [], ◌∷◌, ◌++◌, Option, Some, None, Result, Ok, Err, length, nat_le, refl, sym, ◌∙◌, ap, subst}
+use Rattle.std.proofs.Common.{◌≡◌, inl, inr, ℕ, true, false, List, [], ◌∷◌, ◌++◌, Option, Some, None, Result, Ok, Err, length, refl, sym, ◌∙◌, ap, subst}
 use Rattle.std.specs.Prelude.{IfOk, IfSome, is_some}
-use Rattle.std.proofs.lemmas.Bool.{not-false}
 use Rattle.std.proofs.lemmas.List.{map-append}
 use Rattle.dg_aux.specs.Turns.{AuxState, ValuesSaid, additions, said_by, said_over, says, turns_of}
 use Rattle.dg_aux.specs.TurnLaws.{TurnsAddAsEvents}
@@ -14,15 +13,13 @@ use Rattle.dg_index.specs.ImageOfHistory.{StandsAs}
 use Rattle.dg_index.specs.OpenedIndex.{Opening, opened_of}
 use Rattle.dg_machine.specs.declared.command.Command.{Command}
 use Rattle.dg_machine.specs.declared.command.Command.TheVariants as command
-use Rattle.dg_machine.specs.declared.limits.TheConstants.{INDEXES_MAX}
 use Rattle.dg_machine.specs.declared.reply.Head.TheVariants as head
-use Rattle.dg_machine.specs.declared.reply.Refusal.TheVariants as refusal
 use Rattle.dg_machine.specs.declared.reply.Reply.{Reply}
 use Rattle.dg_machine.specs.declared.texts.KeyText.{KeyText}
 use Rattle.dg_machine.specs.Answer.{accepted, headed, is_refusal, weight_told}
 use Rattle.dg_machine.specs.MachineState.{MachineState, history_in, names_in}
 use Rattle.dg_machine.specs.Planning.{IsPlanned, Planned, no_plan}
-use Rattle.dg_machine.specs.ValueIndex.{is_among, key_text, node_attrs_length}
+use Rattle.dg_machine.specs.ValueIndex.{key_text, node_attrs_length}
 use Rattle.dg_range.specs.ColumnRuns.{TakesColumns, bytes_along}
 use Rattle.dg_range.specs.ListValues.{IsFirstValueDamage, SaysValuesOf, TellsValueDamage, all_node_columns, values_along}
 use Rattle.dg_range.specs.ValueLaw.{HasValuesOf, ImagesHaveValues}
@@ -30,7 +27,7 @@ use Rattle.dg_records.specs.declared.fault.RecordFault.{RecordFault}
 use Rattle.dg_records.specs.declared.fault.RecordFault.TheVariants as fault
 use Rattle.dg_retrieval.specs.Retrieval.{IsNoDamage}
 use Rattle.dg_session.proofs.IndexesSaid.{alike_says}
-use Rattle.dg_session.proofs.PartStates.{IsOf, are_of, hit, is_of, kept, miss, one_image, one_told, passes, stands}
+use Rattle.dg_session.proofs.PartStates.{IsOf, are_of, is_of, kept, one_image, one_told, stands}
 use Rattle.dg_session.proofs.ReplyNames.{head_names, names_stay}
 use Rattle.dg_session.proofs.SessionRetrievals.{IsSession, if_some, moved_with, reads_failed, z_of}
 use Rattle.dg_session.specs.BatchReads.{is_early}
@@ -38,47 +35,15 @@ use Rattle.dg_session.specs.Damage.{TellsListDamage}
 use Rattle.dg_session.specs.Decided.{Fits}
 use Rattle.dg_session.specs.Parts.{Parts}
 use Rattle.dg_session.specs.Reads.{IndexesFor, Reads, with_new_index}
-use Rattle.dg_session.specs.Session.{Accepts, HoldsImage, StandsFor, index_needs, indexed_keys, is_indexed_by, refused_by}
+use Rattle.dg_session.proofs.Needed.{has_needed}
+use Rattle.dg_session.specs.Session.{Accepts, HoldsImage, StandsFor, index_needs, refused_by}
 use Rattle.dg_session.specs.ValuesSaid.{kept_of, said_of}
 use Rattle.dg_text.specs.Lines.{ScriptLine}
 use Rattle.dg_text.specs.Names.{number_in, number_of, number_or}
 
--- ---- what is refused
-
-module _ (p : Parts) (text : List ℕ) where
-  pub none_there : is_some p.index ≡ false → refused_by p 0 (index_needs text) ≡ Some refusal.NoIndex
-  none_there e = hit (not (is_some p.index)) refusal.NoIndex _ (ap not e)
-
-  module _ (there : is_some p.index ≡ true) where
-    pub key_unknown : number_of p.names text ≡ None → refused_by p 0 (index_needs text) ≡ Some refusal.UnknownKey
-    key_unknown e =
-        miss (not (is_some p.index)) refusal.NoIndex _ (ap not there)
-        ∙ hit (not (is_some (number_of p.names text))) refusal.UnknownKey _ (ap (λ (o : Option ℕ). not (is_some o)) e)
-
-    module _ (key : ℕ) (named : number_of p.names text ≡ Some key) where
-      pub key_indexed : is_among (indexed_keys p) (Some key) ≡ true → refused_by p 0 (index_needs text) ≡ Some refusal.AlreadyIndexed
-      key_indexed e =
-          miss (not (is_some p.index)) refusal.NoIndex _ (ap not there)
-          ∙ miss (not (is_some (number_of p.names text))) refusal.UnknownKey _ (ap (λ (o : Option ℕ). not (is_some o)) named)
-          ∙ hit (is_indexed_by p text) refusal.AlreadyIndexed _ (ap (is_among (indexed_keys p)) named ∙ e)
-
-      pub indexes_full : is_among (indexed_keys p) (Some key) ≡ false → nat_le INDEXES_MAX (length p.indexes) ≡ true → refused_by p 0 (index_needs text) ≡ Some refusal.IndexesFull
-      indexes_full e full =
-          miss (not (is_some p.index)) refusal.NoIndex _ (ap not there)
-          ∙ miss (not (is_some (number_of p.names text))) refusal.UnknownKey _ (ap (λ (o : Option ℕ). not (is_some o)) named)
-          ∙ miss (is_indexed_by p text) refusal.AlreadyIndexed _ (ap (is_among (indexed_keys p)) named ∙ e)
-          ∙ hit (nat_le INDEXES_MAX (length p.indexes)) refusal.IndexesFull _ full
-
-      pub key_free : is_among (indexed_keys p) (Some key) ≡ false → nat_le INDEXES_MAX (length p.indexes) ≡ false → refused_by p 0 (index_needs text) ≡ None
-      key_free e room =
-          miss (not (is_some p.index)) refusal.NoIndex _ (ap not there)
-          ∙ miss (not (is_some (number_of p.names text))) refusal.UnknownKey _ (ap (λ (o : Option ℕ). not (is_some o)) named)
-          ∙ miss (is_indexed_by p text) refusal.AlreadyIndexed _ (ap (is_among (indexed_keys p)) named ∙ e)
-          ∙ miss (nat_le INDEXES_MAX (length p.indexes)) refusal.IndexesFull _ room
-
 -- where nothing refuses it, there is an index
 pub index_there : (p : Parts) (text : List ℕ) → refused_by p 0 (index_needs text) ≡ None → is_some p.index ≡ true
-index_there p text none = not-false (is_some p.index) (passes (not (is_some p.index)) refusal.NoIndex _ none).0
+index_there p text none = (has_needed p 0 (index_needs text) none).index refl
 
 -- ---- the answer
 

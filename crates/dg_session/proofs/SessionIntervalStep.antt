@@ -1,9 +1,7 @@
 -- The answer to an interval.
-use Rattle.std.proofs.Common.{◌≡◌, ℕ, ◌+◌, ◌≤◌, true, false, not, List, [], ◌∷◌, Option, Some, None, Result, Ok, Err, length, nat_lt, refl, sym, ◌∙◌, ap, subst, arith}
+use Rattle.std.proofs.Common.{◌≡◌, ℕ, ◌+◌, ◌≤◌, true, false, not, List, [], ◌∷◌, Option, Some, None, Result, Ok, Err, length, refl, sym, ◌∙◌, ap, subst, arith}
 use Rattle.std.specs.Prelude.{IfOk, IfSome, is_some}
-use Rattle.std.proofs.lemmas.Bool.{not-false}
 use Rattle.std.proofs.lemmas.List.Elements.{All-cons, All-nil}
-use borrow.Author.Tests.{ltb-false}
 use Rattle.dg_added.specs.Additions.{added_between}
 use Rattle.dg_ask.specs.HeldIndex.{span_held}
 use Rattle.dg_fold.specs.BytesRead.{Takes, TakesAtMost}
@@ -19,7 +17,6 @@ use Rattle.dg_machine.specs.declared.command.Command.{Command}
 use Rattle.dg_machine.specs.declared.command.Command.TheVariants as command
 use Rattle.dg_machine.specs.declared.limits.TheConstants.{HANDLE_MAX, LIVE_HANDLES_MAX}
 use Rattle.dg_machine.specs.declared.reply.Head.TheVariants as head
-use Rattle.dg_machine.specs.declared.reply.Refusal.TheVariants as refusal
 use Rattle.dg_machine.specs.declared.reply.Reply.{Reply}
 use Rattle.dg_machine.specs.declared.selection.Selection.TheVariants.{Added}
 use Rattle.dg_machine.specs.declared.stands.Stands.{Stands}
@@ -38,31 +35,25 @@ use Rattle.dg_retrieval.specs.Retrieval.{IsNoDamage}
 use Rattle.dg_session.proofs.ChosenGraphs.{if_ok}
 use Rattle.dg_session.proofs.GraphSets.{shown_again}
 use Rattle.dg_session.proofs.IntervalLists.{added_is, interval_weighs, none_damaged}
-use Rattle.dg_session.proofs.PartStates.{IsOf, events_there, instants_are, is_of, last_passes, one_image, one_told, passes}
+use Rattle.dg_session.proofs.PartStates.{IsOf, events_there, instants_are, is_of, one_image, one_told}
 use Rattle.dg_session.proofs.ReplyNames.{head_names}
 use Rattle.dg_session.proofs.SessionRetrievals.{IsSession, handles_taken, if_some, moved_with, reads_failed, retrieval_accepted, z_of}
 use Rattle.dg_session.specs.BatchReads.{is_early}
 use Rattle.dg_session.specs.Decided.{Fits}
 use Rattle.dg_session.specs.Parts.{Parts}
 use Rattle.dg_session.specs.Reads.{AddsFor, Reads, with_new_handles}
+use Rattle.dg_session.proofs.Needed.{has_needed}
 use Rattle.dg_session.specs.Session.{Accepts, StandsFor, interval_needs, is_reached, refused_by}
 use Rattle.dg_text.specs.Lines.{ScriptLine}
 
--- ---- what is refused
+-- ---- what is not refused
 
 -- what an interval that is not refused finds: an index, two instants that it may lie between, and room for the handle
 pub interval_free : (p : Parts) (from until : ℕ) → refused_by p 0 (interval_needs from until) ≡ None
     → (is_some p.index ≡ true) × (is_out_of_range (span_held p.index) (from ∷ []) (Some until) ≡ false) × (length p.table + 1 ≤ LIVE_HANDLES_MAX) × (p.next + 1 ≤ HANDLE_MAX + 1)
 interval_free p from until none =
-    let a = passes (not (is_some p.index)) refusal.NoIndex _ none in
-    let b = passes (is_out_of_range (span_held p.index) (from ∷ []) (Some until)) (refusal.OutOfRange (span_held p.index)) _ a.1 in
-    let c = passes (nat_lt LIVE_HANDLES_MAX (length p.table + 1)) (refusal.PoolFull (length p.table) 1) _ b.1 in
-    let d = last_passes (nat_lt (HANDLE_MAX + 1) (p.next + 1)) refusal.HandlesSpent c.1 in (
-      not-false (is_some p.index) a.0,
-      b.0,
-      omega (arith, ltb-false LIVE_HANDLES_MAX (length p.table + 1) c.0),
-      omega (arith, ltb-false (HANDLE_MAX + 1) (p.next + 1) d),
-    )
+    let has = has_needed p 0 (interval_needs from until) none in
+    (has.index refl, has.instants, has.room (omega arith), has.numbers (omega arith))
 
 -- ---- the answer
 

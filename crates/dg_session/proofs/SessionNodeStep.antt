@@ -1,9 +1,7 @@
 -- The answer to the holding of a node.
-use Rattle.std.proofs.Common.{◌≡◌, ℕ, ◌+◌, ◌≤◌, true, false, not, List, [], ◌∷◌, Option, Some, None, refl, sym, ◌∙◌, ap, subst, nat_lt, length, arith}
-use Rattle.std.specs.Prelude.{◌&&◌, ◌++◌, IfOk, IfSome, Result, Ok, Err, is_some}
+use Rattle.std.proofs.Common.{◌≡◌, ℕ, ◌+◌, ◌≤◌, true, false, List, [], ◌∷◌, Option, Some, None, refl, sym, ◌∙◌, ap, subst, length, arith}
+use Rattle.std.specs.Prelude.{IfOk, IfSome, Result, Ok, Err, is_some}
 use Rattle.std.proofs.lemmas.List.Elements.{All-cons, All-nil}
-use Rattle.std.proofs.lemmas.Bool.{not-false}
-use borrow.Author.Tests.{ltb-false}
 use Rattle.dg_fold.specs.BytesRead.{Takes, TakesAtMost}
 use Rattle.dg_graph.specs.declared.element.Columns.{Columns}
 use Rattle.dg_graph.specs.declared.element.Element.{Element}
@@ -14,13 +12,12 @@ use Rattle.dg_history.specs.History.{History}
 use Rattle.dg_machine.specs.declared.command.Command.TheVariants as command
 use Rattle.dg_machine.specs.declared.limits.TheConstants.{HANDLE_MAX, LIVE_HANDLES_MAX}
 use Rattle.dg_machine.specs.declared.reply.Head.TheVariants as head
-use Rattle.dg_machine.specs.declared.reply.Refusal.TheVariants as refusal
 use Rattle.dg_machine.specs.declared.reply.Reply.{Reply}
 use Rattle.dg_machine.specs.declared.stands.Stands.{Stands}
 use Rattle.dg_machine.specs.declared.stands.Stands.TheVariants.{Base}
 use Rattle.dg_machine.specs.Answer.{accepted, headed, is_refusal, weight_told, with_handle}
 use Rattle.dg_machine.specs.MachineState.{MachineState, elements, history_in}
-use Rattle.dg_machine.specs.Needs.{can_be_held, earliest, when}
+use Rattle.dg_machine.specs.Needs.{can_be_held}
 use Rattle.dg_machine.specs.Planning.{IsPlanned, Planned, no_plan, record_edges_in}
 use Rattle.dg_plan.specs.IndexGraph.{arcs_of}
 use Rattle.dg_plan.specs.Walks.{IsPlan, weight_of}
@@ -38,7 +35,7 @@ use Rattle.dg_session.proofs.NodeLeads.{led_with_messages}
 use Rattle.dg_session.proofs.ReplyNames.{head_names}
 use Rattle.dg_session.proofs.PlanStep.{records_edges_in}
 use Rattle.dg_session.proofs.SessionRetrievals.{every_some, handles_taken, if_some, moved_with, reads_failed, retrieval_accepted, z_of}
-use Rattle.dg_session.proofs.PartStates.{events_are, events_there, hit, is_of, last_passes, miss, one_image, one_told, params_are, passes}
+use Rattle.dg_session.proofs.PartStates.{events_are, events_there, is_of, one_image, one_told, params_are}
 use Rattle.dg_ask.specs.HeldIndex.{has_node_held}
 use Rattle.dg_session.specs.Decided.{Fits}
 use Rattle.dg_session.specs.Parts.{Parts}
@@ -46,60 +43,17 @@ use Rattle.dg_retrieval.specs.Calls.{LeadsToNode, LeadsToNodeOver}
 use Rattle.dg_retrieval.specs.NamesThere.{NamesAreThere}
 use Rattle.dg_session.specs.BatchReads.{is_early}
 use Rattle.dg_session.specs.Reads.{HoldsNodeFor, IsNodeHeld, Reads, with_new_handles}
+use Rattle.dg_session.proofs.Needed.{has_needed}
 use Rattle.dg_session.specs.Session.{Accepts, StandsFor, is_reached, node_needs, refused_by}
 
--- ---- what is refused
+-- ---- what is not refused
 
-module _ (p : Parts) (node : NodeId) where
-  -- there is no index
-  pub no_index_refused : is_some p.index ≡ false → refused_by p 0 (node_needs node) ≡ Some refusal.NoIndex
-  no_index_refused none = hit (not (is_some p.index)) refusal.NoIndex _ (ap not none)
-
-  -- the index has no such node
-  pub unknown_refused : is_some p.index ≡ true → has_node_held p.index node ≡ false → refused_by p 0 (node_needs node) ≡ Some refusal.UnknownNode
-  unknown_refused there none =
-      miss (not (is_some p.index)) refusal.NoIndex _ (ap not there) ∙ hit (not (has_node_held p.index node)) refusal.UnknownNode _ (ap not none)
-
-  behind_node : is_some p.index ≡ true → has_node_held p.index node ≡ true
-      → refused_by p 0 (node_needs node) ≡ earliest (when (nat_lt 0 1 && nat_lt LIVE_HANDLES_MAX (length p.table + 1)) (refusal.PoolFull (length p.table) 1) ++ when (nat_lt 0 1 && nat_lt (HANDLE_MAX + 1) (p.next + 1)) refusal.HandlesSpent)
-  behind_node there has =
-      miss (not (is_some p.index)) refusal.NoIndex _ (ap not there) ∙ miss (not (has_node_held p.index node)) refusal.UnknownNode _ (ap not has)
-
-  -- the pool is full
-  pub full_refused : (live : ℕ) → is_some p.index ≡ true → has_node_held p.index node ≡ true → live ≡ length p.table → nat_lt LIVE_HANDLES_MAX (live + 1) ≡ true
-      → refused_by p 0 (node_needs node) ≡ Some (refusal.PoolFull live 1)
-  full_refused live there has is full =
-      behind_node there has
-      ∙ hit (nat_lt LIVE_HANDLES_MAX (length p.table + 1)) (refusal.PoolFull (length p.table) 1) _ (ap (λ n. nat_lt LIVE_HANDLES_MAX (n + 1)) (sym is) ∙ full)
-      ∙ ap (λ n. Some (refusal.PoolFull n 1)) (sym is)
-
-  -- no handle is left
-  pub spent_refused : is_some p.index ≡ true → has_node_held p.index node ≡ true → nat_lt LIVE_HANDLES_MAX (length p.table + 1) ≡ false → nat_lt (HANDLE_MAX + 1) (p.next + 1) ≡ true
-      → refused_by p 0 (node_needs node) ≡ Some refusal.HandlesSpent
-  spent_refused there has room spent =
-      behind_node there has ∙ miss (nat_lt LIVE_HANDLES_MAX (length p.table + 1)) (refusal.PoolFull (length p.table) 1) _ room
-      ∙ ap (λ b. earliest (when b refusal.HandlesSpent)) spent
-
-  -- nothing is
-  pub node_free : is_some p.index ≡ true → has_node_held p.index node ≡ true → nat_lt LIVE_HANDLES_MAX (length p.table + 1) ≡ false → nat_lt (HANDLE_MAX + 1) (p.next + 1) ≡ false
-      → refused_by p 0 (node_needs node) ≡ None
-  node_free there has room left =
-      behind_node there has ∙ miss (nat_lt LIVE_HANDLES_MAX (length p.table + 1)) (refusal.PoolFull (length p.table) 1) _ room
-      ∙ ap (λ b. earliest (when b refusal.HandlesSpent)) left
-
-  -- what a holding that is not refused finds: an index that has the node, and room for the handle
-  pub found_free : refused_by p 0 (node_needs node) ≡ None
-      → (is_some p.index ≡ true) × (has_node_held p.index node ≡ true) × (length p.table + 1 ≤ LIVE_HANDLES_MAX) × (p.next + 1 ≤ HANDLE_MAX + 1)
-  found_free none =
-      let a = passes (not (is_some p.index)) refusal.NoIndex _ none in
-      let b = passes (not (has_node_held p.index node)) refusal.UnknownNode _ a.1 in
-      let c = passes (nat_lt LIVE_HANDLES_MAX (length p.table + 1)) (refusal.PoolFull (length p.table) 1) _ b.1 in
-      let d = last_passes (nat_lt (HANDLE_MAX + 1) (p.next + 1)) refusal.HandlesSpent c.1 in (
-        not-false (is_some p.index) a.0,
-        not-false (has_node_held p.index node) b.0,
-        omega (arith, ltb-false LIVE_HANDLES_MAX (length p.table + 1) c.0),
-        omega (arith, ltb-false (HANDLE_MAX + 1) (p.next + 1) d),
-      )
+-- what a holding that is not refused finds: an index that has the node, and room for the handle
+pub found_free : (p : Parts) (node : NodeId) → refused_by p 0 (node_needs node) ≡ None
+    → (is_some p.index ≡ true) × (has_node_held p.index node ≡ true) × (length p.table + 1 ≤ LIVE_HANDLES_MAX) × (p.next + 1 ≤ HANDLE_MAX + 1)
+found_free p node none =
+    let has = has_needed p 0 (node_needs node) none in
+    (has.index refl, has.node node refl, has.room (omega arith), has.numbers (omega arith))
 
 -- ---- the answer
 

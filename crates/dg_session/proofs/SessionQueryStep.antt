@@ -18,7 +18,8 @@ use Rattle.dg_machine.specs.declared.reply.Reply.{Reply}
 use Rattle.dg_machine.specs.declared.stands.Stands.{Stands}
 use Rattle.dg_machine.specs.Answer.{columns_by, columns_if, elements_if, is_refusal, query_reply, say, shown_by}
 use Rattle.dg_machine.specs.MachineState.{MachineState, elements, stands_at, history_in}
-use Rattle.dg_machine.specs.Needs.{needs}
+use Rattle.dg_machine.specs.Needs.{needs, nothing_more}
+use Rattle.dg_machine.specs.QueryTable.{is_of_nodes}
 use Rattle.dg_retrieval.specs.NamesThere.{NamesAreThere}
 use Rattle.dg_session.proofs.GraphNames.{there_among}
 use Rattle.dg_session.proofs.PartStates.{one_image, stands_on}
@@ -48,6 +49,11 @@ shown_are p image m handle graph s is =
     graph_of_entry (history_in m.index) handle m.table graph ((λ i. graph_among handle (sym s.table i) (sym s.graphs i)) ∙ is)
 
 -- ---- what is asked
+
+-- what is refused of it is refused of a query that is of nodes or is not
+pub ask_refused : (p : Parts) (handle : ℕ) (q : Query) (of_nodes : Bool) → of_nodes ≡ is_of_nodes q
+    → refused_by p 0 (needs (command.Ask handle q)) ≡ refused_by p 0 (record nothing_more { handle = Some handle; overlay = of_nodes })
+ask_refused p handle q of_nodes is = ap (λ b. refused_by p 0 (record nothing_more { handle = Some handle; overlay = b })) (sym is)
 
 pub ask_answers : (handle : ℕ) (q : Query) (p : Parts) (graph : List Element) (image : Option (List ℕ)) (reply : Reply) → refused_by p 0 (needs (command.Ask handle q)) ≡ None → graph_among handle p.table p.graphs ≡ Some graph
     → reply ≡ query_reply q handle (columns_if (stands_at handle p.table)) graph → All (NamesAreThere (length p.names)) p.graphs → Accepts (command.Ask handle q) [] p image p image reply

@@ -1,6 +1,6 @@
 -- The answer to a release.
-use Rattle.std.proofs.Common.{◌≡◌, ℕ, Bool, true, false, ◌==◌, not, List, [], ◌∷◌, ◌++◌, Option, Some, None, if◌then◌else◌, map, length, refl, sym, ◌∙◌, ap, subst}
-use Rattle.std.specs.Prelude.{IfSome, is_some}
+use Rattle.std.proofs.Common.{◌≡◌, ℕ, Bool, true, false, ◌==◌, List, [], ◌∷◌, ◌++◌, Option, Some, None, if◌then◌else◌, map, length, refl, sym, ◌∙◌, ap, subst}
+use Rattle.std.specs.Prelude.{IfSome}
 use Rattle.std.specs.List.{All}
 use Rattle.std.proofs.lemmas.Bool.{false≢true}
 use Rattle.std.proofs.lemmas.List.Elements.{All-cons, All-head, All-nil, All-same, All-tail}
@@ -11,21 +11,19 @@ use Rattle.dg_history.specs.declared.node.NodeId.{NodeId}
 use Rattle.dg_history.specs.History.{History}
 use Rattle.dg_machine.specs.declared.command.Command.TheVariants as command
 use Rattle.dg_machine.specs.declared.reply.Head.TheVariants as head
-use Rattle.dg_machine.specs.declared.reply.Refusal.{Refusal}
-use Rattle.dg_machine.specs.declared.reply.Refusal.TheVariants as refusal
 use Rattle.dg_machine.specs.declared.reply.Reply.{Reply}
 use Rattle.dg_machine.specs.declared.stands.Stands.{Stands}
 use Rattle.dg_machine.specs.declared.stands.Stands.TheVariants.{Overlay, Base, Selected}
 use Rattle.dg_machine.specs.Answer.{Answered, headed, is_refusal}
-use Rattle.dg_machine.specs.MachineState.{MachineState, dependent_on, elements, stands_at, history_in, without_handle}
+use Rattle.dg_machine.specs.MachineState.{MachineState, elements, stands_at, history_in, without_handle}
 use Rattle.dg_index.specs.OpenedIndex.{Opening}
-use Rattle.dg_machine.specs.Needs.{earliest, needs, of}
+use Rattle.dg_machine.specs.Needs.{needs}
 use Rattle.dg_machine.specs.Planning.{bases_in, usable}
 use Rattle.dg_planner.specs.Whole.{PlannerGraph}
 use Rattle.dg_ask.specs.KeptPlanner.{IsGraphOver, IsKeptFor}
 use Rattle.dg_ask.proofs.HeldIndexHandles.{kept_same}
 use Rattle.dg_session.proofs.ReplyNames.{head_names, names_stay}
-use Rattle.dg_session.proofs.PartStates.{hit, kept, miss, one_image, parts_of, stands}
+use Rattle.dg_session.proofs.PartStates.{kept, one_image, parts_of, stands}
 use Rattle.dg_session.proofs.SessionSteps.{moved}
 use Rattle.dg_session.specs.Decided.{Fits}
 use Rattle.dg_session.specs.Parts.{Parts}
@@ -107,34 +105,17 @@ stands_without p q image m handle s is =
     (all_without (λ (e : ℕ × Stands). is_reached (history_in m.index) e.1 ≡ true) handle m.table s.reached)
     (λ none. ap (without_handle handle) (s.no_handles none))
 
-pub release_refused : (p : Parts) (handle : ℕ) → is_some (stands_at handle p.table) ≡ false → refused_by p 0 (needs (command.Release handle)) ≡ Some (refusal.UnknownHandle handle)
-release_refused p handle none = hit (not (is_some (stands_at handle p.table))) (refusal.UnknownHandle handle) _ (ap not none)
-
--- the refusal by a handle that rests on this one, if there is one
-abbrev by_dependent : Option ℕ → Option Refusal
-by_dependent d = earliest (of d (λ h. refusal.InUse h ∷ []) ++ [])
-
-pub release_used : (p : Parts) (handle dependent : ℕ) → is_some (stands_at handle p.table) ≡ true → dependent_on handle p.table ≡ Some dependent
-    → refused_by p 0 (needs (command.Release handle)) ≡ Some (refusal.InUse dependent)
-release_used p handle dependent some is =
-    miss (not (is_some (stands_at handle p.table))) (refusal.UnknownHandle handle) _ (ap not some) ∙ ap by_dependent is
-
-pub release_free : (p : Parts) (handle : ℕ) → is_some (stands_at handle p.table) ≡ true → dependent_on handle p.table ≡ None → refused_by p 0 (needs (command.Release handle)) ≡ None
-release_free p handle some unused =
-    miss (not (is_some (stands_at handle p.table))) (refusal.UnknownHandle handle) _ (ap not some) ∙ ap by_dependent unused
-
-pub release_answers : (p q : Parts) (handle : ℕ) (image : Option (List ℕ)) (reply : Reply) → is_some (stands_at handle p.table) ≡ true → dependent_on handle p.table ≡ None
-    → q ≡ parts_without handle p → reply ≡ headed (head.Released handle) → Accepts (command.Release handle) [] p image q image reply
-release_answers p q handle image reply live unused is reply_is = record {
+pub release_answers : (p q : Parts) (handle : ℕ) (image : Option (List ℕ)) (reply : Reply) → refused_by p 0 (needs (command.Release handle)) ≡ None → q ≡ parts_without handle p → reply ≡ headed (head.Released handle) → Accepts (command.Release handle) [] p image q image reply
+release_answers p q handle image reply free is reply_is = record {
   moves =
-      moved (command.Release handle) [] p q image image reply (λ m. refl) (release_free p handle live unused)
-      (λ m x y a b s free. (
+      moved (command.Release handle) [] p q image image reply (λ m. refl) free
+      (λ m x y a b s none. (
         state_without handle m,
         (λ i. let r : Answered = record { reply = sym reply_is i; state = state_without handle m } in r),
         stands_without p q y m handle (subst (λ z. StandsFor p z m) (one_image image image x y refl a b) s) is,
       ));
   accepted = ap is_refusal reply_is;
-  free = release_free p handle live unused;
+  free = free;
   fits = subst (Fits (command.Release handle)) (sym reply_is) refl;
   held = λ h. subst (λ (x : Parts). IfSome image (λ bytes. IsHeldBy x.index x.names bytes)) (sym is) h;
   no_index = λ h. (ap (λ (x : Parts). x.index) (sym is) ∙ h, refl);

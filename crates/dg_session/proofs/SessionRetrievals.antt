@@ -1,11 +1,10 @@
 -- What a retrieval gives of the state that a session stands for, and how its answer is a step of the machine.
-use Rattle.std.proofs.Common.{◌≡◌, inl, inr, ⊎_elim, ℕ, suc, ◌+◌, ◌≤◌, ◌<◌, Bool, true, false, not, List, [], ◌∷◌, ◌++◌, Option, Some, None, Err, length, map, refl, sym, ◌∙◌, ap, subst, arith, nat_lt, append_assoc}
-use Rattle.std.specs.Prelude.{IfSome, is_some, ◌||◌, ◌&&◌}
+use Rattle.std.proofs.Common.{◌≡◌, inl, inr, ⊎_elim, ℕ, suc, ◌+◌, ◌≤◌, Bool, true, false, not, List, [], ◌∷◌, ◌++◌, Option, Some, None, Err, length, map, refl, sym, ◌∙◌, ap, subst, arith, append_assoc}
+use Rattle.std.specs.Prelude.{IfSome, is_some, ◌||◌}
 use Rattle.std.specs.List.{All, Contains, list_any}
-use Rattle.std.proofs.lemmas.Bool.{false≢true, not-false, and_right}
+use Rattle.std.proofs.lemmas.Bool.{false≢true, not-false}
 use Rattle.std.proofs.lemmas.List.{append-nil}
 use Rattle.std.proofs.lemmas.List.Elements.{All-cons, All-head, All-nil, All-tail}
-use borrow.Author.Tests.{le-ltb, lt-ltb, ltb-false}
 use Rattle.dg_fold.specs.BytesRead.{Takes, TakesAtMost}
 use Rattle.dg_graph.specs.declared.element.Column.{Column}
 use Rattle.dg_graph.specs.declared.element.Columns.{Columns}
@@ -27,7 +26,7 @@ use Rattle.dg_machine.specs.declared.stands.Stands.{Stands}
 use Rattle.dg_machine.specs.declared.stands.Stands.TheVariants.{Overlay}
 use Rattle.dg_machine.specs.Answer.{Answered, IsPlannedBy, accepted, is_refusal, overlays, weight_told, with_handle, with_handles}
 use Rattle.dg_machine.specs.MachineState.{MachineState, elements, history_in}
-use Rattle.dg_machine.specs.Needs.{earliest, needs, refused, when}
+use Rattle.dg_machine.specs.Needs.{needs, refused}
 use Rattle.dg_machine.specs.Planning.{IsPlanned, Planned, point_for, points_for}
 use Rattle.dg_plan.specs.InstantPoint.{point}
 use Rattle.dg_file.specs.Index.{IndexState}
@@ -38,7 +37,7 @@ use Rattle.dg_retrieval.specs.Retrieval.{ArePoints, IsNoDamage, IsOver}
 use Rattle.dg_session.proofs.ReplyNames.{names_stay}
 use Rattle.dg_session.proofs.PlanStep.{point_here, point_is}
 use Rattle.dg_ask.proofs.PointNodes.{IsSoundIndex, point_there}
-use Rattle.dg_session.proofs.PartStates.{events_there, handle_taken, hit, instants_are, miss, is_of, last_passes, one_told, passes, refused_is}
+use Rattle.dg_session.proofs.PartStates.{events_there, handle_taken, instants_are, miss, is_of, one_told, passes, refused_is}
 use Rattle.dg_session.proofs.SessionSteps.{AcceptedBehindReads, accepted_is, accepted_steps, failing_accepted, lacking_denies}
 use Rattle.dg_batch.specs.Halt.{retrieval_halt}
 use Rattle.dg_session.specs.contracts.session.Session.{the_view}
@@ -50,9 +49,10 @@ use Rattle.dg_session.specs.Parts.{Parts}
 use Rattle.dg_session.specs.BatchReads.{is_early}
 use Rattle.dg_session.specs.Reads.{IsRetrieved, Reads, ReadsAsTold, ReadsBy, ReadsIn, with_new_handles}
 use Rattle.dg_stored.specs.StoredHistory.{IsHeldBy, index_opening}
+use Rattle.dg_session.proofs.Needed.{has_needed}
 use Rattle.dg_session.specs.Session.{Accepts, ComesTo, Moves, StandsFor, WhereBothTold, is_reached, refused_by, retrieval_needs}
 
--- ---- what is refused
+-- ---- what is not refused
 
 -- the instant does not lie between these
 abbrev pub is_out : Option (ℕ × ℕ) → ℕ → Bool
@@ -63,48 +63,8 @@ pub retrieval_free : (p : Parts) (times : List ℕ) (n : ℕ) → 1 ≤ n → re
     → (is_some p.index ≡ true) × (list_any (is_out (span_held p.index)) times ≡ false) × (length p.table + n ≤ LIVE_HANDLES_MAX)
     × (p.next + n ≤ HANDLE_MAX + 1)
 retrieval_free p times n some none =
-    let a = passes (not (is_some p.index)) refusal.NoIndex _ none in
-    let b = passes (list_any (is_out (span_held p.index)) times) (refusal.OutOfRange (span_held p.index)) _ a.1 in
-    let c = passes (nat_lt 0 n && nat_lt LIVE_HANDLES_MAX (length p.table + n)) (refusal.PoolFull (length p.table) n) _ b.1 in
-    let d = last_passes (nat_lt 0 n && nat_lt (HANDLE_MAX + 1) (p.next + n)) refusal.HandlesSpent c.1 in
-    let room : nat_lt LIVE_HANDLES_MAX (length p.table + n) ≡ false = ap (λ x. x && nat_lt LIVE_HANDLES_MAX (length p.table + n)) (sym (lt-ltb 0 n some)) ∙ c.0 in
-    let left : nat_lt (HANDLE_MAX + 1) (p.next + n) ≡ false = ap (λ x. x && nat_lt (HANDLE_MAX + 1) (p.next + n)) (sym (lt-ltb 0 n some)) ∙ d in (
-      not-false (is_some p.index) a.0,
-      b.0,
-      omega (arith, ltb-false LIVE_HANDLES_MAX (length p.table + n) room),
-      omega (arith, ltb-false (HANDLE_MAX + 1) (p.next + n) left),
-    )
-
--- the first that holds of them is that the pool is full
-pub pool_refused : (p : Parts) (times : List ℕ) (n live : ℕ) → is_some p.index ≡ true → list_any (is_out (span_held p.index)) times ≡ false → live ≡ length p.table → live ≤ LIVE_HANDLES_MAX
-    → LIVE_HANDLES_MAX < live + n → refused_by p 0 (retrieval_needs times n) ≡ Some (refusal.PoolFull live n)
-pool_refused p times n live there out live_is most full =
-    let many : nat_lt LIVE_HANDLES_MAX (length p.table + n) ≡ true = lt-ltb LIVE_HANDLES_MAX (length p.table + n) (omega (arith, live_is, full)) in
-    let some : nat_lt 0 n ≡ true = lt-ltb 0 n (omega (arith, most, full)) in
-    miss (not (is_some p.index)) refusal.NoIndex _ (ap (λ b. not b) there)
-    ∙ miss (list_any (is_out (span_held p.index)) times) (refusal.OutOfRange (span_held p.index)) _ out
-    ∙ hit (nat_lt 0 n && nat_lt LIVE_HANDLES_MAX (length p.table + n)) (refusal.PoolFull (length p.table) n) _ (λ i. some i && many i)
-    ∙ ap (λ k. Some (refusal.PoolFull k n)) (sym live_is)
-
--- there is room, and the first that holds is that no handle is left
-pub handles_refused : (p : Parts) (times : List ℕ) (n next : ℕ) → is_some p.index ≡ true → list_any (is_out (span_held p.index)) times ≡ false → length p.table + n ≤ LIVE_HANDLES_MAX
-    → next ≡ p.next → next ≤ HANDLE_MAX + 1 → HANDLE_MAX + 1 < next + n → refused_by p 0 (retrieval_needs times n) ≡ Some refusal.HandlesSpent
-handles_refused p times n next there out room next_is most spent =
-    let some : nat_lt 0 n ≡ true = lt-ltb 0 n (omega (arith, most, spent)) in
-    let many : nat_lt (HANDLE_MAX + 1) (p.next + n) ≡ true = lt-ltb (HANDLE_MAX + 1) (p.next + n) (omega (arith, next_is, spent)) in
-    miss (not (is_some p.index)) refusal.NoIndex _ (ap (λ b. not b) there)
-    ∙ miss (list_any (is_out (span_held p.index)) times) (refusal.OutOfRange (span_held p.index)) _ out
-    ∙ miss (nat_lt 0 n && nat_lt LIVE_HANDLES_MAX (length p.table + n)) (refusal.PoolFull (length p.table) n) _ (and_right (nat_lt 0 n) _ (le-ltb LIVE_HANDLES_MAX (length p.table + n) room))
-    ∙ ap (λ b. earliest (when b refusal.HandlesSpent)) (λ i. some i && many i)
-
--- none holds
-pub nothing_refused : (p : Parts) (times : List ℕ) (n : ℕ) → is_some p.index ≡ true → list_any (is_out (span_held p.index)) times ≡ false → length p.table + n ≤ LIVE_HANDLES_MAX
-    → p.next + n ≤ HANDLE_MAX + 1 → refused_by p 0 (retrieval_needs times n) ≡ None
-nothing_refused p times n there out room left =
-    miss (not (is_some p.index)) refusal.NoIndex _ (ap (λ b. not b) there)
-    ∙ miss (list_any (is_out (span_held p.index)) times) (refusal.OutOfRange (span_held p.index)) _ out
-    ∙ miss (nat_lt 0 n && nat_lt LIVE_HANDLES_MAX (length p.table + n)) (refusal.PoolFull (length p.table) n) _ (and_right (nat_lt 0 n) _ (le-ltb LIVE_HANDLES_MAX (length p.table + n) room))
-    ∙ ap (λ b. earliest (when b refusal.HandlesSpent)) (and_right (nat_lt 0 n) _ (le-ltb (HANDLE_MAX + 1) (p.next + n) left))
+    let has = has_needed p 0 (retrieval_needs times n) none in
+    (has.index refl, has.instants, has.room some, has.numbers some)
 
 -- where it is not refused for so many handles, it is not for none
 pub without_handles : (p : Parts) (times : List ℕ) (n : ℕ) → refused_by p 0 (retrieval_needs times n) ≡ None → refused_by p 0 (retrieval_needs times 0) ≡ None
@@ -150,9 +110,7 @@ points_there o recent cols times sound =
 pub instants_inside : (p : Parts) (o : Opening) (times : List ℕ) → p.index ≡ Some o → refused_by p 0 (retrieval_needs times 0) ≡ None
     → list_any (is_out (span_held (Some o))) times ≡ false
 instants_inside p o times there none =
-    let a = passes (not (is_some p.index)) refusal.NoIndex _ none in
-    let b = passes (list_any (is_out (span_held p.index)) times) (refusal.OutOfRange (span_held p.index)) _ a.1 in
-    ap (λ (i : Option Opening). list_any (is_out (span_held i)) times) (sym there) ∙ b.0
+    ap (λ (i : Option Opening). list_any (is_out (span_held i)) times) (sym there) ∙ (has_needed p 0 (retrieval_needs times 0) none).instants
 
 -- ---- the state that the session stands for
 

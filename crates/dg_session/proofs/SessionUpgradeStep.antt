@@ -1,8 +1,8 @@
 -- The answer to an upgrade of the file.
-use Rattle.std.proofs.Common.{◌≡◌, ◌⊎◌, inl, inr, ℕ, ◌<◌, ◌≤◌, Bool, true, false, not, List, [], Option, Some, None, Result, Ok, Err, get_or, length, map, nat_lt, refl, sym, ◌∙◌, ap, subst, arith, if◌then◌else◌}
+use Rattle.std.proofs.Common.{◌≡◌, ◌⊎◌, inl, inr, ℕ, ◌<◌, ◌≤◌, Bool, true, false, List, [], Option, Some, None, Result, Ok, Err, get_or, length, map, nat_lt, refl, sym, ◌∙◌, ap, subst, arith, if◌then◌else◌}
 use Rattle.std.specs.Prelude.{IfSome, is_some}
 use Rattle.std.specs.List.{All}
-use Rattle.std.proofs.lemmas.Bool.{false≢true, not-false}
+use Rattle.std.proofs.lemmas.Bool.{false≢true}
 use borrow.Author.Tests.{lt-ltb, le-ltb}
 use Rattle.dg_aux.specs.Turns.{said_over}
 use Rattle.dg_batch.specs.Held.{graphs_held}
@@ -36,11 +36,12 @@ use Rattle.dg_machine.specs.Needs.{needs, refused}
 use Rattle.dg_machine.specs.Planning.{no_plan}
 use Rattle.dg_machine.specs.Run.{Step}
 use Rattle.dg_machine.specs.Script.{Asked}
-use Rattle.dg_session.proofs.PartStates.{IsOf, both_told, is_of, opening_of, passes, refused_is, stands}
+use Rattle.dg_session.proofs.PartStates.{IsOf, both_told, is_of, opening_of, refused_is, stands}
 use Rattle.dg_session.proofs.ReplyNames.{head_names, names_stay}
 use Rattle.dg_session.proofs.SessionSteps.{accepted_is, accepted_steps, denied_at, is_accepted}
 use Rattle.dg_session.specs.Decided.{Fits}
 use Rattle.dg_session.specs.Parts.{Parts}
+use Rattle.dg_session.proofs.Needed.{has_needed}
 use Rattle.dg_session.specs.Session.{Accepts, ComesTo, CutsOff, Denies, HoldsImage, StandsFor, is_reached, is_wide_held, refused_by}
 use Rattle.dg_session.specs.Upgrade.{MarksHeld, upgrade_halt}
 use Rattle.dg_session.specs.ValuesSaid.{IndexKept}
@@ -71,9 +72,8 @@ pub record IsFree (p : Parts) : Type 0 where
 
 pub upgrade_free : (p : Parts) → refused_by p 0 (needs command.Upgrade) ≡ None → IsFree p
 upgrade_free p none =
-    let a = passes (not (is_some p.index)) refusal.NoIndex _ none in
-    let b = passes (is_wide_held p.index) refusal.NewFormat [] a.1 in
-    by p.index refl (not-false (is_some p.index) a.0) b.0
+    let has = has_needed p 0 (needs command.Upgrade) none in
+    by p.index refl (has.index refl) (has.narrow refl)
   where
     by : (i : Option Opening) → p.index ≡ i → is_some i ≡ true → is_wide_held i ≡ false → IsFree p
     by None is some narrow = absurd (false≢true some)

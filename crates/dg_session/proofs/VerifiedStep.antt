@@ -1,6 +1,6 @@
 -- The answer of `verify`: an image that the session stands for is sound.
-use Rattle.std.proofs.Common.{◌≡◌, ℕ, ◌+◌, ◌≤◌, Bool, true, false, not, List, [], ◌∷◌, ◌++◌, Option, Some, None, Result, Ok, Err, drop, length, map, take, refl, sym, ◌∙◌, ap, subst, arith, length-append}
-use Rattle.std.specs.Prelude.{IfOk, IfSome, is_some, sum_by}
+use Rattle.std.proofs.Common.{◌≡◌, ℕ, ◌+◌, ◌≤◌, Bool, true, false, List, [], ◌∷◌, ◌++◌, Option, Some, None, Result, Ok, Err, drop, length, map, take, refl, sym, ◌∙◌, ap, subst, arith, length-append}
+use Rattle.std.specs.Prelude.{IfOk, IfSome, sum_by}
 use Rattle.std.specs.List.{flat_map}
 use Rattle.std.specs.Map.{lookup}
 use Rattle.std.proofs.lemmas.Bool.{false≢true}
@@ -42,7 +42,7 @@ use Rattle.dg_sound_files.specs.SoundFiles.{StandingFilesAreSound}
 use Rattle.dg_index.proofs.OpenedLegalHistories.{behind}
 use Rattle.dg_session.proofs.ReplyNames.{head_names, names_stay}
 use Rattle.dg_session.proofs.SessionRetrievals.{every_some}
-use Rattle.dg_session.proofs.PartStates.{IsOf, hit, is_of, miss, one_image, one_told, stands_on}
+use Rattle.dg_session.proofs.PartStates.{IsOf, is_of, one_image, one_told, stands_on}
 use Rattle.dg_session.proofs.SessionSteps.{failing_accepted, lacking_denies, moved}
 use Rattle.dg_session.specs.Damage.{DamageIn}
 use Rattle.dg_session.specs.Decided.{Fits}
@@ -57,12 +57,6 @@ use Rattle.dg_verify.specs.declared.fault.VerifyFault.{VerifyFault}
 use Rattle.dg_verify.specs.declared.fault.VerifyFault.TheVariants as fault
 use Rattle.dg_verify.specs.RecordBytes.{columns_bytes, records_bytes}
 
-pub verify_refused : (p : Parts) → is_some p.index ≡ false → refused_by p 0 (needs command.Verify) ≡ Some refusal.NoIndex
-verify_refused p none = hit (not (is_some p.index)) refusal.NoIndex [] (ap not none)
-
-pub verify_free : (p : Parts) → is_some p.index ≡ true → refused_by p 0 (needs command.Verify) ≡ None
-verify_free p there = miss (not (is_some p.index)) refusal.NoIndex [] (ap not there)
-
 -- how an image is opened, where the session keeps this index and these names
 abbrev pub kept_opened : Parts → Opening → Opened
 kept_opened p o = record { index = o; names = p.names }
@@ -76,12 +70,12 @@ due : StandingFilesAreSound → (p : Parts) (o : Opening) (image : List ℕ) (m 
     → soundness_of image (kept_opened p o) ≡ Sound (record_total z.params (length (events_of z)))
 due law p o image m z h = ap (soundness_of image) (opened_is p o image m z h) ∙ (law z image h.stands).1
 
-answers_over : StandingFilesAreSound → (p q : Parts) (before after : Option (List ℕ)) (o : Opening) (s : Soundness) (reply : Reply) → p.index ≡ Some o → q ≡ p → after ≡ before
+answers_over : StandingFilesAreSound → (p q : Parts) (before after : Option (List ℕ)) (o : Opening) (s : Soundness) (reply : Reply) → p.index ≡ Some o → refused_by p 0 (needs command.Verify) ≡ None → q ≡ p → after ≡ before
     → IfSome before (λ image. s ≡ soundness_of image (kept_opened p o)) → reply ≡ headed (head.Verified s) → Accepts command.Verify [] p before q after reply
-answers_over law p q before after o s reply there same same_image sound is = record {
+answers_over law p q before after o s reply there free same same_image sound is = record {
   moves =
-      moved command.Verify [] p q before after reply (λ m. refl) (verify_free p (ap is_some there))
-      (λ m x y a b st free.
+      moved command.Verify [] p q before after reply (λ m. refl) free
+      (λ m x y a b st none.
       let found = is_of p o x m there st in
       let z : History = found.0 in
       let h : IsOf p o x m z = found.1 in
@@ -93,7 +87,7 @@ answers_over law p q before after o s reply there same same_image sound is = rec
         stands_on p q x y m same (one_image before after x y same_image a b) st,
       ));
   accepted = ap is_refusal is;
-  free = verify_free p (ap is_some there);
+  free = free;
   fits = subst (Fits command.Verify) (sym is) tt;
   held = λ h.
       subst (λ (x : Parts). IfSome after (λ image. IsHeldBy x.index x.names image)) (sym same)
@@ -104,9 +98,9 @@ answers_over law p q before after o s reply there same same_image sound is = rec
   keeps_names = names_stay p.names q.names (ap (λ (x : Parts). x.names) same);
 }
 
-pub verify_answers : StandingFilesAreSound → (p q : Parts) (before after : Option (List ℕ)) (s : Soundness) (reply : Reply) → q ≡ p → after ≡ before
+pub verify_answers : StandingFilesAreSound → (p q : Parts) (before after : Option (List ℕ)) (s : Soundness) (reply : Reply) → refused_by p 0 (needs command.Verify) ≡ None → q ≡ p → after ≡ before
     → IsOfFile p before s → reply ≡ headed (head.Verified s) → Accepts command.Verify [] p before q after reply
-verify_answers law p q before after s reply same same_image file is = answers_over law p q before after file.0 s reply file.1 same same_image file.2 is
+verify_answers law p q before after s reply free same same_image file is = answers_over law p q before after file.0 s reply file.1 free same same_image file.2 is
 
 -- what is said over what the session has in memory
 pub sound_over : (p : Parts) (o : Opening) (names : List (List ℕ)) (told : Option (List ℕ)) (r : Result Soundness VerifyFault) → p.index ≡ Some o → names ≡ p.names
@@ -116,10 +110,10 @@ sound_over p o names told (Ok s) there same sound =
     (o, there, subst (λ (ns : List (List ℕ)). IfSome told (λ image. s ≡ soundness_of image (record { index = o; names = ns }))) same sound)
 
 -- the file was not verified
-pub verify_failed : (p q : Parts) (before after : Option (List ℕ)) (f : VerifyFault) → is_some p.index ≡ true → q ≡ p → after ≡ before
+pub verify_failed : (p q : Parts) (before after : Option (List ℕ)) (f : VerifyFault) → refused_by p 0 (needs command.Verify) ≡ None → q ≡ p → after ≡ before
     → ComesTo command.Verify [] p before q after (Err (verify_halt f))
-verify_failed p q before after fault.Disk there same same_image = failing_accepted command.Verify [] p q before after same same_image refl (verify_free p there) (λ m. refl)
-verify_failed p q before after fault.Memory there same same_image = lacking_denies command.Verify [] p q before after same same_image refl (verify_free p there)
+verify_failed p q before after fault.Disk free same same_image = failing_accepted command.Verify [] p q before after same same_image refl free (λ m. refl)
+verify_failed p q before after fault.Memory free same same_image = lacking_denies command.Verify [] p q before after same same_image refl free
 
 pub failed_damage : (p : Parts) (image : Option (List ℕ)) (f : VerifyFault) → DamageIn command.Verify p image (Err (verify_halt f))
 failed_damage p image fault.Disk = tt

@@ -8,6 +8,7 @@ pub mod Decided
 pub mod ReplyNames
 pub mod Crashes
 pub mod Session
+pub mod NeedsParts
 pub mod BatchCommand
 pub mod CreationCommand
 pub mod Upgrade

@@ -5,8 +5,7 @@ ghost use Rattle.dg_graph.specs.declared.limits.TheConstants.{SKEW_MAX};
 ghost use Rattle.dg_history.specs.History.{is_function};
 ghost use Rattle.dg_session.specs.CreationCommand.{function_asked, share_asked};
 
-use dg_graph::{Function, SKEW_MAX};
-use dg_history::is_function;
+use dg_graph::Function;
 
 /// The differential function of an index that is to be made, as the command says it.
 #[derive(Clone, Copy)]
@@ -18,13 +17,14 @@ pub enum AskedFunction {
 }
 
 impl AskedFunction {
-    /// Whether the share that it says is in its range.
-    pub fn is_in_range(self) -> bool
-        ensures { result ≡ nat_le (share_asked self) SKEW_MAX }
+    /// The share that it says, where it says one.
+    pub fn share(self) -> u32
+        ensures { result ≡ share_asked self }
     {
         match self {
-            AskedFunction::Named(function) => is_function(function),
-            AskedFunction::Share(r) => r <= u32::from(SKEW_MAX),
+            AskedFunction::Named(Function::Skewed(r)) => u32::from(r),
+            AskedFunction::Named(_) => 0,
+            AskedFunction::Share(r) => r,
         }
     }
 

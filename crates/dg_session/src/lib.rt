@@ -7,6 +7,7 @@ mod batch_command;
 mod creation_command;
 mod graph_sets;
 mod laws;
+mod needs;
 mod retrieval;
 mod session;
 mod session_fault;

@@ -33,6 +33,7 @@ mod indexes;
 mod opening;
 mod plans;
 mod queries;
+mod refusals;
 mod retrievals;
 mod selections;
 mod upgrades;
@@ -45,11 +46,10 @@ use dg_ask::{KeptPlanner, span};
 use dg_aux::Aux;
 use dg_batch::{Halt, Held, Stop};
 use dg_disk::Disk;
-use dg_file::Index;
 use dg_handles::law_tie_is_kept;
 use dg_index::law_images_are_opened;
 use dg_io::{Lines, Source};
-use dg_machine::{Command, Limits, Refusal, Reply, Selection};
+use dg_machine::{Command, Limits, Reply, Selection};
 use dg_names::Names;
 use dg_pool::Pool;
 use dg_seed::Seed;
@@ -355,17 +355,6 @@ impl Session {
         match &self.held.live.history.index {
             Some(index) => span(index),
             None => None,
-        }
-    }
-
-    // The index, or why nothing is asked of it.
-    fn index(&self) -> Result<&Index, Refusal>
-        ensures index { IfOk result (λ index. self.now.parts.index ≡ Some index.now.opening) }
-        ensures none { IfErr result (λ refusal. (self.now.parts.index ≡ None) × (refusal ≡ Refusal.NoIndex)) }
-    {
-        match &self.held.live.history.index {
-            Some(index) => Ok(index),
-            None => Err(Refusal::NoIndex),
         }
     }
 }

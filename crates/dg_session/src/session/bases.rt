@@ -17,40 +17,20 @@ ghost use Rattle.dg_session.specs.Session.{ComesTo, HoldsImage, StandsFor, node_
 ghost use Rattle.dg_batch.specs.declared.stop.Stop.TheVariants as stop;
 
 use super::Session;
+use crate::needs::Needs;
 use crate::retrieval::node_lead;
-use dg_ask::has_node;
 use dg_batch::{Halt, Stop};
 use dg_delta::Delta;
 use dg_disk::Disk;
 use dg_graph::Columns;
 use dg_history::NodeId;
-use dg_machine::{Command, HANDLE_MAX, Head, LIVE_HANDLES_MAX, Refusal, Reply, Stands};
+use dg_machine::{Command, Head, Refusal, Reply, Stands};
 use dg_records::RecordFault;
 use dg_retrieval::NodeLead;
 use std::alloc::AllocError;
 use std::thread::Threads;
 
 impl Session {
-    // The refusal of a new handle for the node, where there is one.
-    pub(super) fn refused_node(&self, node: NodeId) -> Option<Refusal>
-        ensures { result ≡ refused_by self.now.parts 0 (node_needs node) }
-    {
-        let Some(index) = &self.held.live.history.index else {
-            return Some(Refusal::NoIndex);
-        };
-        if !has_node(index, node) {
-            return Some(Refusal::UnknownNode);
-        }
-        let live = self.held.handles.live();
-        if (live + 1) as usize > LIVE_HANDLES_MAX {
-            return Some(Refusal::PoolFull(live, 1));
-        }
-        if self.held.handles.next() + 1 > u64::from(HANDLE_MAX) + 1 {
-            return Some(Refusal::HandlesSpent);
-        }
-        None
-    }
-
     // What leads to the set of a node in these columns, by the records alone.
     pub(super) fn lead_to_node<R: Threads + Sync, D: Disk>(
         &mut self,
@@ -133,7 +113,13 @@ impl Session {
         ensures file { ReadsFile D.Disk (Command.Materialise node cols) self.old.parts disk.old disk.new result }
         ensures disk { ReadsDisk D.Disk disk.old disk.new }
     {
-        if let Some(refusal) = self.refused_node(node) {
+        let needs = Needs {
+            index: true,
+            node: Some(node),
+            handles: 1,
+            ..Needs::NOTHING
+        };
+        if let Some(refusal) = self.refused(&needs, 0) {
             return Err(Halt::Refusal(refusal));
         }
         let NodeLead { delta, weight } = self.lead_to_node(rt, node, cols, disk)?;

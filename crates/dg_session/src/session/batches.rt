@@ -9,49 +9,26 @@ ghost use Rattle.dg_io.specs.LinesState.{NeedsByte};
 ghost use Rattle.dg_history.specs.declared.limits.TheConstants.{BATCH_LINES_MAX};
 ghost use Rattle.dg_text.specs.Lines.{ScriptLine};
 ghost use Rattle.dg_machine.specs.Answer.{headed};
-ghost use Rattle.dg_machine.specs.Needs.{needs};
 ghost use Rattle.dg_session.specs.Calls.{HaltsByCause, ReadsFile, TreatsDisk};
 ghost use Rattle.dg_session.specs.BatchCommand.{barred, command_with};
 ghost use Rattle.dg_session.specs.CreationCommand.{making};
 ghost use Rattle.dg_session.specs.Reads.{ReadsIn};
-ghost use Rattle.dg_session.specs.Session.{ComesTo, HoldsImage, LeavesCommand, TakesLines, is_too_full, refused_by};
+ghost use Rattle.dg_session.specs.Session.{ComesTo, HoldsImage, LeavesCommand, TakesLines};
 
 use super::Session;
 use super::indexes::{barred_with, pass, reserve};
 use crate::batch_command::BatchCommand;
 use crate::creation_command::AskedFunction;
-use dg_ask::span;
+use crate::needs::Needs;
 use dg_batch::{Halt, Stop, add_changes, generated_batch, read_batch};
 use dg_disk::Disk;
 use dg_file::Index;
-use dg_history::{Form, Params, are_parameters};
+use dg_history::{Form, Params};
 use dg_io::{Lines, Source};
 use dg_machine::{Command, Head, Refusal, Reply};
-use dg_text::NAMES_MAX;
 use std::thread::Threads;
 
-// A line may bring the text of a key and that of a value.
-const NAMES_OF_A_LINE: u32 = 2;
-
 impl Session {
-    // Why no index with these parameters is made.
-    pub(super) fn refused_creation(&self, l: u32, k: u32, asked: AskedFunction) -> Option<Refusal>
-        ensures first { result ≡ refused_by self.now.parts 0 (needs (making l k asked)) }
-        ensures free { result ≡ None → is_some self.now.parts.index ≡ false }
-    {
-        if self.has_index() {
-            return Some(Refusal::IndexExists);
-        }
-        if !asked.is_in_range() {
-            return Some(Refusal::Parameters);
-        }
-        let function = asked.function();
-        if !are_parameters(Params { l, k, function }) {
-            return Some(Refusal::Parameters);
-        }
-        None
-    }
-
     // An empty index with these parameters.
     pub(super) fn create<D: Disk>(
         &mut self,
@@ -75,7 +52,11 @@ impl Session {
         ensures disk { TreatsDisk D.Disk disk.old disk.new result }
         ensures crash { LeftByCrash D.Disk disk.old disk.new (LeavesCommand (making l k asked) [] self.old.parts result) }
     {
-        if let Some(refusal) = self.refused_creation(l, k, asked) {
+        let needs = Needs {
+            parameters: Some((l, k, asked.share())),
+            ..Needs::NOTHING
+        };
+        if let Some(refusal) = self.refused(&needs, 0) {
             return Err(Halt::Refusal(refusal));
         }
         let function = asked.function();
@@ -87,31 +68,16 @@ impl Session {
     }
 
     // Why no batch of so many lines is added, whatever its lines are.
-    pub(super) fn barred(&self, which: BatchCommand, count: u32) -> Option<Refusal>
-        requires some { 1 ≤ count }
-        requires few { count ≤ BATCH_LINES_MAX }
+    fn barred(&self, which: BatchCommand, count: u32) -> Option<Refusal>
         ensures { result ≡ barred which self.now.parts count }
     {
-        if !self.has_index() {
-            return Some(Refusal::NoIndex);
-        }
-        if matches!(which, BatchCommand::Load) && self.span().is_some() {
-            return Some(Refusal::AlreadyLoaded);
-        }
-        if self.is_too_full(count) {
-            return Some(Refusal::HistoryFull(self.events_held(), u64::from(count)));
-        }
-        None
-    }
-
-    // Whether so many more events, or the names that so many lines may bring, are too many.
-    pub(super) fn is_too_full(&self, count: u32) -> bool
-        requires { count ≤ BATCH_LINES_MAX }
-        ensures { result ≡ is_too_full self.now.parts count }
-    {
-        let events = self.events_held() + u64::from(count);
-        let names = self.held.live.history.names.len() + NAMES_OF_A_LINE * count;
-        self.limits.events < events || NAMES_MAX < names
+        let needs = Needs {
+            index: true,
+            unloaded: matches!(which, BatchCommand::Load),
+            changes: count,
+            ..Needs::NOTHING
+        };
+        self.refused(&needs, 0)
     }
 
     // The batch of the lines that follow, as the history's first or next one.

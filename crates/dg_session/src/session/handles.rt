@@ -14,11 +14,12 @@ ghost use Rattle.dg_session.specs.Sweeps.{SweepsPool};
 ghost use Rattle.dg_batch.specs.declared.stop.Stop.TheVariants as stop;
 
 use super::Session;
+use crate::needs::Needs;
 use dg_append::Live;
 use dg_ask::KeptPlanner;
 use dg_batch::{Halt, Held, Stop};
 use dg_handles::{Handles, law_tie_is_kept, law_union_of_handles};
-use dg_machine::{Command, Head, Refusal, Reply, Stands};
+use dg_machine::{Command, Head, Reply, Stands};
 use dg_pool::Pool;
 use std::boxed::Box;
 
@@ -28,12 +29,17 @@ impl Session {
         ensures comes { (image : Option (List ℕ)) → ComesTo (Command.Release handle) [] self.old.parts image self.new.parts image result }
         ensures no_stop { (stop : Stop) → result ≡ Err (Halt.Stop stop) → ⊥ }
     {
-        let Some(stands) = self.held.handles.stands(handle) else {
-            return Err(Halt::Refusal(Refusal::UnknownHandle(handle)));
+        let needs = Needs {
+            handle: Some(handle),
+            unused: Some(handle),
+            ..Needs::NOTHING
         };
-        if let Some(dependent) = self.held.handles.dependent(handle) {
-            return Err(Halt::Refusal(Refusal::InUse(dependent)));
+        if let Some(refusal) = self.refused(&needs, 0) {
+            return Err(Halt::Refusal(refusal));
         }
+        let Some(stands) = self.held.handles.stands(handle) else {
+            unreachable!()
+        };
         forget_base(&mut self.planner, stands);
         self.held.adjacency.forget_handle(handle);
         give_up(&mut self.held.handles, &mut self.held.live.pool, handle);

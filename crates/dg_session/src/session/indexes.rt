@@ -14,20 +14,20 @@ ghost use Rattle.dg_session.specs.BatchCommand.{Bars};
 ghost use Rattle.dg_session.specs.Calls.{ReadsFile};
 ghost use Rattle.dg_session.specs.Damage.{TellsListDamage};
 ghost use Rattle.dg_session.specs.Reads.{IndexesFor, with_new_index};
-ghost use Rattle.dg_session.specs.Session.{ComesTo, HoldsImage, StandsFor, find_needs, index_needs, refused_by};
+ghost use Rattle.dg_session.specs.Session.{ComesTo, HoldsImage, StandsFor, index_needs, is_indexed_by, refused_by};
 ghost use Rattle.dg_session.specs.ValuesSaid.{AreFound, IndexKept, all_said_with, kept_of};
 ghost use Rattle.dg_text.specs.declared.limits.TheConstants.{KEY_BYTES_MAX, NAME_BYTES_MAX};
 ghost use Rattle.dg_text.specs.Names.{number_of};
 
 use super::Session;
-use super::plans::in_range;
+use crate::needs::Needs;
 use dg_aux::{
     Aux, law_found_nodes_are_there, law_turns_add_as_their_events, law_turns_stand_for_events,
 };
 use dg_batch::{Halt, Stop};
 use dg_disk::Disk;
 use dg_graph::Event;
-use dg_machine::{BodyLines, Command, Head, INDEXES_MAX, KeyText, Refusal, Reply, ValueText};
+use dg_machine::{BodyLines, Command, Head, KeyText, Refusal, Reply, ValueText};
 use dg_range::{law_images_have_values, read_values, values_bytes};
 use dg_records::RecordFault;
 use dg_set::Element;
@@ -71,19 +71,18 @@ impl Session {
         ensures free { OnOk result (refused_by self.now.parts 0 (index_needs text.now) ≡ None) }
         ensures refused { IfErr result (λ refusal. refused_by self.now.parts 0 (index_needs text.now) ≡ Some refusal) }
     {
-        if !self.has_index() {
-            return Err(Refusal::NoIndex);
-        }
-        let Some(key) = self.held.live.history.names.number(text) else {
-            return Err(Refusal::UnknownKey);
+        let needs = Needs {
+            index: true,
+            unindexed: Some(text),
+            ..Needs::NOTHING
         };
-        if of_key(&self.indexes, key).is_some() {
-            return Err(Refusal::AlreadyIndexed);
+        if let Some(refusal) = self.refused(&needs, 0) {
+            return Err(refusal);
         }
-        if self.indexes.len() >= INDEXES_MAX {
-            return Err(Refusal::IndexesFull);
+        match self.held.live.history.names.number(text) {
+            Some(key) => Ok(key),
+            None => unreachable!(),
         }
-        Ok(key)
     }
 
     // The bytes of the columns of node attributes of all lists.
@@ -154,7 +153,20 @@ impl Session {
     {
         law_turns_stand_for_events();
         law_found_nodes_are_there();
-        let values = self.indexed(t, key_text(&key))?;
+        let text = key_text(&key);
+        let times = [t];
+        let needs = Needs {
+            index: true,
+            instants: &times,
+            indexed: Some(text),
+            ..Needs::NOTHING
+        };
+        if let Some(refusal) = self.refused(&needs, 0) {
+            return Err(Halt::Refusal(refusal));
+        }
+        let Some(values) = self.index_of(text) else {
+            unreachable!()
+        };
         let value = self.held.live.history.names.number(value_text(&value));
         let ids = found(self.alloc, values, t, value)?;
         let nodes = nodes_of(self.alloc, &ids)?;
@@ -166,27 +178,14 @@ impl Session {
         })
     }
 
-    // The index of the key of this text, where the instant `t` is in the history, or why nothing is found in it.
-    fn indexed(&self, t: u64, text: &[u8]) -> Result<&Aux, Refusal>
-        ensures key { IfOk result (λ aux. number_of self.now.parts.names text.now ≡ Some aux.now.key) }
-        ensures kept { IfOk result (λ aux. Contains self.now.parts.indexes (kept_of aux.now)) }
-        ensures free { OnOk result (refused_by self.now.parts 0 (find_needs t text.now) ≡ None) }
-        ensures refused { IfErr result (λ refusal. refused_by self.now.parts 0 (find_needs t text.now) ≡ Some refusal) }
+    // The index of the key of this text, where it is indexed.
+    pub(super) fn index_of(&self, text: &[u8]) -> Option<&Aux>
+        ensures key { IfSome result (λ aux. number_of self.now.parts.names text.now ≡ Some aux.now.key) }
+        ensures kept { IfSome result (λ aux. Contains self.now.parts.indexes (kept_of aux.now)) }
+        ensures there { is_some result ≡ is_indexed_by self.now.parts text.now }
     {
-        if !self.has_index() {
-            return Err(Refusal::NoIndex);
-        }
-        let ends = self.span();
-        if !in_range(ends, t) {
-            return Err(Refusal::OutOfRange(ends));
-        }
-        let Some(key) = self.held.live.history.names.number(text) else {
-            return Err(Refusal::NotIndexed);
-        };
-        match of_key(&self.indexes, key) {
-            Some(values) => Ok(values),
-            None => Err(Refusal::NotIndexed),
-        }
+        let key = self.held.live.history.names.number(text)?;
+        of_key(&self.indexes, key)
     }
 }
 

@@ -1,13 +1,12 @@
 //! Graphs as of instants, each as a new handle.
 
 ghost use Rattle.std.specs.Prelude.{◌≡◌, ◌+◌, ◌<◌, ◌≤◌, IfSome, IsErrOf, OnErr, OnOk, [], Ok, Option, None, Some, not, length, map, take, IfOk};
-ghost use Rattle.std.specs.List.{All, list_any, sum};
+ghost use Rattle.std.specs.List.{All, sum};
 ghost use Rattle.dg_disk.specs.Calls.{Fails, ReadsDisk};
 ghost use Rattle.dg_handles.specs.Handles.{BeginsOn, overlays_on};
 ghost use Rattle.dg_machine.specs.declared.command.TheConstants.{TIMES_MAX};
 ghost use Rattle.dg_machine.specs.declared.limits.TheConstants.{HANDLE_MAX, LIVE_HANDLES_MAX};
 ghost use Rattle.dg_machine.specs.Answer.{headed};
-ghost use Rattle.dg_history.specs.History.{in_range};
 ghost use Rattle.dg_machine.specs.MachineState.{MachineState};
 ghost use Rattle.dg_retrieval.specs.Beginnings.{leads_in, led_to};
 ghost use Rattle.dg_retrieval.specs.NamesThere.{NamesAreThere};
@@ -18,44 +17,19 @@ ghost use Rattle.dg_session.specs.Session.{ComesTo, HoldsImage, StandsFor, refus
 ghost use Rattle.dg_batch.specs.declared.stop.Stop.TheVariants as stop;
 
 use super::Session;
-use super::plans::in_range;
+use crate::needs::Needs;
 use crate::retrieval::{handle_lines, leads_at};
-use dg_ask::span;
 use dg_batch::{Halt, Stop};
 use dg_disk::Disk;
 use dg_graph::Columns;
 use dg_heard::law_heard_bytes_are_the_historys;
-use dg_machine::{
-    BodyLines, Command, HANDLE_MAX, Head, LIVE_HANDLES_MAX, Refusal, Reply, TIMES_MAX,
-};
+use dg_machine::{BodyLines, Command, Head, Refusal, Reply, TIMES_MAX};
 use dg_records::RecordFault;
 use dg_retrieval::{Leads, Retrieved};
 use std::alloc::AllocError;
 use std::thread::Threads;
 
 impl Session {
-    // Why no graphs as of these instants are retrieved for so many new handles.
-    pub(super) fn refused_retrieval(&self, times: &[u64], handles: u8) -> Option<Refusal>
-        ensures { result ≡ refused_by self.now.parts 0 (retrieval_needs times.now handles) }
-    {
-        if !self.has_index() {
-            return Some(Refusal::NoIndex);
-        }
-        let ends = self.span();
-        if is_any_out(ends, times) {
-            return Some(Refusal::OutOfRange(ends));
-        }
-        let live = self.held.handles.live();
-        let asked = u32::from(handles);
-        if (live + asked) as usize > LIVE_HANDLES_MAX {
-            return Some(Refusal::PoolFull(live, asked));
-        }
-        if self.held.handles.next() + u64::from(asked) > u64::from(HANDLE_MAX) + 1 {
-            return Some(Refusal::HandlesSpent);
-        }
-        None
-    }
-
     // What leads to the graphs as of the instants in these columns, by one tree, and to their messages, where these are
     // asked for.
     pub(super) fn retrieve<R: Threads, D: Disk>(
@@ -147,7 +121,13 @@ impl Session {
         ensures disk { ReadsDisk D.Disk disk.old disk.new }
     {
         let times = [t];
-        if let Some(refusal) = self.refused_retrieval(&times, 1) {
+        let needs = Needs {
+            index: true,
+            instants: &times,
+            handles: 1,
+            ..Needs::NOTHING
+        };
+        if let Some(refusal) = self.refused(&needs, 0) {
             return Err(Halt::Refusal(refusal));
         }
         let Retrieved { leads, weight, .. } = self.retrieve(rt, &times, cols, disk)?;
@@ -181,7 +161,13 @@ impl Session {
         ensures disk { ReadsDisk D.Disk disk.old disk.new }
     {
         let asked = first_of(&times, count);
-        if let Some(refusal) = self.refused_retrieval(asked, count) {
+        let needs = Needs {
+            index: true,
+            instants: asked,
+            handles: count,
+            ..Needs::NOTHING
+        };
+        if let Some(refusal) = self.refused(&needs, 0) {
             return Err(Halt::Refusal(refusal));
         }
         let retrieved = self.retrieve(rt, asked, cols, disk)?;
@@ -196,13 +182,6 @@ impl Session {
             body: BodyLines::from_vec(lines),
         })
     }
-}
-
-// Whether one of the instants does not lie between the ends.
-fn is_any_out(ends: Option<(u64, u64)>, times: &[u64]) -> bool
-    ensures { result ≡ list_any (λ t. not (in_range ends t)) times.now }
-{
-    times.iter().any(|t| !in_range(ends, *t))
 }
 
 // The first `count` of the instants.

@@ -13,7 +13,6 @@ ghost use Rattle.dg_handles.specs.Handles.{with_messages};
 ghost use Rattle.dg_machine.specs.Answer.{headed};
 ghost use Rattle.dg_machine.specs.declared.limits.TheConstants.{HANDLE_MAX, LIVE_HANDLES_MAX};
 ghost use Rattle.dg_machine.specs.MachineState.{MachineState, history_in};
-ghost use Rattle.dg_machine.specs.Needs.{in_range_or_next};
 ghost use Rattle.dg_machine.specs.Selections.{added_length};
 ghost use Rattle.dg_machine.specs.declared.selection.Selection.TheVariants as selection;
 ghost use Rattle.dg_machine.specs.declared.stands.Stands.TheVariants as stands;
@@ -22,19 +21,19 @@ ghost use Rattle.dg_retrieval.specs.NamesThere.{NamesAreThere};
 ghost use Rattle.dg_session.specs.Calls.{ReadsFile};
 ghost use Rattle.dg_session.specs.Damage.{TellsListDamage, events_between};
 ghost use Rattle.dg_session.specs.Reads.{AddsFor, listed_by, with_new_handles};
-ghost use Rattle.dg_session.specs.Session.{ComesTo, HoldsImage, StandsFor, interval_needs, refused_by};
+ghost use Rattle.dg_session.specs.Session.{ComesTo, HoldsImage, StandsFor};
 ghost use Rattle.dg_batch.specs.declared.stop.Stop.TheVariants as stop;
 
 use super::Session;
-use super::plans::in_range;
 use super::retrievals::first_of;
 use crate::graph_sets::led_sets;
+use crate::needs::Needs;
 use dg_batch::{Halt, Stop};
 use dg_delta::Delta;
 use dg_disk::Disk;
 use dg_expr::{Expr, law_chosen_elements_are_shown, select};
 use dg_graph::Columns;
-use dg_machine::{Command, HANDLE_MAX, Head, LIVE_HANDLES_MAX, Refusal, Reply, Selection, Stands};
+use dg_machine::{Command, Head, Refusal, Reply, Selection, Stands};
 use dg_range::{law_images_have_added, lists_between, lists_bytes, read_added};
 use dg_records::RecordFault;
 use dg_retrieval::{Leads, Retrieved};
@@ -70,7 +69,13 @@ impl Session {
         law_chosen_elements_are_shown();
         let instants = expr.instants();
         let times = first_of(&instants.times, instants.count);
-        if let Some(refusal) = self.refused_retrieval(times, 1) {
+        let needs = Needs {
+            index: true,
+            instants: times,
+            handles: 1,
+            ..Needs::NOTHING
+        };
+        if let Some(refusal) = self.refused(&needs, 0) {
             return Err(Halt::Refusal(refusal));
         }
         // No graph has a message.
@@ -122,7 +127,15 @@ impl Session {
         ensures file { ReadsFile D.Disk (Command.Select (selection.Added from until) cols) self.old.parts disk.old disk.new result }
         ensures disk { ReadsDisk D.Disk disk.old disk.new }
     {
-        if let Some(refusal) = self.refused_interval(from, until) {
+        let instants = [from];
+        let needs = Needs {
+            index: true,
+            instants: &instants,
+            until: Some(until),
+            handles: 1,
+            ..Needs::NOTHING
+        };
+        if let Some(refusal) = self.refused(&needs, 0) {
             return Err(Halt::Refusal(refusal));
         }
         let weight = self.interval_bytes(from, until, cols);
@@ -130,27 +143,6 @@ impl Session {
         let handle = self.held.handles.next() as u32;
         self.add_selected(Selection::Added { from, until }, cols, elements)?;
         Ok(Reply::headed(self.alloc, Head::Added { handle, weight }))
-    }
-
-    // Why nothing that is added between these instants is read for a new handle.
-    fn refused_interval(&self, from: u64, until: u64) -> Option<Refusal>
-        ensures { result ≡ refused_by self.now.parts 0 (interval_needs from until) }
-    {
-        if !self.has_index() {
-            return Some(Refusal::NoIndex);
-        }
-        let ends = self.span();
-        if !in_range(ends, from) || !in_range_or_next(ends, until) {
-            return Some(Refusal::OutOfRange(ends));
-        }
-        let live = self.held.handles.live();
-        if (live + 1) as usize > LIVE_HANDLES_MAX {
-            return Some(Refusal::PoolFull(live, 1));
-        }
-        if self.held.handles.next() + 1 > u64::from(HANDLE_MAX) + 1 {
-            return Some(Refusal::HandlesSpent);
-        }
-        None
     }
 
     // The bytes of the asked columns of the lists that may have an event between the instants.
@@ -226,16 +218,6 @@ impl Session {
         self.held
             .handles
             .add_set(pool, Stands::Selected { what, cols }, &delta)
-    }
-}
-
-// Whether the instant lies between the ends, or is the one behind the last.
-fn in_range_or_next(ends: Option<(u64, u64)>, t: u64) -> bool
-    ensures { result ≡ in_range_or_next ends t }
-{
-    match ends {
-        Some((_, last)) => in_range(ends, t) || last < t && t - last == 1,
-        None => false,
     }
 }
 

@@ -6,14 +6,14 @@ ghost use Rattle.dg_disk.specs.Calls.{FailsToWrite, LeftByCrash, WritesDisk};
 ghost use Rattle.dg_file.specs.Images.{GainsUpgradeOrNot, IsOpenedAs};
 ghost use Rattle.dg_history.specs.declared.limits.TheConstants.{FILE_BYTES_MAX};
 ghost use Rattle.dg_machine.specs.Answer.{headed};
-ghost use Rattle.dg_machine.specs.Needs.{needs};
 ghost use Rattle.dg_session.specs.Calls.{TreatsDisk};
 ghost use Rattle.dg_session.specs.Reads.{ReadsIn};
-ghost use Rattle.dg_session.specs.Session.{ComesTo, HoldsImage, LeavesCommand, refused_by};
+ghost use Rattle.dg_session.specs.Session.{ComesTo, HoldsImage, LeavesCommand};
 ghost use Rattle.dg_session.specs.Upgrade.{IsNarrow, MarksHeld, upgrade_halt};
 ghost use Rattle.dg_stored.specs.StoredHistory.{index_opening};
 
 use super::Session;
+use crate::needs::Needs;
 use dg_batch::{Halt, Held, Stop};
 use dg_disk::Disk;
 use dg_file::CommitFault;
@@ -21,19 +21,6 @@ use dg_machine::{Command, Head, Refusal, Reply};
 use std::alloc::Global;
 
 impl Session {
-    // Why the file does not go on in its second form.
-    pub(super) fn refused_upgrade(&self) -> Option<Refusal>
-        ensures { result ≡ refused_by self.now.parts 0 (needs Command.Upgrade) }
-    {
-        let Some(index) = &self.held.live.history.index else {
-            return Some(Refusal::NoIndex);
-        };
-        if index.is_wide() {
-            return Some(Refusal::NewFormat);
-        }
-        None
-    }
-
     // The file goes on in its second form. Takes no memory.
     pub(super) fn upgrade<D: Disk>(&mut self, disk: &mut D) -> Result<Reply, Halt>
         requires image { HoldsImage self.old.parts (D.image disk.old) }
@@ -51,7 +38,12 @@ impl Session {
         ensures disk { TreatsDisk D.Disk disk.old disk.new result }
         ensures crash { LeftByCrash D.Disk disk.old disk.new (LeavesCommand Command.Upgrade [] self.old.parts result) }
     {
-        if let Some(refusal) = self.refused_upgrade() {
+        let needs = Needs {
+            index: true,
+            first_form: true,
+            ..Needs::NOTHING
+        };
+        if let Some(refusal) = self.refused(&needs, 0) {
             return Err(Halt::Refusal(refusal));
         }
         let limit = self.limits.file_bytes;

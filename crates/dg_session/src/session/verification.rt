@@ -10,6 +10,7 @@ ghost use Rattle.dg_session.specs.Verified.{IsOfFile, VerifiesFile, verify_halt}
 ghost use Rattle.dg_batch.specs.declared.stop.Stop.TheVariants as stop;
 
 use super::Session;
+use crate::needs::Needs;
 use dg_batch::{Halt, Stop};
 use dg_disk::Disk;
 use dg_machine::{Command, Head, Refusal, Reply};
@@ -40,7 +41,13 @@ impl Session {
         ensures disk { ReadsDisk D.Disk disk.old disk.new }
     {
         law_standing_files_are_sound();
-        let _ = self.index()?;
+        let needs = Needs {
+            index: true,
+            ..Needs::NOTHING
+        };
+        if let Some(refusal) = self.refused(&needs, 0) {
+            return Err(Halt::Refusal(refusal));
+        }
         let soundness = match self.soundness(rt, disk) {
             Ok(soundness) => soundness,
             Err(fault) => return Err(verify_halt(fault)),

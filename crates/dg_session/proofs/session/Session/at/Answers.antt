@@ -25,21 +25,21 @@ use Rattle.dg_session.proofs.session.Session.at.Goals as goal
 pub returns-in-Some-clause-comes : goal.returns-in-Some-clause-comes
 returns-in-Some-clause-comes g c =
     refused_denies (command.At c.args.t c.args.cols) [] c.args.self.now.parts c.args.self.now.parts (g.D.Disk.image c.args.disk.now) (g.D.Disk.image c.args.disk.now) c.in-Some.refusal refl refl
-    (sym c.refused_retrieval.ensures ∙ c.in-Some.is)
+    (sym c.refused.ensures ∙ c.in-Some.is)
 
 pub returns-in_err-leads-clause-comes : goal.returns-in_err-leads-clause-comes
 returns-in_err-leads-clause-comes g c =
     handed_out c.from_residual.result (retrieval_halt c.in_err-leads.field-0.0)
     (ComesTo (command.At c.args.t c.args.cols) [] c.args.self.now.parts (g.D.Disk.image c.args.disk.now) c.retrieve.new.self.parts (g.D.Disk.image c.retrieve.new.disk)) c.from_residual.ensures
     (retrieval_failed (command.At c.args.t c.args.cols) c.args.self.now.parts c.retrieve.new.self.parts (g.D.Disk.image c.args.disk.now) (g.D.Disk.image c.retrieve.new.disk) c.in_err-leads.field-0.0 refl refl (λ m. refl)
-    (sym c.refused_retrieval.ensures ∙ c.in_default.is) (ap (λ (x : SessionState). x.parts) c.retrieve.ensures.same) c.retrieve.ensures.disk.same_image (never_of c.args.self.now.parts (c.args.t ∷ []) c.args.cols (g.D.Disk.image c.args.disk.now) (g.D.Disk.taken c.args.disk.now) (g.D.Disk.taken c.retrieve.new.disk) c.in_err-leads.field-0.0 c.in_err-leads.ensures.over))
+    (sym c.refused.ensures ∙ c.in_default.is) (ap (λ (x : SessionState). x.parts) c.retrieve.ensures.same) c.retrieve.ensures.disk.same_image (never_of c.args.self.now.parts (c.args.t ∷ []) c.args.cols (g.D.Disk.image c.args.disk.now) (g.D.Disk.taken c.args.disk.now) (g.D.Disk.taken c.retrieve.new.disk) c.in_err-leads.field-0.0 c.in_err-leads.ensures.over))
 
 pub returns-in_err-add_handles-clause-comes : goal.returns-in_err-add_handles-clause-comes
 returns-in_err-add_handles-clause-comes g c =
     handed_out c.from_residual-in_err-add_handles.result (halt.Refusal refusal.OutOfMemory)
     (ComesTo (command.At c.args.t c.args.cols) [] c.args.self.now.parts (g.D.Disk.image c.args.disk.now) c.add_handles.new.self.parts (g.D.Disk.image c.retrieve.new.disk)) c.from_residual-in_err-add_handles.ensures
     (lacking_denies (command.At c.args.t c.args.cols) [] c.args.self.now.parts c.add_handles.new.self.parts (g.D.Disk.image c.args.disk.now) (g.D.Disk.image c.retrieve.new.disk)
-    (c.in_err-add_handles.ensures.err ∙ (ap (λ (x : SessionState). x.parts) c.retrieve.ensures.same)) c.retrieve.ensures.disk.same_image refl (sym c.refused_retrieval.ensures ∙ c.in_default.is))
+    (c.in_err-add_handles.ensures.err ∙ (ap (λ (x : SessionState). x.parts) c.retrieve.ensures.same)) c.retrieve.ensures.disk.same_image refl (sym c.refused.ensures ∙ c.in_default.is))
 
 pub returns-clause-comes : goal.returns-clause-comes
 returns-clause-comes g c =
@@ -50,7 +50,7 @@ returns-clause-comes g c =
     let same : c.retrieve.new.self.parts ≡ p = ap (λ (x : SessionState). x.parts) c.retrieve.ensures.same in
     let number : c.next-handle.result ≡ p.next = c.next-handle.ensures.next ∙ ap (λ (x : SessionState). x.parts.next) (c.self.view_is ∙ c.retrieve.ensures.same) in
     at_answers p c.add_handles.new.self.parts c.args.t cols (g.D.Disk.image c.args.disk.now) (g.D.Disk.image c.retrieve.new.disk) r.weight r.singles.items (bases_of (leads_in r.leads)) (map (led_to p.graph (listed_by p) cols) (leads_in r.leads)) c.headed.result
-    (sym c.refused_retrieval.ensures ∙ c.in_default.is) c.retrieve.ensures.disk.same_image (retrieved_of c.args.self.now.parts (c.args.t ∷ []) c.args.cols (g.D.Disk.image c.args.disk.now) (g.D.Disk.taken c.args.disk.now) (g.D.Disk.taken c.retrieve.new.disk) c.in_ok-leads.field-0 c.in_ok-leads.ensures.over)
+    (sym c.refused.ensures ∙ c.in_default.is) c.retrieve.ensures.disk.same_image (retrieved_of c.args.self.now.parts (c.args.t ∷ []) c.args.cols (g.D.Disk.image c.args.disk.now) (g.D.Disk.taken c.args.disk.now) (g.D.Disk.taken c.retrieve.new.disk) c.in_ok-leads.field-0 c.in_ok-leads.ensures.over)
     (c.in_ok-add_handles.ensures.added ∙ (λ i. with_new_handles (same i) (overlays_on cols times (bases_of (leads_in r.leads))) (map (led_to (same i).graph (listed_by (same i)) cols) (leads_in r.leads))))
     (c.headed.ensures ∙ ap (λ n. headed (head.At n r.weight)) number)
 
@@ -58,7 +58,7 @@ pub returns-in-Some-clause-file : goal.returns-in-Some-clause-file
 returns-in-Some-clause-file g c = record {
   damaged =
       tells_no_damage (command.At c.args.t c.args.cols) c.args.self.now.parts (g.D.Disk.image c.args.disk.now) c.in-Some.refusal
-      (refused_not_read c.args.self.now.parts 0 (needs (command.At c.args.t c.args.cols)) c.in-Some.refusal (sym c.refused_retrieval.ensures ∙ c.in-Some.is));
+      (refused_not_read c.args.self.now.parts 0 (needs (command.At c.args.t c.args.cols)) c.in-Some.refusal (sym c.refused.ensures ∙ c.in-Some.is));
   undamaged = tt;
   reads = reads_unasked (command.At c.args.t c.args.cols) c.args.self.now.parts (g.D.Disk.image c.args.disk.now) c.in-Some.refusal (g.D.Disk.taken c.args.disk.now) (λ m got plan planned. omega arith);
 }
@@ -75,7 +75,7 @@ returns-in_err-leads-clause-file g c = record {
       (λ r. ReadsIn (command.At c.args.t c.args.cols) c.args.self.now.parts (g.D.Disk.image c.args.disk.now) r (g.D.Disk.taken c.args.disk.now) (g.D.Disk.taken c.retrieve.new.disk)) c.from_residual.ensures
       (reads_failing (command.At c.args.t c.args.cols) c.args.self.now.parts (g.D.Disk.image c.args.disk.now) c.in_err-leads.field-0.0 (g.D.Disk.taken c.args.disk.now) (g.D.Disk.taken c.retrieve.new.disk)
       (λ h refuses late. at_fails c.args.self.now.parts c.args.t c.args.cols (g.D.Disk.image c.args.disk.now) h (g.D.Disk.taken c.args.disk.now) (g.D.Disk.taken c.retrieve.new.disk) refuses late
-      (sym c.refused_retrieval.ensures ∙ c.in_default.is) (most_of c.args.self.now.parts (c.args.t ∷ []) c.args.cols (g.D.Disk.image c.args.disk.now) (g.D.Disk.taken c.args.disk.now) (g.D.Disk.taken c.retrieve.new.disk) c.retrieve.result c.retrieve.ensures.over)));
+      (sym c.refused.ensures ∙ c.in_default.is) (most_of c.args.self.now.parts (c.args.t ∷ []) c.args.cols (g.D.Disk.image c.args.disk.now) (g.D.Disk.taken c.args.disk.now) (g.D.Disk.taken c.retrieve.new.disk) c.retrieve.result c.retrieve.ensures.over)));
 }
 
 pub returns-in_err-add_handles-clause-file : goal.returns-in_err-add_handles-clause-file
@@ -88,7 +88,7 @@ returns-in_err-add_handles-clause-file g c = record {
       handed_out c.from_residual-in_err-add_handles.result (halt.Refusal refusal.OutOfMemory)
       (λ r. ReadsIn (command.At c.args.t c.args.cols) c.args.self.now.parts (g.D.Disk.image c.args.disk.now) r (g.D.Disk.taken c.args.disk.now) (g.D.Disk.taken c.retrieve.new.disk)) c.from_residual-in_err-add_handles.ensures
       (at_fails c.args.self.now.parts c.args.t c.args.cols (g.D.Disk.image c.args.disk.now) (replied.Refused refusal.OutOfMemory) (g.D.Disk.taken c.args.disk.now) (g.D.Disk.taken c.retrieve.new.disk) refl refl
-      (sym c.refused_retrieval.ensures ∙ c.in_default.is) (most_of c.args.self.now.parts (c.args.t ∷ []) c.args.cols (g.D.Disk.image c.args.disk.now) (g.D.Disk.taken c.args.disk.now) (g.D.Disk.taken c.retrieve.new.disk) c.retrieve.result c.retrieve.ensures.over));
+      (sym c.refused.ensures ∙ c.in_default.is) (most_of c.args.self.now.parts (c.args.t ∷ []) c.args.cols (g.D.Disk.image c.args.disk.now) (g.D.Disk.taken c.args.disk.now) (g.D.Disk.taken c.retrieve.new.disk) c.retrieve.result c.retrieve.ensures.over));
 }
 
 pub returns-clause-file : goal.returns-clause-file

@@ -1,12 +1,11 @@
-use Rattle.std.specs.Prelude.{IfErr, IfOk}
-use Rattle.dg_history.specs.History.{in_range}
 use Rattle.dg_index.specs.OpenedIndex.{event_total}
 use Rattle.dg_session.specs.SessionState.{SessionState}
 use Rattle.dg_machine.specs.Planning.{bases_in}
-use Rattle.dg_ask.specs.HeldIndex.{point_over, span_held}
-use Rattle.dg_session.specs.Session.{Accepts, Denies, refused_by, retrieval_needs}
+use Rattle.dg_ask.specs.HeldIndex.{point_over}
+use Rattle.dg_machine.specs.Needs.{needs}
+use Rattle.dg_session.specs.Session.{Accepts, refused_by}
 use Rattle.dg_stored.specs.StoredHistory.{index_opening}
-use Rattle.std.proofs.Common.{◌≡◌, ℕ, true, [], ◌∷◌, Some, Err, List, map, sym, ◌∙◌, ap, subst, arith}
+use Rattle.std.proofs.Common.{◌≡◌, Some, Err, List, length, map, refl, sym, ◌∙◌, ap, subst}
 use Rattle.dg_text.specs.Lines.{ScriptLine}
 use Rattle.dg_cuts.specs.TakenLines.{CutsWithin, TakesBehind}
 use Rattle.dg_machine.specs.declared.command.Command.TheVariants as command
@@ -19,8 +18,9 @@ use Rattle.dg_session.proofs.LimitStops.{not_ok, same_fault}
 use Rattle.dg_session.specs.Parts.{Parts}
 use Rattle.dg_retrieval.specs.KeptGraph.{kept_edges}
 use Rattle.dg_session.proofs.KeptPlannerGraphs.{graph_for}
-use Rattle.dg_session.proofs.PlanStep.{certificate_answers, certificate_lacks, certificate_out, certificate_short, certificate_stopped, enough_read}
-use Rattle.dg_session.proofs.SessionSteps.{Comes, handed_out}
+use Rattle.dg_session.proofs.PlanStep.{certificate_answers, certificate_stopped, inside_of}
+use Rattle.dg_session.proofs.SessionSteps.{Comes, handed_out, lacking_denies, refused_denies}
+use Rattle.dg_session.proofs.Needed.{has_needed}
 use Rattle.dg_session.proofs.session.Session.certify.Goals as goal
 
 pub returns-in_err-written-clause-comes : goal.returns-in_err-written-clause-comes
@@ -30,33 +30,19 @@ returns-in_err-written-clause-comes g c image =
     handed_out c.from_residual.result (halt.Stop c.in_err-written.field-0.0) (Comes (command.Certify c.args.t c.args.cols c.args.count) takes short c.args.self.now.parts image c.args.self.now.parts image) c.from_residual.ensures
     (certificate_stopped c.args.self.now.parts c.args.t c.args.cols c.args.count takes short image c.in_err-written.field-0.0 c.in_err-written.ensures.cut (λ e. c.read_plan_lines.ensures.no_store (c.in_err-written.was ∙ ap (λ x. Err x) e)))
 
-pub returns-then-written-count-clause-comes : goal.returns-then-written-count-clause-comes
-returns-then-written-count-clause-comes g c image =
-    let w = c.in_ok-written.ensures.reads in
-    (w.0, w.1, certificate_short c.args.self.now.parts c.args.t c.args.cols c.args.count c.in_ok-written.written.read w.0 image w.2.read_is (omega (arith, c.if-written-count.true)))
-
-pub returns-in_err-index-clause-comes : goal.returns-in_err-index-clause-comes
-returns-in_err-index-clause-comes g c image =
-    let takes : List ScriptLine → Type 0 = TakesBehind c.args.count c.args.lines.now (g.S.Source.left c.args.source.now) c.read_plan_lines.new.lines (g.S.Source.left c.read_plan_lines.new.source) in
-    let short : Type 0 = CutsWithin c.args.count c.args.lines.now (g.S.Source.left c.args.source.now) c.read_plan_lines.new.lines (g.S.Source.left c.read_plan_lines.new.source) in
+pub returns-in-Some-clause-comes : goal.returns-in-Some-clause-comes
+returns-in-Some-clause-comes g c image =
     let w = c.in_ok-written.ensures.reads in
     let p : Parts = c.args.self.now.parts in
-    let same = ap (λ (x : SessionState). x.parts) c.self.view_is in
-    let refused =
-    subst (λ r. IfErr r (λ refusal. (q : Parts) → q.index ≡ index_opening c.self.inside.held.live.history.index → (handles : ℕ) → refused_by q 0 (retrieval_needs (c.args.t ∷ []) handles) ≡ Some refusal)) c.in_err-index.was c.index_at-index.ensures.refused in
-    handed_out c.from_residual-in_err-index.result (halt.Refusal c.in_err-index.field-0.0) (Comes (command.Certify c.args.t c.args.cols c.args.count) takes short p image p image) c.from_residual-in_err-index.ensures
-    (w.0, w.1, certificate_out p c.args.t c.args.cols c.args.count c.in_ok-written.written.read w.0 image c.in_err-index.field-0.0 w.2.read_is (omega (arith, c.if-written-count.false)) (refused p (ap (λ (x : Parts). x.index) (sym same)) 0))
+    let is = ap (λ n. refused_by p n (needs (command.Certify c.args.t c.args.cols c.args.count))) w.2.read_is ∙ sym c.refused-2.ensures ∙ c.in-Some.is in
+    (w.0, w.1, refused_denies (command.Certify c.args.t c.args.cols c.args.count) w.0 p p image image c.in-Some.refusal refl refl is)
 
 pub returns-then-not-written-clause-comes : goal.returns-then-not-written-clause-comes
 returns-then-not-written-clause-comes g c image =
     let w = c.in_ok-written.ensures.reads in
     let p : Parts = c.args.self.now.parts in
-    let same = ap (λ (x : SessionState). x.parts) c.self.view_is in
-    let o = c.in_ok-index.index.now.opening in
-    let there : p.index ≡ Some o = ap (λ (x : Parts). x.index) (sym same) ∙ subst (λ r. IfOk r (λ x. index_opening c.self.inside.held.live.history.index ≡ Some x.now.opening)) c.in_ok-index.was c.index_at-index.ensures.index in
-    let inside : in_range (span_held (Some o)) c.args.t ≡ true = subst (λ r. IfOk r (λ x. in_range (span_held (Some x.now.opening)) c.args.t ≡ true)) c.in_ok-index.was c.index_at-index.ensures.there in
-    let enough = enough_read w.0 c.in_ok-written.written.read c.args.count w.2.read_is (omega (arith, c.if-written-count.false)) in
-    (w.0, w.1, certificate_lacks p c.args.t c.args.cols c.args.count w.0 image o there inside enough)
+    let free = ap (λ n. refused_by p n (needs (command.Certify c.args.t c.args.cols c.args.count))) w.2.read_is ∙ sym c.refused-2.ensures ∙ c.in_default.is in
+    (w.0, w.1, lacking_denies (command.Certify c.args.t c.args.cols c.args.count) w.0 p p image image refl refl refl free)
 
 pub returns-in_err-keep-clause-comes : goal.returns-in_err-keep-clause-comes
 returns-in_err-keep-clause-comes g c image =
@@ -64,17 +50,17 @@ returns-in_err-keep-clause-comes g c image =
     let short : Type 0 = CutsWithin c.args.count c.args.lines.now (g.S.Source.left c.args.source.now) c.read_plan_lines.new.lines (g.S.Source.left c.read_plan_lines.new.source) in
     let w = c.in_ok-written.ensures.reads in
     let p : Parts = c.args.self.now.parts in
-    let same = ap (λ (x : SessionState). x.parts) c.self.view_is in
-    let o = c.in_ok-index.index.now.opening in
-    let there : p.index ≡ Some o = ap (λ (x : Parts). x.index) (sym same) ∙ subst (λ r. IfOk r (λ x. index_opening c.self.inside.held.live.history.index ≡ Some x.now.opening)) c.in_ok-index.was c.index_at-index.ensures.index in
-    let inside : in_range (span_held (Some o)) c.args.t ≡ true = subst (λ r. IfOk r (λ x. in_range (span_held (Some x.now.opening)) c.args.t ≡ true)) c.in_ok-index.was c.index_at-index.ensures.there in
-    let enough = enough_read w.0 c.in_ok-written.written.read c.args.count w.2.read_is (omega (arith, c.if-written-count.false)) in
-    handed_out c.from_residual-in_err-keep.result (halt.Refusal refusal.OutOfMemory) (Comes (command.Certify c.args.t c.args.cols c.args.count) takes short p image _ image) c.from_residual-in_err-keep.ensures (
-      w.0,
-      w.1,
-      subst (λ (x : Parts). Denies (command.Certify c.args.t c.args.cols c.args.count) w.0 p image x image refusal.OutOfMemory) (sym same)
-          (certificate_lacks p c.args.t c.args.cols c.args.count w.0 image o there inside enough),
-    )
+    let free = ap (λ n. refused_by p n (needs (command.Certify c.args.t c.args.cols c.args.count))) w.2.read_is ∙ sym c.refused-2.ensures ∙ c.in_default.is in
+    handed_out c.from_residual-in_err-keep.result (halt.Refusal refusal.OutOfMemory) (Comes (command.Certify c.args.t c.args.cols c.args.count) takes short p image _ image) c.from_residual-in_err-keep.ensures
+    (w.0, w.1, lacking_denies (command.Certify c.args.t c.args.cols c.args.count) w.0 p _ image image (ap (λ (x : SessionState). x.parts) c.self.view_is) refl refl free)
+
+pub judge-requires-clause-there : goal.judge-requires-clause-there
+judge-requires-clause-there g c =
+    let w = c.in_ok-written.ensures.reads in
+    let p : Parts = c.args.self.now.parts in
+    let free = ap (λ n. refused_by p n (needs (command.Certify c.args.t c.args.cols c.args.count))) w.2.read_is ∙ sym c.refused-2.ensures ∙ c.in_default.is in
+    let there = ap (λ (x : SessionState). x.parts.index) (sym c.self.view_is) ∙ ap index_opening c.in-Some-index.is in
+    inside_of p c.args.t c.in-Some-index.index.opening there (has_needed p (length w.0) (needs (command.Certify c.args.t c.args.cols c.args.count)) free).instants
 
 pub returns-in_err-verdict-clause-comes : goal.returns-in_err-verdict-clause-comes
 returns-in_err-verdict-clause-comes g c image =
@@ -82,27 +68,18 @@ returns-in_err-verdict-clause-comes g c image =
     let short : Type 0 = CutsWithin c.args.count c.args.lines.now (g.S.Source.left c.args.source.now) c.read_plan_lines.new.lines (g.S.Source.left c.read_plan_lines.new.source) in
     let w = c.in_ok-written.ensures.reads in
     let p : Parts = c.args.self.now.parts in
-    let same = ap (λ (x : SessionState). x.parts) c.self.view_is in
-    let o = c.in_ok-index.index.now.opening in
-    let there : p.index ≡ Some o = ap (λ (x : Parts). x.index) (sym same) ∙ subst (λ r. IfOk r (λ x. index_opening c.self.inside.held.live.history.index ≡ Some x.now.opening)) c.in_ok-index.was c.index_at-index.ensures.index in
-    let inside : in_range (span_held (Some o)) c.args.t ≡ true = subst (λ r. IfOk r (λ x. in_range (span_held (Some x.now.opening)) c.args.t ≡ true)) c.in_ok-index.was c.index_at-index.ensures.there in
-    let enough = enough_read w.0 c.in_ok-written.written.read c.args.count w.2.read_is (omega (arith, c.if-written-count.false)) in
-    handed_out c.from_residual-in_err-verdict.result (halt.Refusal refusal.OutOfMemory) (Comes (command.Certify c.args.t c.args.cols c.args.count) takes short p image _ image) c.from_residual-in_err-verdict.ensures (
-      w.0,
-      w.1,
-      subst (λ (x : Parts). Denies (command.Certify c.args.t c.args.cols c.args.count) w.0 p image x image refusal.OutOfMemory) (sym same)
-          (certificate_lacks p c.args.t c.args.cols c.args.count w.0 image o there inside enough),
-    )
+    let free = ap (λ n. refused_by p n (needs (command.Certify c.args.t c.args.cols c.args.count))) w.2.read_is ∙ sym c.refused-2.ensures ∙ c.in_default.is in
+    handed_out c.from_residual-in_err-verdict.result (halt.Refusal refusal.OutOfMemory) (Comes (command.Certify c.args.t c.args.cols c.args.count) takes short p image _ image) c.from_residual-in_err-verdict.ensures
+    (w.0, w.1, lacking_denies (command.Certify c.args.t c.args.cols c.args.count) w.0 p _ image image (ap (λ (x : SessionState). x.parts) c.self.view_is) refl refl free)
 
 pub returns-clause-comes : goal.returns-clause-comes
 returns-clause-comes g c image =
     let w = c.in_ok-written.ensures.reads in
     let p : Parts = c.args.self.now.parts in
+    let free = ap (λ n. refused_by p n (needs (command.Certify c.args.t c.args.cols c.args.count))) w.2.read_is ∙ sym c.refused-2.ensures ∙ c.in_default.is in
     let same = ap (λ (x : SessionState). x.parts) c.self.view_is in
-    let o = c.in_ok-index.index.now.opening in
-    let there : p.index ≡ Some o = ap (λ (x : Parts). x.index) (sym same) ∙ subst (λ r. IfOk r (λ x. index_opening c.self.inside.held.live.history.index ≡ Some x.now.opening)) c.in_ok-index.was c.index_at-index.ensures.index in
-    let inside : in_range (span_held (Some o)) c.args.t ≡ true = subst (λ r. IfOk r (λ x. in_range (span_held (Some x.now.opening)) c.args.t ≡ true)) c.in_ok-index.was c.index_at-index.ensures.there in
-    let enough = enough_read w.0 c.in_ok-written.written.read c.args.count w.2.read_is (omega (arith, c.if-written-count.false)) in
+    let o = c.in-Some-index.index.opening in
+    let there : p.index ≡ Some o = ap (λ (x : Parts). x.index) (sym same) ∙ ap index_opening c.in-Some-index.is in
     let cols = c.args.cols in
     let graph = graph_for o c.self.inside.held.handles.table cols c.keep.new.self c.planner-planner.result.now c.keep.ensures.kept c.planner-planner.ensures.planner in
     let edges : c.planner-planner.result.now.edges ≡ kept_edges o (event_total o.batches) cols (bases_in cols p.table) =
@@ -112,7 +89,7 @@ returns-clause-comes g c image =
       w.0,
       w.1,
       subst (λ (x : Parts). Accepts (command.Certify c.args.t cols c.args.count) w.0 p image x image c.headed.result) (sym same)
-          (certificate_answers p c.args.t cols c.args.count w.0 image o c.in_ok-verdict.verdict c.headed.result there inside enough
+          (certificate_answers p c.args.t cols c.args.count w.0 image o c.in_ok-verdict.verdict c.headed.result there free
           (c.in_ok-verdict.ensures ∙ (λ i. judged (edges i) (graph.nodes i) (point_over o (recent i) c.args.t) (said i)))
           c.headed.ensures),
     )
@@ -122,11 +99,8 @@ returns-in_err-written-clause-due g c some at needs =
     handed_out c.from_residual.result (halt.Stop c.in_err-written.field-0.0) (λ r. r ≡ Err (halt.Stop stop.Limit)) c.from_residual.ensures
     (ap (λ s. Err (halt.Stop s)) (same_fault c.read_plan_lines.result stop.Limit c.in_err-written.field-0.0 (c.read_plan_lines.ensures.due some at needs) c.in_err-written.was))
 
-pub returns-then-written-count-clause-due : goal.returns-then-written-count-clause-due
-returns-then-written-count-clause-due g c some at needs = absurd (not_ok c.read_plan_lines.result c.in_ok-written.written stop.Limit (c.read_plan_lines.ensures.due some at needs) c.in_ok-written.was)
-
-pub returns-in_err-index-clause-due : goal.returns-in_err-index-clause-due
-returns-in_err-index-clause-due g c some at needs = absurd (not_ok c.read_plan_lines.result c.in_ok-written.written stop.Limit (c.read_plan_lines.ensures.due some at needs) c.in_ok-written.was)
+pub returns-in-Some-clause-due : goal.returns-in-Some-clause-due
+returns-in-Some-clause-due g c some at needs = absurd (not_ok c.read_plan_lines.result c.in_ok-written.written stop.Limit (c.read_plan_lines.ensures.due some at needs) c.in_ok-written.was)
 
 pub returns-then-not-written-clause-due : goal.returns-then-not-written-clause-due
 returns-then-not-written-clause-due g c some at needs = absurd (not_ok c.read_plan_lines.result c.in_ok-written.written stop.Limit (c.read_plan_lines.ensures.due some at needs) c.in_ok-written.was)

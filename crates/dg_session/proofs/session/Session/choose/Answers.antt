@@ -37,7 +37,7 @@ pub retrieve-requires-clause-few : goal.retrieve-requires-clause-few
 retrieve-requires-clause-few g c = omega (arith, c.first_of-times.ensures.count, c.instants-instants.ensures.count)
 
 pub retrieve-requires-clause-free : goal.retrieve-requires-clause-free
-retrieve-requires-clause-free g c = without_handles c.args.self.now.parts c.first_of-times.result.now 1 (sym c.refused_retrieval.ensures ∙ c.in_default.is)
+retrieve-requires-clause-free g c = without_handles c.args.self.now.parts c.first_of-times.result.now 1 (sym c.refused.ensures ∙ c.in_default.is)
 
 pub chosen_of-requires-clause-leads : goal.chosen_of-requires-clause-leads
 chosen_of-requires-clause-leads g c =
@@ -50,12 +50,12 @@ chosen_of-requires-clause-named g c =
 
 pub add_selected-requires-clause-room : goal.add_selected-requires-clause-room
 add_selected-requires-clause-room g c =
-    let room = retrieval_free c.args.self.now.parts c.first_of-times.result.now 1 (omega arith) (sym c.refused_retrieval.ensures ∙ c.in_default.is) in
+    let room = retrieval_free c.args.self.now.parts c.first_of-times.result.now 1 (omega arith) (sym c.refused.ensures ∙ c.in_default.is) in
     omega (arith, room.2, ap (λ (x : SessionState). length x.parts.table) c.retrieve.ensures.same)
 
 pub add_selected-requires-clause-numbers : goal.add_selected-requires-clause-numbers
 add_selected-requires-clause-numbers g c =
-    let room = retrieval_free c.args.self.now.parts c.first_of-times.result.now 1 (omega arith) (sym c.refused_retrieval.ensures ∙ c.in_default.is) in
+    let room = retrieval_free c.args.self.now.parts c.first_of-times.result.now 1 (omega arith) (sym c.refused.ensures ∙ c.in_default.is) in
     omega (arith, room.3, ap (λ (x : SessionState). x.parts.next) c.retrieve.ensures.same)
 
 pub returns-in-Some-clause-comes : goal.returns-in-Some-clause-comes
@@ -63,14 +63,14 @@ returns-in-Some-clause-comes g c =
     let p : Parts = c.args.self.now.parts in
     let asked : c.first_of-times.result.now ≡ instants_of (words_of c.args.expr) = c.first_of-times.ensures.times ∙ c.instants-instants.ensures.times in
     refused_denies (command.Select (Chosen c.args.expr) c.args.cols) [] p p (g.D.Disk.image c.args.disk.now) (g.D.Disk.image c.args.disk.now) c.in-Some.refusal refl refl
-    (ap (λ ts. refused_by p 0 (retrieval_needs ts 1)) (sym asked) ∙ sym c.refused_retrieval.ensures ∙ c.in-Some.is)
+    (ap (λ ts. refused_by p 0 (retrieval_needs ts 1)) (sym asked) ∙ sym c.refused.ensures ∙ c.in-Some.is)
 
 pub returns-in_err-leads-clause-comes : goal.returns-in_err-leads-clause-comes
 returns-in_err-leads-clause-comes g c =
     let p : Parts = c.args.self.now.parts in
     let done : Command = command.Select (Chosen c.args.expr) c.args.cols in
     let asked : c.first_of-times.result.now ≡ instants_of (words_of c.args.expr) = c.first_of-times.ensures.times ∙ c.instants-instants.ensures.times in
-    let none : refused_by p 0 (retrieval_needs (instants_of (words_of c.args.expr)) 1) ≡ None = ap (λ ts. refused_by p 0 (retrieval_needs ts 1)) (sym asked) ∙ sym c.refused_retrieval.ensures ∙ c.in_default.is in
+    let none : refused_by p 0 (retrieval_needs (instants_of (words_of c.args.expr)) 1) ≡ None = ap (λ ts. refused_by p 0 (retrieval_needs ts 1)) (sym asked) ∙ sym c.refused.ensures ∙ c.in_default.is in
     handed_out c.from_residual.result (retrieval_halt c.in_err-leads.field-0.0)
     (ComesTo done [] p (g.D.Disk.image c.args.disk.now) c.retrieve.new.self.parts (g.D.Disk.image c.retrieve.new.disk)) c.from_residual.ensures
     (retrieval_failed done p c.retrieve.new.self.parts (g.D.Disk.image c.args.disk.now) (g.D.Disk.image c.retrieve.new.disk) c.in_err-leads.field-0.0 refl refl (λ m. refl)
@@ -82,7 +82,7 @@ returns-in_err-elements-clause-comes g c =
     let p : Parts = c.args.self.now.parts in
     let done : Command = command.Select (Chosen c.args.expr) c.args.cols in
     let asked : c.first_of-times.result.now ≡ instants_of (words_of c.args.expr) = c.first_of-times.ensures.times ∙ c.instants-instants.ensures.times in
-    let none : refused_by p 0 (retrieval_needs (instants_of (words_of c.args.expr)) 1) ≡ None = ap (λ ts. refused_by p 0 (retrieval_needs ts 1)) (sym asked) ∙ sym c.refused_retrieval.ensures ∙ c.in_default.is in
+    let none : refused_by p 0 (retrieval_needs (instants_of (words_of c.args.expr)) 1) ≡ None = ap (λ ts. refused_by p 0 (retrieval_needs ts 1)) (sym asked) ∙ sym c.refused.ensures ∙ c.in_default.is in
     handed_out c.from_residual-in_err-elements.result (halt.Refusal refusal.OutOfMemory)
     (ComesTo done [] p (g.D.Disk.image c.args.disk.now) c.retrieve.new.self.parts (g.D.Disk.image c.retrieve.new.disk)) c.from_residual-in_err-elements.ensures
     (lacking_denies done [] p c.retrieve.new.self.parts (g.D.Disk.image c.args.disk.now) (g.D.Disk.image c.retrieve.new.disk)
@@ -93,7 +93,7 @@ returns-in_err-add_selected-clause-comes g c =
     let p : Parts = c.args.self.now.parts in
     let done : Command = command.Select (Chosen c.args.expr) c.args.cols in
     let asked : c.first_of-times.result.now ≡ instants_of (words_of c.args.expr) = c.first_of-times.ensures.times ∙ c.instants-instants.ensures.times in
-    let none : refused_by p 0 (retrieval_needs (instants_of (words_of c.args.expr)) 1) ≡ None = ap (λ ts. refused_by p 0 (retrieval_needs ts 1)) (sym asked) ∙ sym c.refused_retrieval.ensures ∙ c.in_default.is in
+    let none : refused_by p 0 (retrieval_needs (instants_of (words_of c.args.expr)) 1) ≡ None = ap (λ ts. refused_by p 0 (retrieval_needs ts 1)) (sym asked) ∙ sym c.refused.ensures ∙ c.in_default.is in
     handed_out c.from_residual-in_err-add_selected.result (halt.Refusal refusal.OutOfMemory)
     (ComesTo done [] p (g.D.Disk.image c.args.disk.now) c.add_selected.new.self.parts (g.D.Disk.image c.retrieve.new.disk)) c.from_residual-in_err-add_selected.ensures
     (lacking_denies done [] p c.add_selected.new.self.parts (g.D.Disk.image c.args.disk.now) (g.D.Disk.image c.retrieve.new.disk)
@@ -108,7 +108,7 @@ returns-clause-comes g c =
     let cols = c.args.cols in
     let leads : List GraphLead = leads_in r.leads in
     let asked : c.first_of-times.result.now ≡ instants_of (words_of e) = c.first_of-times.ensures.times ∙ c.instants-instants.ensures.times in
-    let none : refused_by p 0 (retrieval_needs (instants_of (words_of e)) 1) ≡ None = ap (λ ts. refused_by p 0 (retrieval_needs ts 1)) (sym asked) ∙ sym c.refused_retrieval.ensures ∙ c.in_default.is in
+    let none : refused_by p 0 (retrieval_needs (instants_of (words_of e)) 1) ≡ None = ap (λ ts. refused_by p 0 (retrieval_needs ts 1)) (sym asked) ∙ sym c.refused.ensures ∙ c.in_default.is in
     let same : c.retrieve.new.self.parts ≡ p = ap (λ (x : SessionState). x.parts) c.retrieve.ensures.same in
     let number : c.next-handle.result ≡ p.next = c.next-handle.ensures.next ∙ ap (λ (x : SessionState). x.parts.next) (c.self.view_is ∙ c.retrieve.ensures.same) in
     chosen_answers c.law_chosen_elements_are_shown.ensures p e cols none c.add_selected.new.self.parts image (g.D.Disk.image c.retrieve.new.disk) r.weight r.singles.items (bases_of leads)
@@ -127,7 +127,7 @@ returns-in-Some-clause-file g c =
     let asked : c.first_of-times.result.now ≡ instants_of (words_of c.args.expr) = c.first_of-times.ensures.times ∙ c.instants-instants.ensures.times in
     record {
       damaged = tells_no_damage done p (g.D.Disk.image c.args.disk.now) c.in-Some.refusal
-          (refused_not_read p 0 (needs done) c.in-Some.refusal (ap (λ ts. refused_by p 0 (retrieval_needs ts 1)) (sym asked) ∙ sym c.refused_retrieval.ensures ∙ c.in-Some.is));
+          (refused_not_read p 0 (needs done) c.in-Some.refusal (ap (λ ts. refused_by p 0 (retrieval_needs ts 1)) (sym asked) ∙ sym c.refused.ensures ∙ c.in-Some.is));
       undamaged = tt;
       reads = reads_unasked done p (g.D.Disk.image c.args.disk.now) c.in-Some.refusal (g.D.Disk.taken c.args.disk.now) (λ m got plan planned. omega arith);
     }
@@ -138,7 +138,7 @@ returns-in_err-leads-clause-file g c =
     let image = g.D.Disk.image c.args.disk.now in
     let done : Command = command.Select (Chosen c.args.expr) c.args.cols in
     let asked : c.first_of-times.result.now ≡ instants_of (words_of c.args.expr) = c.first_of-times.ensures.times ∙ c.instants-instants.ensures.times in
-    let none : refused_by p 0 (retrieval_needs (instants_of (words_of c.args.expr)) 1) ≡ None = ap (λ ts. refused_by p 0 (retrieval_needs ts 1)) (sym asked) ∙ sym c.refused_retrieval.ensures ∙ c.in_default.is in
+    let none : refused_by p 0 (retrieval_needs (instants_of (words_of c.args.expr)) 1) ≡ None = ap (λ ts. refused_by p 0 (retrieval_needs ts 1)) (sym asked) ∙ sym c.refused.ensures ∙ c.in_default.is in
     record {
       damaged = handed_out c.from_residual.result (retrieval_halt c.in_err-leads.field-0.0) (λ r. DamageIn done p image r) c.from_residual.ensures
           (damage_in done p image (instants_of (words_of c.args.expr)) (graph_columns c.args.cols) c.in_err-leads.field-0.0 refl
@@ -158,7 +158,7 @@ returns-in_err-elements-clause-file g c =
     let image = g.D.Disk.image c.args.disk.now in
     let done : Command = command.Select (Chosen c.args.expr) c.args.cols in
     let asked : c.first_of-times.result.now ≡ instants_of (words_of c.args.expr) = c.first_of-times.ensures.times ∙ c.instants-instants.ensures.times in
-    let none : refused_by p 0 (retrieval_needs (instants_of (words_of c.args.expr)) 1) ≡ None = ap (λ ts. refused_by p 0 (retrieval_needs ts 1)) (sym asked) ∙ sym c.refused_retrieval.ensures ∙ c.in_default.is in
+    let none : refused_by p 0 (retrieval_needs (instants_of (words_of c.args.expr)) 1) ≡ None = ap (λ ts. refused_by p 0 (retrieval_needs ts 1)) (sym asked) ∙ sym c.refused.ensures ∙ c.in_default.is in
     record {
       damaged = handed_out c.from_residual-in_err-elements.result (halt.Refusal refusal.OutOfMemory) (λ r. DamageIn done p image r) c.from_residual-in_err-elements.ensures tt;
       undamaged = none_met c.from_residual-in_err-elements.result (MeetsNone (reads_for done) p image) c.from_residual-in_err-elements.ensures.0;
@@ -175,7 +175,7 @@ returns-in_err-add_selected-clause-file g c =
     let image = g.D.Disk.image c.args.disk.now in
     let done : Command = command.Select (Chosen c.args.expr) c.args.cols in
     let asked : c.first_of-times.result.now ≡ instants_of (words_of c.args.expr) = c.first_of-times.ensures.times ∙ c.instants-instants.ensures.times in
-    let none : refused_by p 0 (retrieval_needs (instants_of (words_of c.args.expr)) 1) ≡ None = ap (λ ts. refused_by p 0 (retrieval_needs ts 1)) (sym asked) ∙ sym c.refused_retrieval.ensures ∙ c.in_default.is in
+    let none : refused_by p 0 (retrieval_needs (instants_of (words_of c.args.expr)) 1) ≡ None = ap (λ ts. refused_by p 0 (retrieval_needs ts 1)) (sym asked) ∙ sym c.refused.ensures ∙ c.in_default.is in
     record {
       damaged = handed_out c.from_residual-in_err-add_selected.result (halt.Refusal refusal.OutOfMemory) (λ r. DamageIn done p image r) c.from_residual-in_err-add_selected.ensures tt;
       undamaged = none_met c.from_residual-in_err-add_selected.result (MeetsNone (reads_for done) p image) c.from_residual-in_err-add_selected.ensures.0;

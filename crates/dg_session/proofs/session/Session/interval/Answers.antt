@@ -22,22 +22,22 @@ use Rattle.dg_session.specs.SessionState.{SessionState}
 use Rattle.dg_session.proofs.session.Session.interval.Goals as goal
 
 pub interval_bytes-weight-requires : goal.interval_bytes-weight-requires
-interval_bytes-weight-requires g c = (interval_free c.args.self.now.parts c.args.from c.args.until (sym c.refused_interval.ensures ∙ c.in_default.is)).0
+interval_bytes-weight-requires g c = (interval_free c.args.self.now.parts c.args.from c.args.until (sym c.refused.ensures ∙ c.in_default.is)).0
 
 pub read_interval-requires-clause-there : goal.read_interval-requires-clause-there
-read_interval-requires-clause-there g c = (interval_free c.args.self.now.parts c.args.from c.args.until (sym c.refused_interval.ensures ∙ c.in_default.is)).0
+read_interval-requires-clause-there g c = (interval_free c.args.self.now.parts c.args.from c.args.until (sym c.refused.ensures ∙ c.in_default.is)).0
 
 pub add_selected-requires-clause-room : goal.add_selected-requires-clause-room
-add_selected-requires-clause-room g c = (interval_free c.args.self.now.parts c.args.from c.args.until (sym c.refused_interval.ensures ∙ c.in_default.is)).2
+add_selected-requires-clause-room g c = (interval_free c.args.self.now.parts c.args.from c.args.until (sym c.refused.ensures ∙ c.in_default.is)).2
 
 pub add_selected-requires-clause-numbers : goal.add_selected-requires-clause-numbers
-add_selected-requires-clause-numbers g c = (interval_free c.args.self.now.parts c.args.from c.args.until (sym c.refused_interval.ensures ∙ c.in_default.is)).3
+add_selected-requires-clause-numbers g c = (interval_free c.args.self.now.parts c.args.from c.args.until (sym c.refused.ensures ∙ c.in_default.is)).3
 
 pub returns-in-Some-clause-comes : goal.returns-in-Some-clause-comes
 returns-in-Some-clause-comes g c =
     let p : Parts = c.args.self.now.parts in
     let image = g.D.Disk.image c.args.disk.now in
-    refused_denies (command.Select (Added c.args.from c.args.until) c.args.cols) [] p p image image c.in-Some.refusal refl refl (sym c.refused_interval.ensures ∙ c.in-Some.is)
+    refused_denies (command.Select (Added c.args.from c.args.until) c.args.cols) [] p p image image c.in-Some.refusal refl refl (sym c.refused.ensures ∙ c.in-Some.is)
 
 pub returns-in_err-elements-clause-comes : goal.returns-in_err-elements-clause-comes
 returns-in_err-elements-clause-comes g c =
@@ -46,7 +46,7 @@ returns-in_err-elements-clause-comes g c =
     let done : Command = command.Select (Added c.args.from c.args.until) c.args.cols in
     let f = c.in_err-elements.field-0.0 in
     handed_out c.from_residual.result (retrieval_halt f) (ComesTo done [] p image p (g.D.Disk.image c.read_interval.new.disk)) c.from_residual.ensures
-    (retrieval_failed done p p image (g.D.Disk.image c.read_interval.new.disk) f refl refl (λ m. refl) (sym c.refused_interval.ensures ∙ c.in_default.is) refl c.read_interval.ensures.disk.same_image
+    (retrieval_failed done p p image (g.D.Disk.image c.read_interval.new.disk) f refl refl (λ m. refl) (sym c.refused.ensures ∙ c.in_default.is) refl c.read_interval.ensures.disk.same_image
     (interval_never_of p c.args.from c.args.until c.args.cols image (g.D.Disk.taken c.args.disk.now) (g.D.Disk.taken c.read_interval.new.disk) f c.in_err-elements.ensures.over))
 
 pub returns-in_err-add_selected-clause-comes : goal.returns-in_err-add_selected-clause-comes
@@ -55,7 +55,7 @@ returns-in_err-add_selected-clause-comes g c =
     let image = g.D.Disk.image c.args.disk.now in
     let done : Command = command.Select (Added c.args.from c.args.until) c.args.cols in
     handed_out c.from_residual-in_err-add_selected.result (halt.Refusal refusal.OutOfMemory) (ComesTo done [] p image c.add_selected.new.self.parts (g.D.Disk.image c.read_interval.new.disk)) c.from_residual-in_err-add_selected.ensures
-    (lacking_denies done [] p c.add_selected.new.self.parts image (g.D.Disk.image c.read_interval.new.disk) c.in_err-add_selected.ensures.err c.read_interval.ensures.disk.same_image refl (sym c.refused_interval.ensures ∙ c.in_default.is))
+    (lacking_denies done [] p c.add_selected.new.self.parts image (g.D.Disk.image c.read_interval.new.disk) c.in_err-add_selected.ensures.err c.read_interval.ensures.disk.same_image refl (sym c.refused.ensures ∙ c.in_default.is))
 
 pub returns-clause-comes : goal.returns-clause-comes
 returns-clause-comes g c =
@@ -63,7 +63,7 @@ returns-clause-comes g c =
     let image = g.D.Disk.image c.args.disk.now in
     let set = c.in_ok-elements.elements in
     let number = c.next-handle.ensures.next ∙ ap (λ (x : SessionState). x.parts.next) c.self.view_is in
-    interval_answers p c.args.from c.args.until c.args.cols (sym c.refused_interval.ensures ∙ c.in_default.is) c.add_selected.new.self.parts image (g.D.Disk.image c.read_interval.new.disk) c.interval_bytes-weight.result set c.headed.result
+    interval_answers p c.args.from c.args.until c.args.cols (sym c.refused.ensures ∙ c.in_default.is) c.add_selected.new.self.parts image (g.D.Disk.image c.read_interval.new.disk) c.interval_bytes-weight.result set c.headed.result
     c.read_interval.ensures.disk.same_image c.interval_bytes-weight.ensures
     (interval_set_of p c.args.from c.args.until c.args.cols image (g.D.Disk.taken c.args.disk.now) (g.D.Disk.taken c.read_interval.new.disk) set c.in_ok-elements.ensures.over)
     c.in_ok-add_selected.ensures.added (c.headed.ensures ∙ ap (λ n. headed (head.Added n c.interval_bytes-weight.result)) number)
@@ -74,7 +74,7 @@ returns-in-Some-clause-file g c =
     let image = g.D.Disk.image c.args.disk.now in
     let done : Command = command.Select (Added c.args.from c.args.until) c.args.cols in
     record {
-      damaged = tells_no_damage done p image c.in-Some.refusal (refused_not_read p 0 (needs done) c.in-Some.refusal (sym c.refused_interval.ensures ∙ c.in-Some.is));
+      damaged = tells_no_damage done p image c.in-Some.refusal (refused_not_read p 0 (needs done) c.in-Some.refusal (sym c.refused.ensures ∙ c.in-Some.is));
       undamaged = tt;
       reads = reads_unasked done p image c.in-Some.refusal (g.D.Disk.taken c.args.disk.now) (λ m got plan planned. omega arith);
     }
@@ -93,7 +93,7 @@ returns-in_err-elements-clause-file g c =
       undamaged = none_met c.from_residual.result (MeetsNone (reads_for done) p image) c.from_residual.ensures.0;
       reads = handed_out c.from_residual.result (retrieval_halt f) (λ r. ReadsIn done p image r before after) c.from_residual.ensures
           (reads_failing done p image f before after
-          (λ h refuses late. interval_fails p c.args.from c.args.until c.args.cols (sym c.refused_interval.ensures ∙ c.in_default.is) image h before after refuses late
+          (λ h refuses late. interval_fails p c.args.from c.args.until c.args.cols (sym c.refused.ensures ∙ c.in_default.is) image h before after refuses late
           (interval_most_of p c.args.from c.args.until c.args.cols image before after c.read_interval.result c.read_interval.ensures.over)));
     }
 
@@ -108,7 +108,7 @@ returns-in_err-add_selected-clause-file g c =
       damaged = handed_out c.from_residual-in_err-add_selected.result (halt.Refusal refusal.OutOfMemory) (λ r. DamageIn done p image r) c.from_residual-in_err-add_selected.ensures tt;
       undamaged = none_met c.from_residual-in_err-add_selected.result (MeetsNone (reads_for done) p image) c.from_residual-in_err-add_selected.ensures.0;
       reads = handed_out c.from_residual-in_err-add_selected.result (halt.Refusal refusal.OutOfMemory) (λ r. ReadsIn done p image r before after) c.from_residual-in_err-add_selected.ensures
-          (interval_fails p c.args.from c.args.until c.args.cols (sym c.refused_interval.ensures ∙ c.in_default.is) image (replied.Refused refusal.OutOfMemory) before after refl refl
+          (interval_fails p c.args.from c.args.until c.args.cols (sym c.refused.ensures ∙ c.in_default.is) image (replied.Refused refusal.OutOfMemory) before after refl refl
           (interval_most_of p c.args.from c.args.until c.args.cols image before after c.read_interval.result c.read_interval.ensures.over));
     }
 

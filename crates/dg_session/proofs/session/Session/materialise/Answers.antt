@@ -25,13 +25,13 @@ use Rattle.dg_session.proofs.session.Session.materialise.Goals as goal
 
 pub returns-in-Some-clause-comes : goal.returns-in-Some-clause-comes
 returns-in-Some-clause-comes g c =
-    refused_denies (command.Materialise c.args.node c.args.cols) [] c.args.self.now.parts c.args.self.now.parts (g.D.Disk.image c.args.disk.now) (g.D.Disk.image c.args.disk.now) c.in-Some.refusal refl refl (sym c.refused_node.ensures ∙ c.in-Some.is)
+    refused_denies (command.Materialise c.args.node c.args.cols) [] c.args.self.now.parts c.args.self.now.parts (g.D.Disk.image c.args.disk.now) (g.D.Disk.image c.args.disk.now) c.in-Some.refusal refl refl (sym c.refused.ensures ∙ c.in-Some.is)
 
 pub returns-in_err-delta-clause-comes : goal.returns-in_err-delta-clause-comes
 returns-in_err-delta-clause-comes g c =
     handed_out c.from_residual.result (retrieval_halt c.in_err-delta.field-0.0)
     (ComesTo (command.Materialise c.args.node c.args.cols) [] c.args.self.now.parts (g.D.Disk.image c.args.disk.now) c.lead_to_node.new.self.parts (g.D.Disk.image c.lead_to_node.new.disk)) c.from_residual.ensures
-    (retrieval_failed (command.Materialise c.args.node c.args.cols) c.args.self.now.parts c.lead_to_node.new.self.parts (g.D.Disk.image c.args.disk.now) (g.D.Disk.image c.lead_to_node.new.disk) c.in_err-delta.field-0.0 refl refl (λ m. refl) (sym c.refused_node.ensures ∙ c.in_default.is)
+    (retrieval_failed (command.Materialise c.args.node c.args.cols) c.args.self.now.parts c.lead_to_node.new.self.parts (g.D.Disk.image c.args.disk.now) (g.D.Disk.image c.lead_to_node.new.disk) c.in_err-delta.field-0.0 refl refl (λ m. refl) (sym c.refused.ensures ∙ c.in_default.is)
     (ap (λ (x : SessionState). x.parts) c.lead_to_node.ensures.same) c.lead_to_node.ensures.disk.same_image (node_never_of c.args.self.now.parts c.args.node c.args.cols (g.D.Disk.image c.args.disk.now) (g.D.Disk.taken c.args.disk.now) (g.D.Disk.taken c.lead_to_node.new.disk) c.in_err-delta.field-0.0 c.in_err-delta.ensures.over))
 
 pub returns-in_err-add_base-clause-comes : goal.returns-in_err-add_base-clause-comes
@@ -39,7 +39,7 @@ returns-in_err-add_base-clause-comes g c =
     handed_out c.from_residual-in_err-add_base.result (halt.Refusal refusal.OutOfMemory)
     (ComesTo (command.Materialise c.args.node c.args.cols) [] c.args.self.now.parts (g.D.Disk.image c.args.disk.now) c.add_base.new.self.parts (g.D.Disk.image c.lead_to_node.new.disk)) c.from_residual-in_err-add_base.ensures
     (lacking_denies (command.Materialise c.args.node c.args.cols) [] c.args.self.now.parts c.add_base.new.self.parts (g.D.Disk.image c.args.disk.now) (g.D.Disk.image c.lead_to_node.new.disk)
-    (c.in_err-add_base.ensures.err ∙ (ap (λ (x : SessionState). x.parts) c.lead_to_node.ensures.same)) c.lead_to_node.ensures.disk.same_image refl (sym c.refused_node.ensures ∙ c.in_default.is))
+    (c.in_err-add_base.ensures.err ∙ (ap (λ (x : SessionState). x.parts) c.lead_to_node.ensures.same)) c.lead_to_node.ensures.disk.same_image refl (sym c.refused.ensures ∙ c.in_default.is))
 
 pub returns-clause-comes : goal.returns-clause-comes
 returns-clause-comes g c =
@@ -49,7 +49,7 @@ returns-clause-comes g c =
     let same : c.lead_to_node.new.self.parts ≡ p = (ap (λ (x : SessionState). x.parts) c.lead_to_node.ensures.same) in
     let number : c.next-handle.result ≡ p.next = c.next-handle.ensures.next ∙ ap (λ (x : SessionState). x.parts.next) (c.self.view_is ∙ c.lead_to_node.ensures.same) in
     node_answers p c.add_base.new.self.parts c.args.node cols (g.D.Disk.image c.args.disk.now) (g.D.Disk.image c.lead_to_node.new.disk) r.weight (shown (applied r.delta []) (with_messages cols)) c.headed.result
-    (sym c.refused_node.ensures ∙ c.in_default.is) c.lead_to_node.ensures.disk.same_image (node_held_of c.args.self.now.parts c.args.node c.args.cols (g.D.Disk.image c.args.disk.now) (g.D.Disk.taken c.args.disk.now) (g.D.Disk.taken c.lead_to_node.new.disk) c.in_ok-delta.field-0 c.in_ok-delta.ensures.over)
+    (sym c.refused.ensures ∙ c.in_default.is) c.lead_to_node.ensures.disk.same_image (node_held_of c.args.self.now.parts c.args.node c.args.cols (g.D.Disk.image c.args.disk.now) (g.D.Disk.taken c.args.disk.now) (g.D.Disk.taken c.lead_to_node.new.disk) c.in_ok-delta.field-0 c.in_ok-delta.ensures.over)
     (c.in_ok-add_base.ensures.added ∙ (λ i. with_new_handles (same i) (Base c.args.node cols ∷ []) (shown (applied r.delta []) (with_messages cols) ∷ [])))
     (c.headed.ensures ∙ ap (λ n. headed (head.Materialised n r.weight)) number)
 
@@ -57,7 +57,7 @@ pub returns-in-Some-clause-file : goal.returns-in-Some-clause-file
 returns-in-Some-clause-file g c = record {
   damaged =
       tells_no_damage (command.Materialise c.args.node c.args.cols) c.args.self.now.parts (g.D.Disk.image c.args.disk.now) c.in-Some.refusal
-      (refused_not_read c.args.self.now.parts 0 (needs (command.Materialise c.args.node c.args.cols)) c.in-Some.refusal (sym c.refused_node.ensures ∙ c.in-Some.is));
+      (refused_not_read c.args.self.now.parts 0 (needs (command.Materialise c.args.node c.args.cols)) c.in-Some.refusal (sym c.refused.ensures ∙ c.in-Some.is));
   undamaged = tt;
   reads = reads_unasked (command.Materialise c.args.node c.args.cols) c.args.self.now.parts (g.D.Disk.image c.args.disk.now) c.in-Some.refusal (g.D.Disk.taken c.args.disk.now) (λ m got plan planned. omega arith);
 }
@@ -73,7 +73,7 @@ returns-in_err-delta-clause-file g c = record {
       handed_out c.from_residual.result (retrieval_halt c.in_err-delta.field-0.0)
       (λ r. ReadsIn (command.Materialise c.args.node c.args.cols) c.args.self.now.parts (g.D.Disk.image c.args.disk.now) r (g.D.Disk.taken c.args.disk.now) (g.D.Disk.taken c.lead_to_node.new.disk)) c.from_residual.ensures
       (reads_failing (command.Materialise c.args.node c.args.cols) c.args.self.now.parts (g.D.Disk.image c.args.disk.now) c.in_err-delta.field-0.0 (g.D.Disk.taken c.args.disk.now) (g.D.Disk.taken c.lead_to_node.new.disk)
-      (λ h refuses late. node_fails c.args.self.now.parts c.args.node c.args.cols (g.D.Disk.image c.args.disk.now) h (g.D.Disk.taken c.args.disk.now) (g.D.Disk.taken c.lead_to_node.new.disk) refuses late (sym c.refused_node.ensures ∙ c.in_default.is) (node_most_of c.args.self.now.parts c.args.node c.args.cols (g.D.Disk.image c.args.disk.now) (g.D.Disk.taken c.args.disk.now) (g.D.Disk.taken c.lead_to_node.new.disk) c.lead_to_node.result c.lead_to_node.ensures.over)));
+      (λ h refuses late. node_fails c.args.self.now.parts c.args.node c.args.cols (g.D.Disk.image c.args.disk.now) h (g.D.Disk.taken c.args.disk.now) (g.D.Disk.taken c.lead_to_node.new.disk) refuses late (sym c.refused.ensures ∙ c.in_default.is) (node_most_of c.args.self.now.parts c.args.node c.args.cols (g.D.Disk.image c.args.disk.now) (g.D.Disk.taken c.args.disk.now) (g.D.Disk.taken c.lead_to_node.new.disk) c.lead_to_node.result c.lead_to_node.ensures.over)));
 }
 
 pub returns-in_err-add_base-clause-file : goal.returns-in_err-add_base-clause-file
@@ -85,7 +85,7 @@ returns-in_err-add_base-clause-file g c = record {
   reads =
       handed_out c.from_residual-in_err-add_base.result (halt.Refusal refusal.OutOfMemory)
       (λ r. ReadsIn (command.Materialise c.args.node c.args.cols) c.args.self.now.parts (g.D.Disk.image c.args.disk.now) r (g.D.Disk.taken c.args.disk.now) (g.D.Disk.taken c.lead_to_node.new.disk)) c.from_residual-in_err-add_base.ensures
-      (node_fails c.args.self.now.parts c.args.node c.args.cols (g.D.Disk.image c.args.disk.now) (replied.Refused refusal.OutOfMemory) (g.D.Disk.taken c.args.disk.now) (g.D.Disk.taken c.lead_to_node.new.disk) refl refl (sym c.refused_node.ensures ∙ c.in_default.is) (node_most_of c.args.self.now.parts c.args.node c.args.cols (g.D.Disk.image c.args.disk.now) (g.D.Disk.taken c.args.disk.now) (g.D.Disk.taken c.lead_to_node.new.disk) c.lead_to_node.result c.lead_to_node.ensures.over));
+      (node_fails c.args.self.now.parts c.args.node c.args.cols (g.D.Disk.image c.args.disk.now) (replied.Refused refusal.OutOfMemory) (g.D.Disk.taken c.args.disk.now) (g.D.Disk.taken c.lead_to_node.new.disk) refl refl (sym c.refused.ensures ∙ c.in_default.is) (node_most_of c.args.self.now.parts c.args.node c.args.cols (g.D.Disk.image c.args.disk.now) (g.D.Disk.taken c.args.disk.now) (g.D.Disk.taken c.lead_to_node.new.disk) c.lead_to_node.result c.lead_to_node.ensures.over));
 }
 
 pub returns-clause-file : goal.returns-clause-file

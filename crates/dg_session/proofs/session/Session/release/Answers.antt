@@ -1,13 +1,12 @@
 use Rattle.std.proofs.Common.{[], length, refl, sym, ◌∙◌, ap, subst}
-use Rattle.std.specs.Prelude.{is_some}
 use Rattle.std.specs.List.{All}
 use Rattle.dg_append.specs.Overlays.{pool_of}
 use Rattle.dg_retrieval.specs.NamesThere.{NamesAreThere}
 use Rattle.dg_session.proofs.GraphNames.{there_without}
 use Rattle.dg_handles.specs.Handles.{slot_graphs}
 use Rattle.dg_machine.specs.declared.command.Command.TheVariants as command
-use Rattle.dg_machine.specs.declared.reply.Refusal.TheVariants as refusal
-use Rattle.dg_machine.specs.MachineState.{dependent_on, stands_at, without_handle}
+use Rattle.dg_machine.specs.MachineState.{dependent_on, without_handle}
+use Rattle.dg_machine.specs.Needs.{needs}
 use Rattle.dg_session.specs.contracts.session.Session.{the_view}
 use Rattle.dg_ask.specs.HeldIndex.{HasNodeOf, HasNodes}
 use Rattle.dg_ask.specs.KeptAdjacency.{KeepsAdjacency}
@@ -15,36 +14,30 @@ use Rattle.dg_ask.specs.KeptPlanner.{IsKeptFor}
 use Rattle.dg_session.specs.Parts.{Parts}
 use Rattle.dg_session.specs.SessionState.{SessionState}
 use Rattle.dg_ask.proofs.KeptAdjacencies.{kept_without as adjacency_without}
-use Rattle.dg_session.proofs.SessionReleaseStep.{all_without, kept_without, parts_without, release_answers, release_refused, release_used}
+use Rattle.dg_session.proofs.Needed.{has_needed}
+use Rattle.dg_session.proofs.SessionReleaseStep.{all_without, kept_without, parts_without, release_answers}
 use Rattle.dg_session.proofs.SessionSteps.{refused_denies}
 use Rattle.dg_stored.specs.StoredHistory.{index_opening}
 use Rattle.dg_session.proofs.session.Session.release.Goals as goal
 
-pub returns-in_default-clause-comes : goal.returns-in_default-clause-comes
-returns-in_default-clause-comes c image =
-    let h = c.args.handle in
+pub returns-in-Some-clause-comes : goal.returns-in-Some-clause-comes
+returns-in-Some-clause-comes c image =
     let p : Parts = c.args.self.now.parts in
-    let there = ap (λ (x : SessionState). is_some (stands_at h x.parts.table)) (sym c.self.view_is) ∙ ap is_some (sym c.stands.ensures ∙ c.in_default.is) in
-    refused_denies (command.Release h) [] p p image image (refusal.UnknownHandle h) refl refl (release_refused p h there)
+    refused_denies (command.Release c.args.handle) [] p p image image c.in-Some.refusal refl refl (sym c.refused.ensures ∙ c.in-Some.is)
 
-pub returns-in-Some-dependent-clause-comes : goal.returns-in-Some-dependent-clause-comes
-returns-in-Some-dependent-clause-comes c image =
+pub give_up-requires-clause-unused : goal.give_up-requires-clause-unused
+give_up-requires-clause-unused c =
     let h = c.args.handle in
-    let p : Parts = c.args.self.now.parts in
-    let d = c.in-Some-dependent.dependent in
-    let there = ap (λ (x : SessionState). is_some (stands_at h x.parts.table)) (sym c.self.view_is) ∙ ap is_some (sym c.stands.ensures ∙ c.in-Some.is) in
-    let used = ap (λ (x : SessionState). dependent_on h x.parts.table) (sym c.self.view_is) ∙ sym c.dependent.ensures ∙ c.in-Some-dependent.is in
-    refused_denies (command.Release h) [] p p image image (refusal.InUse d) refl refl (release_used p h d there used)
+    ap (λ (x : SessionState). dependent_on h x.parts.table) c.self.view_is
+    ∙ (has_needed c.args.self.now.parts 0 (needs (command.Release h)) (sym c.refused.ensures ∙ c.in_default.is)).unused h refl
 
 pub returns-clause-comes : goal.returns-clause-comes
 returns-clause-comes c image =
     let h = c.args.handle in
     let p : Parts = c.args.self.now.parts in
     let view : Parts = (the_view c.self.inside).parts in
-    let there = ap (λ (x : SessionState). is_some (stands_at h x.parts.table)) (sym c.self.view_is) ∙ ap is_some (sym c.stands.ensures ∙ c.in-Some.is) in
-    let unused = ap (λ (x : SessionState). dependent_on h x.parts.table) (sym c.self.view_is) ∙ sym c.dependent.ensures ∙ c.in_default-dependent.is in
     let q_is = (λ i. let x : Parts = record view { table = c.give_up.ensures.table i; graphs = c.give_up.ensures.graphs i; next = c.give_up.ensures.next i } in x) ∙ ap (λ (x : SessionState). parts_without h x.parts) c.self.view_is in
-    release_answers p _ h image c.headed.result there unused q_is c.headed.ensures
+    release_answers p _ h image c.headed.result (sym c.refused.ensures ∙ c.in_default.is) q_is c.headed.ensures
 
 pub invariant_of-self : goal.invariant_of-self
 invariant_of-self c =
@@ -66,5 +59,5 @@ invariant_of-self c =
         };
       },
       subst (λ t. IsKeptFor index t c.forget_base.new.planner) (sym c.give_up.ensures.table)
-          (kept_without index h s.held.handles.table c.in-Some.stands s.planner c.forget_base.new.planner (sym c.stands.ensures ∙ c.in-Some.is) c.forget_base.ensures.base c.forget_base.ensures.other c.self.invariant.2),
+          (kept_without index h s.held.handles.table c.in-Some-stands.stands s.planner c.forget_base.new.planner (sym c.stands.ensures ∙ c.in-Some-stands.is) c.forget_base.ensures.base c.forget_base.ensures.other c.self.invariant.2),
     )

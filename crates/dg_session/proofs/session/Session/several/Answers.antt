@@ -29,14 +29,14 @@ returns-in-Some-clause-comes g c =
     let asked : c.first_of-asked.result.now ≡ take c.args.count c.args.times = c.first_of-asked.ensures.times in
     let number : length (take c.args.count c.args.times) ≡ c.args.count = sym (ap length asked) ∙ c.first_of-asked.ensures.count in
     refused_denies (command.Several c.args.cols c.args.times c.args.count) [] p p (g.D.Disk.image c.args.disk.now) (g.D.Disk.image c.args.disk.now) c.in-Some.refusal refl refl
-    (needed p c.args.cols c.args.times c.args.count number c.requires.some ∙ (λ i. refused_by p 0 (retrieval_needs (sym asked i) (number i))) ∙ sym c.refused_retrieval.ensures ∙ c.in-Some.is)
+    (needed p c.args.cols c.args.times c.args.count number c.requires.some ∙ (λ i. refused_by p 0 (retrieval_needs (sym asked i) (number i))) ∙ sym c.refused.ensures ∙ c.in-Some.is)
 
 pub returns-in_err-retrieved-clause-comes : goal.returns-in_err-retrieved-clause-comes
 returns-in_err-retrieved-clause-comes g c =
     let p : Parts = c.args.self.now.parts in
     let asked : c.first_of-asked.result.now ≡ take c.args.count c.args.times = c.first_of-asked.ensures.times in
     let number : length (take c.args.count c.args.times) ≡ c.args.count = sym (ap length asked) ∙ c.first_of-asked.ensures.count in
-    let none : refused_by p 0 (retrieval_needs (take c.args.count c.args.times) (length (take c.args.count c.args.times))) ≡ None = (λ i. refused_by p 0 (retrieval_needs (sym asked i) (number i))) ∙ sym c.refused_retrieval.ensures ∙ c.in_default.is in
+    let none : refused_by p 0 (retrieval_needs (take c.args.count c.args.times) (length (take c.args.count c.args.times))) ≡ None = (λ i. refused_by p 0 (retrieval_needs (sym asked i) (number i))) ∙ sym c.refused.ensures ∙ c.in_default.is in
     handed_out c.from_residual.result (retrieval_halt c.in_err-retrieved.field-0.0)
     (ComesTo (command.Several c.args.cols c.args.times c.args.count) [] p (g.D.Disk.image c.args.disk.now) c.retrieve.new.self.parts (g.D.Disk.image c.retrieve.new.disk)) c.from_residual.ensures
     (retrieval_failed (command.Several c.args.cols c.args.times c.args.count) p c.retrieve.new.self.parts (g.D.Disk.image c.args.disk.now) (g.D.Disk.image c.retrieve.new.disk) c.in_err-retrieved.field-0.0 refl refl (λ m. refl)
@@ -47,7 +47,7 @@ returns-in_err-lines-clause-comes g c =
     let p : Parts = c.args.self.now.parts in
     let asked : c.first_of-asked.result.now ≡ take c.args.count c.args.times = c.first_of-asked.ensures.times in
     let number : length (take c.args.count c.args.times) ≡ c.args.count = sym (ap length asked) ∙ c.first_of-asked.ensures.count in
-    let none : refused_by p 0 (retrieval_needs (take c.args.count c.args.times) (length (take c.args.count c.args.times))) ≡ None = (λ i. refused_by p 0 (retrieval_needs (sym asked i) (number i))) ∙ sym c.refused_retrieval.ensures ∙ c.in_default.is in
+    let none : refused_by p 0 (retrieval_needs (take c.args.count c.args.times) (length (take c.args.count c.args.times))) ≡ None = (λ i. refused_by p 0 (retrieval_needs (sym asked i) (number i))) ∙ sym c.refused.ensures ∙ c.in_default.is in
     handed_out c.from_residual-in_err-lines.result (halt.Refusal refusal.OutOfMemory)
     (ComesTo (command.Several c.args.cols c.args.times c.args.count) [] p (g.D.Disk.image c.args.disk.now) c.retrieve.new.self.parts (g.D.Disk.image c.retrieve.new.disk)) c.from_residual-in_err-lines.ensures
     (lacking_denies (command.Several c.args.cols c.args.times c.args.count) [] p c.retrieve.new.self.parts (g.D.Disk.image c.args.disk.now) (g.D.Disk.image c.retrieve.new.disk)
@@ -58,7 +58,7 @@ returns-in_err-add_handles-clause-comes g c =
     let p : Parts = c.args.self.now.parts in
     let asked : c.first_of-asked.result.now ≡ take c.args.count c.args.times = c.first_of-asked.ensures.times in
     let number : length (take c.args.count c.args.times) ≡ c.args.count = sym (ap length asked) ∙ c.first_of-asked.ensures.count in
-    let none : refused_by p 0 (retrieval_needs (take c.args.count c.args.times) (length (take c.args.count c.args.times))) ≡ None = (λ i. refused_by p 0 (retrieval_needs (sym asked i) (number i))) ∙ sym c.refused_retrieval.ensures ∙ c.in_default.is in
+    let none : refused_by p 0 (retrieval_needs (take c.args.count c.args.times) (length (take c.args.count c.args.times))) ≡ None = (λ i. refused_by p 0 (retrieval_needs (sym asked i) (number i))) ∙ sym c.refused.ensures ∙ c.in_default.is in
     handed_out c.from_residual-in_err-add_handles.result (halt.Refusal refusal.OutOfMemory)
     (ComesTo (command.Several c.args.cols c.args.times c.args.count) [] p (g.D.Disk.image c.args.disk.now) c.add_handles.new.self.parts (g.D.Disk.image c.retrieve.new.disk)) c.from_residual-in_err-add_handles.ensures
     (lacking_denies (command.Several c.args.cols c.args.times c.args.count) [] p c.add_handles.new.self.parts (g.D.Disk.image c.args.disk.now) (g.D.Disk.image c.retrieve.new.disk)
@@ -70,7 +70,7 @@ returns-clause-comes g c =
     let r = c.in_ok-retrieved.retrieved in
     let asked : c.first_of-asked.result.now ≡ take c.args.count c.args.times = c.first_of-asked.ensures.times in
     let number : length (take c.args.count c.args.times) ≡ c.args.count = sym (ap length asked) ∙ c.first_of-asked.ensures.count in
-    let none : refused_by p 0 (retrieval_needs (take c.args.count c.args.times) (length (take c.args.count c.args.times))) ≡ None = (λ i. refused_by p 0 (retrieval_needs (sym asked i) (number i))) ∙ sym c.refused_retrieval.ensures ∙ c.in_default.is in
+    let none : refused_by p 0 (retrieval_needs (take c.args.count c.args.times) (length (take c.args.count c.args.times))) ≡ None = (λ i. refused_by p 0 (retrieval_needs (sym asked i) (number i))) ∙ sym c.refused.ensures ∙ c.in_default.is in
     let next : c.next-next.result ≡ p.next = c.next-next.ensures.next ∙ ap (λ (x : SessionState). x.parts.next) (c.self.view_is ∙ c.retrieve.ensures.same) in
     let same : c.retrieve.new.self.parts ≡ p = ap (λ (x : SessionState). x.parts) c.retrieve.ensures.same in
     let cols = c.args.cols in
@@ -90,7 +90,7 @@ returns-in-Some-clause-file g c = record {
       let number : length (take c.args.count c.args.times) ≡ c.args.count = sym (ap length asked) ∙ c.first_of-asked.ensures.count in
       tells_no_damage (command.Several c.args.cols c.args.times c.args.count) p (g.D.Disk.image c.args.disk.now) c.in-Some.refusal
       (refused_not_read p 0 (needs (command.Several c.args.cols c.args.times c.args.count)) c.in-Some.refusal
-      (needed p c.args.cols c.args.times c.args.count number c.requires.some ∙ (λ i. refused_by p 0 (retrieval_needs (sym asked i) (number i))) ∙ sym c.refused_retrieval.ensures ∙ c.in-Some.is));
+      (needed p c.args.cols c.args.times c.args.count number c.requires.some ∙ (λ i. refused_by p 0 (retrieval_needs (sym asked i) (number i))) ∙ sym c.refused.ensures ∙ c.in-Some.is));
   undamaged = tt;
   reads = reads_unasked (command.Several c.args.cols c.args.times c.args.count) c.args.self.now.parts (g.D.Disk.image c.args.disk.now) c.in-Some.refusal (g.D.Disk.taken c.args.disk.now) (λ m got plan planned. omega arith);
 }
@@ -109,7 +109,7 @@ returns-in_err-retrieved-clause-file g c = record {
       let p : Parts = c.args.self.now.parts in
       let asked : c.first_of-asked.result.now ≡ take c.args.count c.args.times = c.first_of-asked.ensures.times in
       let number : length (take c.args.count c.args.times) ≡ c.args.count = sym (ap length asked) ∙ c.first_of-asked.ensures.count in
-      let none : refused_by p 0 (retrieval_needs (take c.args.count c.args.times) (length (take c.args.count c.args.times))) ≡ None = (λ i. refused_by p 0 (retrieval_needs (sym asked i) (number i))) ∙ sym c.refused_retrieval.ensures ∙ c.in_default.is in
+      let none : refused_by p 0 (retrieval_needs (take c.args.count c.args.times) (length (take c.args.count c.args.times))) ≡ None = (λ i. refused_by p 0 (retrieval_needs (sym asked i) (number i))) ∙ sym c.refused.ensures ∙ c.in_default.is in
       handed_out c.from_residual.result (retrieval_halt c.in_err-retrieved.field-0.0)
       (λ r. ReadsIn (command.Several c.args.cols c.args.times c.args.count) p (g.D.Disk.image c.args.disk.now) r (g.D.Disk.taken c.args.disk.now) (g.D.Disk.taken c.retrieve.new.disk)) c.from_residual.ensures
       (reads_failing (command.Several c.args.cols c.args.times c.args.count) p (g.D.Disk.image c.args.disk.now) c.in_err-retrieved.field-0.0 (g.D.Disk.taken c.args.disk.now) (g.D.Disk.taken c.retrieve.new.disk)
@@ -125,7 +125,7 @@ returns-in_err-lines-clause-file g c = record {
       let p : Parts = c.args.self.now.parts in
       let asked : c.first_of-asked.result.now ≡ take c.args.count c.args.times = c.first_of-asked.ensures.times in
       let number : length (take c.args.count c.args.times) ≡ c.args.count = sym (ap length asked) ∙ c.first_of-asked.ensures.count in
-      let none : refused_by p 0 (retrieval_needs (take c.args.count c.args.times) (length (take c.args.count c.args.times))) ≡ None = (λ i. refused_by p 0 (retrieval_needs (sym asked i) (number i))) ∙ sym c.refused_retrieval.ensures ∙ c.in_default.is in
+      let none : refused_by p 0 (retrieval_needs (take c.args.count c.args.times) (length (take c.args.count c.args.times))) ≡ None = (λ i. refused_by p 0 (retrieval_needs (sym asked i) (number i))) ∙ sym c.refused.ensures ∙ c.in_default.is in
       handed_out c.from_residual-in_err-lines.result (halt.Refusal refusal.OutOfMemory)
       (λ r. ReadsIn (command.Several c.args.cols c.args.times c.args.count) p (g.D.Disk.image c.args.disk.now) r (g.D.Disk.taken c.args.disk.now) (g.D.Disk.taken c.retrieve.new.disk)) c.from_residual-in_err-lines.ensures
       (several_fails p c.args.cols c.args.times c.args.count number c.requires.some none (g.D.Disk.image c.args.disk.now) (replied.Refused refusal.OutOfMemory) (g.D.Disk.taken c.args.disk.now) (g.D.Disk.taken c.retrieve.new.disk) refl refl
@@ -140,7 +140,7 @@ returns-in_err-add_handles-clause-file g c = record {
       let p : Parts = c.args.self.now.parts in
       let asked : c.first_of-asked.result.now ≡ take c.args.count c.args.times = c.first_of-asked.ensures.times in
       let number : length (take c.args.count c.args.times) ≡ c.args.count = sym (ap length asked) ∙ c.first_of-asked.ensures.count in
-      let none : refused_by p 0 (retrieval_needs (take c.args.count c.args.times) (length (take c.args.count c.args.times))) ≡ None = (λ i. refused_by p 0 (retrieval_needs (sym asked i) (number i))) ∙ sym c.refused_retrieval.ensures ∙ c.in_default.is in
+      let none : refused_by p 0 (retrieval_needs (take c.args.count c.args.times) (length (take c.args.count c.args.times))) ≡ None = (λ i. refused_by p 0 (retrieval_needs (sym asked i) (number i))) ∙ sym c.refused.ensures ∙ c.in_default.is in
       handed_out c.from_residual-in_err-add_handles.result (halt.Refusal refusal.OutOfMemory)
       (λ r. ReadsIn (command.Several c.args.cols c.args.times c.args.count) p (g.D.Disk.image c.args.disk.now) r (g.D.Disk.taken c.args.disk.now) (g.D.Disk.taken c.retrieve.new.disk)) c.from_residual-in_err-add_handles.ensures
       (several_fails p c.args.cols c.args.times c.args.count number c.requires.some none (g.D.Disk.image c.args.disk.now) (replied.Refused refusal.OutOfMemory) (g.D.Disk.taken c.args.disk.now) (g.D.Disk.taken c.retrieve.new.disk) refl refl

@@ -19,7 +19,7 @@ use Rattle.dg_session.proofs.session.Session.upgrade.Goals.{in-Ok, in-Err}
 pub returns-in-Some-clause-comes : goal.returns-in-Some-clause-comes
 returns-in-Some-clause-comes g c =
     refused_denies command.Upgrade [] c.args.self.now.parts c.args.self.now.parts (g.D.Disk.image c.args.disk.now) (g.D.Disk.image c.args.disk.now) c.in-Some.refusal refl refl
-    (sym c.refused_upgrade.ensures ∙ c.in-Some.is)
+    (sym c.refused.ensures ∙ c.in-Some.is)
 
 pub returns-clause-comes : goal.returns-clause-comes
 returns-clause-comes g c =
@@ -30,7 +30,7 @@ returns-clause-comes g c =
     let indexes : List IndexKept = map kept_of c.self.inside.indexes.items in
     let view : held_parts c.self.inside.limits indexes old ≡ p = ap (λ (x : SessionState). x.parts) c.self.view_is in
     let limit_is : limit ≡ p.limits.file_bytes = ap (λ (x : Parts). x.limits.file_bytes) view in
-    let none : refused_by p 0 (needs command.Upgrade) ≡ None = sym c.refused_upgrade.ensures ∙ c.in_default.is in
+    let none : refused_by p 0 (needs command.Upgrade) ≡ None = sym c.refused.ensures ∙ c.in_default.is in
     let free : IsFree p = upgrade_free p none in
     elim c.match-mark.branch [
       | in-Ok w ↦ rw w.result-is
@@ -52,7 +52,7 @@ returns-clause-disk g c =
     let indexes : List IndexKept = map kept_of c.self.inside.indexes.items in
     let view : held_parts c.self.inside.limits indexes old ≡ p = ap (λ (x : SessionState). x.parts) c.self.view_is in
     let limit_is : limit ≡ p.limits.file_bytes = ap (λ (x : Parts). x.limits.file_bytes) view in
-    let none : refused_by p 0 (needs command.Upgrade) ≡ None = sym c.refused_upgrade.ensures ∙ c.in_default.is in
+    let none : refused_by p 0 (needs command.Upgrade) ≡ None = sym c.refused.ensures ∙ c.in_default.is in
     let free : IsFree p = upgrade_free p none in
     elim c.match-mark.branch [
       | in-Ok w ↦ rw w.result-is
@@ -73,7 +73,7 @@ returns-clause-crash g c =
     let indexes : List IndexKept = map kept_of c.self.inside.indexes.items in
     let view : held_parts c.self.inside.limits indexes old ≡ p = ap (λ (x : SessionState). x.parts) c.self.view_is in
     let limit_is : limit ≡ p.limits.file_bytes = ap (λ (x : Parts). x.limits.file_bytes) view in
-    let none : refused_by p 0 (needs command.Upgrade) ≡ None = sym c.refused_upgrade.ensures ∙ c.in_default.is in
+    let none : refused_by p 0 (needs command.Upgrade) ≡ None = sym c.refused.ensures ∙ c.in_default.is in
     let free : IsFree p = upgrade_free p none in
     elim c.match-mark.branch [
       | in-Ok w ↦ rw w.result-is
