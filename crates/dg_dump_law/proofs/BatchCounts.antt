@@ -13,8 +13,9 @@ use Rattle.dg_history.specs.declared.limits.TheConstants.{BATCH_LINES_MAX}
 use Rattle.dg_machine.specs.declared.command.Command.{Command}
 use Rattle.dg_machine.specs.declared.command.Command.TheVariants as command
 use Rattle.dg_machine.specs.declared.command.TheConstants.{TIMES_MAX}
+use Rattle.dg_machine.specs.declared.query.Query.{Query}
 use Rattle.dg_machine.specs.declared.selection.Selection.TheVariants.{Chosen}
-use Rattle.dg_machine.specs.CommandGrammar.{choice_of, columns_of, command_of, command_verbs, count_from_0, count_of, create_of, function_of, handle_of, heard_columns_of, held_node_verbs, key_word, n32_of, search_of, several_of, several_with, skewed_of, sweep_of, times_of}
+use Rattle.dg_machine.specs.CommandGrammar.{asking, choice_of, columns_of, command_of, command_verbs, count_from_0, count_of, create_of, function_of, handle_of, heard_columns_of, held_node_verbs, key_word, n32_of, search_of, several_of, several_with, skewed_of, sweep_of, times_of}
 use Rattle.dg_machine.specs.Needs.{following}
 use Rattle.dg_machine.specs.Script.{Asked, Command_is, Entry, Long_line, Meaning, No_command, Other, Skipped, entries_within, first_entry, is_skipped, meaning, read_as, script}
 use Rattle.dg_machine.specs.ValueIndex.{value_of}
@@ -151,6 +152,14 @@ node_counts rest x e =
     each_read_by CountsBatch held_node_verbs
     (two_any n32_of columns_of _ (λ j cols. tt), (three_gives n32_of n32_of columns_of _ CountsBatch (λ h j cols. tt), tt)) rest x e
 
+-- a handle, and the words of a query
+asking_counts : (read : List (List ℕ) → Option Query) → Gives CountsBatch (asking read)
+asking_counts read [] x e = absurd (none-some x e)
+asking_counts read (word ∷ rest) x e =
+    let h = and_then_is (λ h. option_map (λ q. command.Ask h q) (read rest)) (handle_of word) x e in
+    let q = map_is (λ q. command.Ask h.0 q) (read rest) x h.2 in
+    subst CountsBatch q.2 tt
+
 sweep_counts : Takes CountsBatch sweep_of
 sweep_counts word x e =
     tested CountsBatch (is_word word (codes "all")) command.CleanAll (option_map (λ n. command.Clean n) (number 1 4294967295 word)) x e tt
@@ -189,13 +198,13 @@ command_counts line c e =
               (
                 node_counts,
                 (
-                  one_any handle_of _ (λ h. tt),
+                  asking_counts _,
                   (
-                    one_any handle_of _ (λ h. tt),
+                    asking_counts _,
                     (
-                      two_any handle_of id_of _ (λ h id. tt),
+                      asking_counts _,
                       (
-                        two_any handle_of id_of _ (λ h id. tt),
+                        asking_counts _,
                         (
                           one_any handle_of _ (λ h. tt),
                           (

@@ -23,7 +23,6 @@ use Rattle.dg_io.specs.Told.{grown}
 use Rattle.dg_file.specs.TidyImages.{IsJustFile}
 use Rattle.dg_machine.specs.declared.limits.Limits.{Limits}
 use Rattle.dg_machine.specs.declared.limits.TheConstants.{SCRIPT_BYTES_MAX}
-use Rattle.dg_machine.specs.declared.reply.Reply.{Reply}
 use Rattle.dg_machine.specs.Answer.{Answered, store_read}
 use Rattle.dg_machine.specs.MachineLaws.{IsFree}
 use Rattle.dg_machine.specs.MachineState.{MachineState, machine_at}
