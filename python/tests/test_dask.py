@@ -398,7 +398,7 @@ class OverACluster(DaskCase):
             started.append(subprocess.Popen(words, env=spoken, stdout=subprocess.DEVNULL, stderr=subprocess.DEVNULL))
             self.addCleanup(started[-1].wait)
             self.addCleanup(started[-1].kill)
-        client.wait_for_workers(workers)
+        client.wait_for_workers(workers, timeout=300)
         return client, started
 
     def test_answers(self) -> None:
