@@ -9,11 +9,11 @@ use Rattle.dg_handles.specs.Handles.{HandlesState, numbered, overlays_on}
 use Rattle.dg_history.specs.declared.node.NodeId.{NodeId}
 use Rattle.dg_index.specs.OpenedIndex.{Opening, event_total}
 use Rattle.dg_machine.specs.declared.stands.Stands.{Stands}
-use Rattle.dg_machine.specs.declared.stands.Stands.TheVariants.{Overlay, Base}
+use Rattle.dg_machine.specs.declared.stands.Shown.TheVariants.{Overlay}
 use Rattle.dg_machine.specs.Planning.{bases_in, usable}
 use Rattle.dg_planner.specs.Whole.{PlannerGraph}
 use Rattle.dg_retrieval.specs.KeptGraph.{kept_edges}
-use Rattle.dg_ask.specs.HeldIndex.{HasNodeOf, HasNodes, has_node_held}
+use Rattle.dg_ask.specs.HeldIndex.{HasNode, HasNodeOf, HasNodes, has_node_held}
 use Rattle.dg_ask.specs.KeptPlanner.{IsGraphOver, IsKeptFor}
 
 pub overlays_length : (cols : Columns) (times : List ℕ) (bases : List (Option ℕ)) → length bases ≡ length times → length (overlays_on cols times bases) ≡ length times
@@ -26,7 +26,7 @@ none_held : (index : Option Opening) (next : ℕ) (cols : Columns) (times : List
 none_held index next cols [] bases = All-nil (λ (e : ℕ × Stands). HasNodeOf index e.1)
 none_held index next cols (t ∷ times) [] = All-nil (λ (e : ℕ × Stands). HasNodeOf index e.1)
 none_held index next cols (t ∷ times) (b ∷ bases) =
-    All-cons (λ (e : ℕ × Stands). HasNodeOf index e.1) (next, Overlay t cols b) (numbered (next + 1) (overlays_on cols times bases)) tt (none_held index (next + 1) cols times bases)
+    All-cons (λ (e : ℕ × Stands). HasNodeOf index e.1) (next, record { what = Overlay t b; cols = cols }) (numbered (next + 1) (overlays_on cols times bases)) tt (none_held index (next + 1) cols times bases)
 
 pub nodes_with_overlays : (index : Option Opening) (table : List (ℕ × Stands)) (next : ℕ) (cols : Columns) (times : List ℕ) (bases : List (Option ℕ))
     → HasNodes index table → HasNodes index (table ++ numbered next (overlays_on cols times bases))
@@ -86,15 +86,9 @@ set_after (Ok x) index old new stands added same has h =
 set_after (Err e) index old new stands added same has h = subst (λ (s : HandlesState). HasNodes index s.table) (sym same) h
 
 -- the index has the node
-node_there : (index : Option Opening) (node : NodeId) (cols : Columns) → is_some index ≡ true → has_node_held index node ≡ true → HasNodeOf index (Base node cols)
-node_there None node cols there has = false≢true there
-node_there (Some o) node cols there has = has
-
--- whether the handle of a node that the index has was added or not
-pub node_after : {A E : Type 0} (r : Result A E) (index : Option Opening) (old new : HandlesState) (node : NodeId) (cols : Columns)
-    → OnOk r (new.table ≡ old.table ++ (old.next, Base node cols) ∷ []) → OnErr r (new ≡ old) → is_some index ≡ true → has_node_held index node ≡ true
-    → HasNodes index old.table → HasNodes index new.table
-node_after r index old new node cols added same there has h = set_after r index old new (Base node cols) added same (node_there index node cols there has) h
+pub node_there : (index : Option Opening) (node : NodeId) → is_some index ≡ true → has_node_held index node ≡ true → HasNode index node
+node_there None node there has = false≢true there
+node_there (Some o) node there has = has
 
 pub kept_after : {A E : Type 0} (r : Result A E) (index : Option Opening) (old new : HandlesState) (kept : List (Columns × PlannerGraph)) (cols : Columns) (times : List ℕ) (bases : List (Option ℕ))
     → OnOk r (new.table ≡ old.table ++ numbered old.next (overlays_on cols times bases)) → OnErr r (new ≡ old) → IsKeptFor index old.table kept → IsKeptFor index new.table kept

@@ -1,6 +1,6 @@
 -- The nodes that handles hold are nodes of the graph in which plans are made.
-use Rattle.std.proofs.Common.{◌≡◌, ℕ, ◌≤◌, Bool, true, false, List as ListOf, [], ◌∷◌, Some, Result, Ok, Err}
-use Rattle.std.specs.Prelude.{IfOk, if◌then◌else◌}
+use Rattle.std.proofs.Common.{◌≡◌, ℕ, ◌≤◌, Bool, true, false, List as ListOf, [], ◌∷◌, Option, Some, None, Result, Ok, Err}
+use Rattle.std.specs.Prelude.{IfOk, IfSome}
 use Rattle.std.specs.List.{All, Contains}
 use Rattle.std.proofs.lemmas.Bool.{false≢true}
 use Rattle.std.proofs.lemmas.List.Elements.{All-append, All-cons, All-head, All-nil, All-tail}
@@ -11,13 +11,13 @@ use Rattle.dg_history.specs.declared.params.Params.{Params}
 use Rattle.dg_index.specs.Hierarchy.{leaves}
 use Rattle.dg_index.specs.OpenedIndex.{Opening, event_total}
 use Rattle.dg_machine.specs.declared.stands.Stands.{Stands}
-use Rattle.dg_machine.specs.declared.stands.Stands.TheVariants.{Overlay, Base, Selected}
+use Rattle.dg_machine.specs.MachineState.{base_node}
 use Rattle.dg_machine.specs.Needs.{can_be_held}
-use Rattle.dg_machine.specs.Planning.{bases_in, includes, usable}
+use Rattle.dg_machine.specs.Planning.{base_if, bases_in, includes, usable}
 use Rattle.dg_plan.specs.IndexGraph.{Ground, nodes_of}
 use Rattle.dg_planner.specs.Bases.{AreBasesAmong}
 use Rattle.dg_planner.specs.IndexNodes.{NodesAreListed}
-use Rattle.dg_ask.specs.HeldIndex.{HasNodeOf, HasNodes}
+use Rattle.dg_ask.specs.HeldIndex.{HasNode, HasNodeOf, HasNodes}
 
 -- what follows from two facts of a value that is given
 pub both_given : {X E : Type 0} (r : Result X E) (P Q R : X → Type 0) → ((x : X) → P x → Q x → R x) → IfOk r P → IfOk r Q → IfOk r R
@@ -40,14 +40,11 @@ pub bases_listed : NodesAreListed → (o : Opening) → 2 ≤ o.params.k → (g 
 bases_listed listed o wide g many arity cols [] has = All-nil (λ (b : ℕ × NodeId). Contains (nodes_of g) b.1)
 bases_listed listed o wide g many arity cols (e ∷ table) has =
     All-append (λ (b : ℕ × NodeId). Contains (nodes_of g) b.1) (usable cols e) (bases_in cols table)
-    (one e.0 e.1 (All-head (λ (x : ℕ × Stands). HasNodeOf (Some o) x.1) e table has))
+    (one e.0 (includes e.1.cols cols) (base_node e.1.what) (All-head (λ (x : ℕ × Stands). HasNodeOf (Some o) x.1) e table has))
     (bases_listed listed o wide g many arity cols table (All-tail (λ (x : ℕ × Stands). HasNodeOf (Some o) x.1) e table has))
   where
-    by : (handle : ℕ) (node : NodeId) (serves : Bool) → Contains (nodes_of g) node → All (λ (b : ℕ × NodeId). Contains (nodes_of g) b.1) (if serves then (handle, node) ∷ [] else [])
-    by handle node true there = All-cons (λ (b : ℕ × NodeId). Contains (nodes_of g) b.1) (handle, node) [] there (All-nil (λ (b : ℕ × NodeId). Contains (nodes_of g) b.1))
-    by handle node false there = All-nil (λ (b : ℕ × NodeId). Contains (nodes_of g) b.1)
-
-    one : (handle : ℕ) (s : Stands) → HasNodeOf (Some o) s → All (λ (b : ℕ × NodeId). Contains (nodes_of g) b.1) (usable cols (handle, s))
-    one handle (Overlay t others on) has = All-nil (λ (b : ℕ × NodeId). Contains (nodes_of g) b.1)
-    one handle (Selected what others) has = All-nil (λ (b : ℕ × NodeId). Contains (nodes_of g) b.1)
-    one handle (Base node all) has = by handle node (includes all cols) (node_listed listed o.params (event_total o.batches) wide g many arity node has)
+    one : (handle : ℕ) (serves : Bool) (held : Option NodeId) → IfSome held (HasNode (Some o)) → All (λ (b : ℕ × NodeId). Contains (nodes_of g) b.1) (base_if serves handle held)
+    one handle serves None has = All-nil (λ (b : ℕ × NodeId). Contains (nodes_of g) b.1)
+    one handle false (Some node) has = All-nil (λ (b : ℕ × NodeId). Contains (nodes_of g) b.1)
+    one handle true (Some node) has =
+        All-cons (λ (b : ℕ × NodeId). Contains (nodes_of g) b.1) (handle, node) [] (node_listed listed o.params (event_total o.batches) wide g many arity node has) (All-nil (λ (b : ℕ × NodeId). Contains (nodes_of g) b.1))

@@ -1,5 +1,5 @@
 -- What the index that a session keeps tells of its history.
-use Rattle.std.specs.Prelude.{◌≡◌, ℕ, Bool, true, List as ListOf, Option, Some, None, map, unwrap_or}
+use Rattle.std.specs.Prelude.{◌≡◌, ℕ, Bool, true, List as ListOf, Option, Some, None, IfSome, map, unwrap_or}
 use Rattle.std.specs.List.{All}
 use Rattle.dg_graph.specs.declared.function.Function.TheVariants.{Intersection}
 use Rattle.dg_graph.specs.declared.event.Event.{Event}
@@ -9,7 +9,7 @@ use Rattle.dg_history.specs.declared.params.Params.{Params}
 use Rattle.dg_index.specs.declared.entry.Ends.{Ends}
 use Rattle.dg_index.specs.OpenedIndex.{Opening, event_total, span_in}
 use Rattle.dg_machine.specs.declared.stands.Stands.{Stands}
-use Rattle.dg_machine.specs.declared.stands.Stands.TheVariants.{Overlay, Base, Selected}
+use Rattle.dg_machine.specs.MachineState.{base_node}
 use Rattle.dg_machine.specs.Needs.{can_be_held}
 use Rattle.dg_planner.specs.HistoryLaws.{first_time_in}
 use Rattle.dg_catalogue.specs.Entries.{Holdings}
@@ -53,12 +53,14 @@ params_held (Some o) = o.params
 abbrev pub has_node_held : Option Opening → NodeId → Bool
 has_node_held index node = can_be_held (params_held index) (events_held index) node
 
--- there is an index, and it has the node that the handle holds, where it holds one
+-- there is an index, and it has this leaf or interior node
+abbrev pub HasNode : Option Opening → NodeId → Type 0
+HasNode None node = ⊥
+HasNode (Some o) node = has_node_held (Some o) node ≡ true
+
+-- there is an index with the node that the handle holds, where it holds one
 abbrev pub HasNodeOf : Option Opening → Stands → Type 0
-HasNodeOf index (Overlay t cols on) = Unit {0}
-HasNodeOf index (Selected what cols) = Unit {0}
-HasNodeOf None (Base node cols) = ⊥
-HasNodeOf (Some o) (Base node cols) = has_node_held (Some o) node ≡ true
+HasNodeOf index stands = IfSome (base_node stands.what) (HasNode index)
 
 -- the index has the node of each handle that holds one
 abbrev pub HasNodes : Option Opening → ListOf (ℕ × Stands) → Type 0

@@ -1,10 +1,11 @@
 -- The nodes that handles hold are nodes of the index after a batch, and of the graph in which plans are made.
-use Rattle.std.proofs.Common.{◌≡◌, ℕ, ◌+◌, ◌*◌, ◌^◌, ◌<◌, ◌≤◌, Bool, true, List as ListOf, [], ◌∷◌, Option, Some, None, sym, ◌∙◌, ap, subst, arith}
+use Rattle.std.proofs.Common.{◌≡◌, ℕ, ◌+◌, ◌*◌, ◌^◌, ◌<◌, ◌≤◌, Bool, true, List as ListOf, Option, Some, None, sym, ◌∙◌, ap, subst, arith}
 use Rattle.std.specs.Prelude.{IfSome, is_some, ◌&&◌, nat_le}
 use Rattle.std.specs.List.{All}
 use Rattle.std.proofs.lemmas.Bool.{leb-true, le-leb, false≢true, and_parts}
-use Rattle.std.proofs.lemmas.List.Elements.{All-cons, All-head, All-nil, All-tail}
+use Rattle.std.proofs.lemmas.List.Elements.{All-weaker}
 use Rattle.std.proofs.lemmas.List.Sums.{sum_by_push}
+use Rattle.std.proofs.lemmas.Option.{IfSome_then}
 use Rattle.dg_append.specs.declared.batch.AddedBatch.{AddedBatch}
 use Rattle.dg_append.specs.declared.batch.Batch.{Batch}
 use Rattle.dg_append.specs.declared.live.Live.{Live}
@@ -20,7 +21,7 @@ use Rattle.dg_index.specs.FileOfHistory.{Segment}
 use Rattle.dg_index.specs.IndexGrowth.{index_with}
 use Rattle.dg_index.specs.OpenedIndex.{Opening, directory_of, event_total}
 use Rattle.dg_machine.specs.declared.stands.Stands.{Stands}
-use Rattle.dg_machine.specs.declared.stands.Stands.TheVariants.{Overlay, Base, Selected}
+use Rattle.dg_machine.specs.MachineState.{base_node}
 use Rattle.dg_machine.specs.Needs.{can_be_held}
 use Rattle.dg_ask.specs.HeldIndex.{HasNodeOf, HasNodes}
 use Rattle.dg_stored.specs.StoredHistory.{index_opening}
@@ -46,24 +47,16 @@ module _ (p : Params) (pos : 0 < p.l) (n more : ℕ) where
       ∙ ap (λ (b : Bool). b && nat_le (j * p.k ^ h) (leaves p (n + more))) rest.0
       ∙ le-leb (j * p.k ^ h) (leaves p (n + more)) (omega (arith, few, leb-true (j * p.k ^ h) (leaves p n) rest.1))
 
--- what holds of each handle holds of each
-each_handle : (P Q : Stands → Type 0) → ((s : Stands) → P s → Q s) → (table : ListOf (ℕ × Stands)) → All (λ (e : ℕ × Stands). P e.1) table → All (λ (e : ℕ × Stands). Q e.1) table
-each_handle P Q f [] h = All-nil (λ (e : ℕ × Stands). Q e.1)
-each_handle P Q f (e ∷ table) h =
-    All-cons (λ (x : ℕ × Stands). Q x.1) e table (f e.1 (All-head (λ (x : ℕ × Stands). P x.1) e table h)) (each_handle P Q f table (All-tail (λ (x : ℕ × Stands). P x.1) e table h))
-
 -- with one more segment the index has the nodes that it had
 pub nodes_with : (o : Opening) (s : Segment) → 0 < o.params.l → (table : ListOf (ℕ × Stands)) → HasNodes (Some o) table → HasNodes (Some (index_with o s)) table
-nodes_with o s pos table h = each_handle (HasNodeOf (Some o)) (HasNodeOf (Some (index_with o s))) one table h
+nodes_with o s pos table h = All-weaker (λ (e : ℕ × Stands). HasNodeOf (Some o) e.1) (λ (e : ℕ × Stands). HasNodeOf (Some (index_with o s)) e.1) one table h
   where
     more : event_total (index_with o s).batches ≡ event_total o.batches + (directory_of s).batch.events
     more = sum_by_push (λ (b : BatchEntry). b.events) o.batches (directory_of s).batch
 
-    one : (x : Stands) → HasNodeOf (Some o) x → HasNodeOf (Some (index_with o s)) x
-    one (Overlay t cols on) r = tt
-    one (Selected what cols) r = tt
-    one (Base node cols) r =
-        ap (λ n. can_be_held o.params n node) more ∙ held_more o.params pos (event_total o.batches) (directory_of s).batch.events node r
+    one : (e : ℕ × Stands) → HasNodeOf (Some o) e.1 → HasNodeOf (Some (index_with o s)) e.1
+    one e there = IfSome_then (base_node e.1.what) there
+        (λ node r. ap (λ n. can_be_held o.params n node) more ∙ held_more o.params pos (event_total o.batches) (directory_of s).batch.events node r)
 
 -- nor does it lose one by a batch
 pub nodes_after : (i : Option IndexState) (limit : ℕ) (batch : Batch) (old new : Live) (before after : Option (ListOf ℕ)) (added : AddedBatch) (table : ListOf (ℕ × Stands))

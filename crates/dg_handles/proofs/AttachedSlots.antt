@@ -13,6 +13,7 @@ use Rattle.dg_handles.proofs.HandleEntries.{Entries, entry_append, of_some, slot
 use Rattle.dg_handles.proofs.HandleNumbers.{distinct-append, listed-append, listed_push, many_listed, map_same}
 use Rattle.dg_handles.proofs.HandleTies.{Stays, base_slot, held_at, holds_still, live_slot, many, rests_among, rests_still, some_by, some_nowhere}
 use Rattle.dg_machine.specs.declared.stands.Stands.{Stands}
+use Rattle.dg_machine.specs.MachineState.{overlay_on}
 use Rattle.dg_pool.specs.declared.slots.Base.{Base as PoolBase}
 use Rattle.dg_pool.specs.declared.slots.Base.TheVariants as base
 use Rattle.dg_pool.specs.declared.slots.Slot.{Slot}
@@ -225,7 +226,7 @@ module _ (old new : PoolState) (h : HandlesState) (t : IsTied old h) (more : Ent
   first_held =
       zip-each (λ (entry : ℕ × Stands) (s : ℕ). SlotHolds h entry.1 (slot_graph old s)) (λ (entry : ℕ × Stands) (s : ℕ). NowHeld entry (slot_graph new s)) h.table h.slots t.held
       (λ entry s in' held. subst (NowHeld entry) (sym (a.others s (others_held old new h t slots graphs a s in')))
-      (holds_still old h (with_more h more slots next) t entry.1 (slot_graph old s) (λ handle e. stays h more slots next handle) held))
+      (holds_still old h (with_more h more slots next) t entry.1.cols (overlay_on entry.1.what) (slot_graph old s) (λ handle e. stays h more slots next handle) held))
 
   pub tied_more : AllZip (λ (entry : ℕ × Stands) (g : SlotGraph). SlotHolds (with_more h more slots next) entry.1 (Some g)) more graphs → IsTied new (with_more h more slots next)
   tied_more new_held = record {

@@ -7,7 +7,7 @@ use Rattle.dg_handles.specs.declared.entries.Entry.{Entry}
 use Rattle.dg_handles.specs.Handles.{RiseWithin, numbered, overlays_on}
 use Rattle.dg_handles.proofs.HandleEntries.{Entries, handles_in}
 use Rattle.dg_machine.specs.declared.stands.Stands.{Stands}
-use Rattle.dg_machine.specs.declared.stands.Stands.TheVariants.{Overlay}
+use Rattle.dg_machine.specs.declared.stands.Shown.TheVariants.{Overlay}
 use Rattle.dg_pool.specs.declared.slots.Slot.{Slot}
 use Rattle.dg_retrieval.specs.Beginnings.{GraphLead, base_handle}
 use Rattle.dg_retrieval.specs.declared.graph_lead.Beginning.{Beginning}
@@ -16,11 +16,11 @@ use Rattle.dg_pool.specs.Changes.{numbers_of}
 -- ---- overlays, one more
 
 overlays_push : (cols : Columns) (times : List ℕ) (ons : List (Option ℕ)) (t : ℕ) (on : Option ℕ) → length ons ≡ length times
-    → overlays_on cols (times ++ t ∷ []) (ons ++ on ∷ []) ≡ overlays_on cols times ons ++ Overlay t cols on ∷ []
+    → overlays_on cols (times ++ t ∷ []) (ons ++ on ∷ []) ≡ overlays_on cols times ons ++ record { what = Overlay t on; cols = cols } ∷ []
 overlays_push cols [] [] t on many = refl
 overlays_push cols [] (o ∷ ons) t on many = absurd (omega (arith, many))
 overlays_push cols (u ∷ times) [] t on many = absurd (omega (arith, many))
-overlays_push cols (u ∷ times) (o ∷ ons) t on many = ap (λ l. Overlay u cols o ∷ l) (overlays_push cols times ons t on (omega (arith, many)))
+overlays_push cols (u ∷ times) (o ∷ ons) t on many = ap (λ l. record { what = Overlay u o; cols = cols } ∷ l) (overlays_push cols times ons t on (omega (arith, many)))
 
 overlays_length : (cols : Columns) (times : List ℕ) (ons : List (Option ℕ)) → length ons ≡ length times → length (overlays_on cols times ons) ≡ length times
 overlays_length cols [] ons many = refl
@@ -36,25 +36,31 @@ numbered_push next (y ∷ xs) x =
 abbrev pub entry_of : Entry → ℕ × Stands
 entry_of e = (e.handle, e.stands)
 
-pub table_more : (next : ℕ) (cols : Columns) (times : List ℕ) (begins : List Beginning) (d : Beginning) (first now after : List Entry) (e : Entry) (i : ℕ) → i < length times → length begins ≡ length times
-    → entry_of e ≡ (next + i, Overlay (get_or times i 0) cols (base_handle (get_or begins i d)))
-    → after ≡ now ++ e ∷ [] → map entry_of now ≡ map entry_of first ++ numbered next (overlays_on cols (take i times) (map base_handle (take i begins)))
-    → map entry_of after ≡ map entry_of first ++ numbered next (overlays_on cols (take (i + 1) times) (map base_handle (take (i + 1) begins)))
-table_more next cols times begins d first now after e i within many is added so_far =
+-- overlays for one instant more
+pub overlays_more : (cols : Columns) (times : List ℕ) (begins : List Beginning) (d : Beginning) (on : Option ℕ) (now after : List Stands) (i : ℕ) → i < length times → length begins ≡ length times
+    → on ≡ base_handle (get_or begins i d) → after ≡ now ++ record { what = Overlay (get_or times i 0) on; cols = cols } ∷ []
+    → now ≡ overlays_on cols (take i times) (map base_handle (take i begins)) → after ≡ overlays_on cols (take (i + 1) times) (map base_handle (take (i + 1) begins))
+overlays_more cols times begins d on now after i within many is added so_far =
     let begun : Beginning = get_or begins i d in
-    let x : Stands = Overlay (get_or times i 0) cols (base_handle begun) in
     let ons : List (Option ℕ) = map base_handle (take i begins) in
-    let done : List Stands = overlays_on cols (take i times) ons in
-    let taken : length (take i times) ≡ i = length-take-le i times (omega (arith, within)) in
-    let beside : length ons ≡ length (take i times) = length-map (take i begins) base_handle ∙ length-take-le i begins (omega (arith, within, many)) ∙ sym taken in
-    let len : length done ≡ i = overlays_length cols (take i times) ons beside ∙ taken in
+    let beside : length ons ≡ length (take i times) =
+    length-map (take i begins) base_handle ∙ length-take-le i begins (omega (arith, within, many)) ∙ sym (length-take-le i times (omega (arith, within))) in
     let ons_more : map base_handle (take (i + 1) begins) ≡ ons ++ base_handle begun ∷ [] = map_more base_handle begins i d (omega (arith, within, many)) in
+    added ∙ (λ k. so_far k ++ record { what = Overlay (get_or times i 0) (is k); cols = cols } ∷ [])
+    ∙ sym (overlays_push cols (take i times) ons (get_or times i 0) (base_handle begun) beside)
+    ∙ (λ k. overlays_on cols (sym (take_more times i 0 within) k) (sym ons_more k))
+
+-- the entries with one more
+pub table_more : (next : ℕ) (stands : List Stands) (d : Stands) (first now after : List Entry) (e : Entry) (i : ℕ) → i < length stands
+    → entry_of e ≡ (next + i, get_or stands i d) → after ≡ now ++ e ∷ []
+    → map entry_of now ≡ map entry_of first ++ numbered next (take i stands) → map entry_of after ≡ map entry_of first ++ numbered next (take (i + 1) stands)
+table_more next stands d first now after e i within is added so_far =
+    let x : Stands = get_or stands i d in
     ap (map entry_of) added ∙ map_push entry_of now e
     ∙ (λ k. so_far k ++ is k ∷ [])
-    ∙ append_assoc (map entry_of first) (numbered next done) ((next + i, x) ∷ [])
-    ∙ ap (λ n. map entry_of first ++ (numbered next done ++ (next + n, x) ∷ [])) (sym len)
-    ∙ ap (λ l. map entry_of first ++ l) (sym (numbered_push next done x) ∙ ap (numbered next) (sym (overlays_push cols (take i times) ons (get_or times i 0) (base_handle begun) beside)
-    ∙ (λ k. overlays_on cols (sym (take_more times i 0 within) k) (sym ons_more k))))
+    ∙ append_assoc (map entry_of first) (numbered next (take i stands)) ((next + i, x) ∷ [])
+    ∙ ap (λ n. map entry_of first ++ (numbered next (take i stands) ++ (next + n, x) ∷ [])) (sym (length-take-le i stands (omega (arith, within))))
+    ∙ ap (λ l. map entry_of first ++ l) (sym (numbered_push next (take i stands) x) ∙ ap (numbered next) (sym (take_more stands i d within)))
 
 abbrev pub number_of : Entry → ℕ
 number_of e = e.slot.0

@@ -12,7 +12,7 @@ use Rattle.dg_handles.proofs.HandleAdditions.{entry_of, number_of, numbers_are}
 use Rattle.dg_handles.proofs.HandleNumbers.{distinct_middle, listed_past, map_same}
 use Rattle.dg_handles.proofs.HandleTies.{Stays, holds_still, many, some_nowhere}
 use Rattle.dg_machine.specs.declared.stands.Stands.{Stands}
-use Rattle.dg_machine.specs.MachineState.{dependent_on, stands_at, is_overlay_on, without_handle}
+use Rattle.dg_machine.specs.MachineState.{dependent_on, is_overlay_on, overlay_on, stands_at, without_handle}
 use Rattle.dg_pool.specs.Changes.{AreDistinct}
 use Rattle.dg_pool.specs.Graphs.{PoolState, SlotGraph, is_listed, slot_graph}
 use Rattle.dg_pool.specs.Sweeps.{members_as}
@@ -201,7 +201,7 @@ module _ (old new : PoolState) (h : HandlesState) (t : IsTied old h) (handle ent
         (remove h.table entry_index) left
         (zip-remove (λ (entry : ℕ × Stands) (s : ℕ). SlotHolds h entry.1 (slot_graph old s) × (is_overlay_on handle entry.1 ≡ false)) h.table h.slots entry_index
         (none_dependent (λ (entry : ℕ × Stands) (s : ℕ). SlotHolds h entry.1 (slot_graph old s)) handle h.table h.slots none t.held))
-        (λ entry s in' r. subst (SlotHolds without_index entry.1) (sym (others s (differs s in'))) (holds_still old h without_index t entry.1 (slot_graph old s) (stays_by entry.1 r.1) r.0));
+        (λ entry s in' r. subst (SlotHolds without_index entry.1) (sym (others s (differs s in'))) (holds_still old h without_index t entry.1.cols (overlay_on entry.1.what) (slot_graph old s) (stays_by entry.1 r.1) r.0));
     apart = middle.1;
     only = λ s live. let d : s ≡ ended → ⊥ = λ same. some_nowhere (slot_graph new s) (ap (slot_graph new) same ∙ gone) live in
         sym (listed_past (take entry_index h.slots) ended (drop (suc entry_index) h.slots) s d) ∙ ap (λ l. is_listed l s) (sym whole) ∙ t.only s (subst (λ (o : Option SlotGraph). IsSome o) (others s d) live);

@@ -5,12 +5,11 @@ use Rattle.dg_graph.specs.declared.element.Column.{Column}
 use Rattle.dg_graph.specs.declared.element.Column.TheVariants.{Structure, NodeAttr, EdgeAttr, Transient}
 use Rattle.dg_graph.specs.declared.element.Columns.{Columns}
 use Rattle.dg_graph.specs.Elements.{asks, column_of}
-use Rattle.dg_handles.specs.Handles.{HandlesState, SlotHolds, IsBaseHandle, IsGraphIn, IsNoSlot, IsTied, RestsOn, RestsOnNothing, TieIsKept, at_slot, slot_graphs, held_by, members_at, slot_of, with_messages}
+use Rattle.dg_handles.specs.Handles.{HandlesState, SlotHolds, IsBaseHandle, IsGraphIn, IsGraphOn, IsNoSlot, IsTied, RestsOn, TieIsKept, at_slot, slot_graphs, held_by, members_at, slot_of, with_messages}
 use Rattle.dg_handles.proofs.HandleEntries.{beside, graph_beside, handles_in, none_dependent, slot_apart, slot_beside, slot_listed, zip-each, zip-length}
 use Rattle.dg_machine.specs.declared.stands.Stands.{Stands}
-use Rattle.dg_machine.specs.declared.stands.Stands.TheVariants.{Overlay, Base, Selected}
-use Rattle.dg_machine.specs.Answer.{columns_if}
-use Rattle.dg_machine.specs.MachineState.{dependent_on, stands_at, is_overlay_on}
+use Rattle.dg_machine.specs.declared.stands.Shown.TheVariants.{Base}
+use Rattle.dg_machine.specs.MachineState.{dependent_on, is_on, is_overlay_on, overlay_on, stands_at}
 use Rattle.dg_machine.specs.Planning.{includes}
 use Rattle.dg_pool.specs.declared.slots.Base.{Base as PoolBase}
 use Rattle.dg_pool.specs.declared.slots.Base.TheVariants as base
@@ -31,17 +30,14 @@ some_in : (cols : Columns) (allowed : PoolBase → Type 0) (o : Option SlotGraph
 some_in cols allowed None h = absurd h
 some_in cols allowed (Some g) h = refl
 
-some_held : (h : HandlesState) (stands : Stands) (o : Option SlotGraph) → SlotHolds h stands o → IsSome o
-some_held h (Overlay t cols on) o held = some_in cols (RestsOn h cols on) o held
-some_held h (Base node cols) o held = some_in (with_messages cols) (λ b. b ≡ base.Nothing) o held
-some_held h (Selected what cols) o held = some_in (with_messages cols) (λ b. b ≡ base.Nothing) o held
+pub some_held : (h : HandlesState) (cols : Columns) (on : Option (Option ℕ)) (o : Option SlotGraph) → IsGraphOn h cols on o → IsSome o
+some_held h cols (Some on) o held = some_in cols (RestsOn h cols on) o held
+some_held h cols None o held = some_in (with_messages cols) (λ b. b ≡ base.Nothing) o held
 
 -- the slot of a set
-pub set_holds : (h : HandlesState) (stands : Stands) (g : SlotGraph) → RestsOnNothing stands → g.cols ≡ with_messages (columns_if (Some stands)) → g.base ≡ base.Nothing
+pub set_holds : (h : HandlesState) (stands : Stands) (g : SlotGraph) → overlay_on stands.what ≡ None → g.cols ≡ with_messages stands.cols → g.base ≡ base.Nothing
     → SlotHolds h stands (Some g)
-set_holds h (Overlay t cols on) g alone same rests = absurd alone
-set_holds h (Base node cols) g alone same rests = (same, rests)
-set_holds h (Selected what cols) g alone same rests = (same, rests)
+set_holds h stands g alone same rests = subst (λ on. IsGraphOn h stands.cols on (Some g)) (sym alone) (same, rests)
 
 -- a set with the messages serves an overlay in fewer columns, or with them
 included : (all cols : Columns) → includes all cols ≡ true → Includes (with_messages all) cols
@@ -81,12 +77,12 @@ module _ (p : PoolState) (h : HandlesState) (t : IsTied p h) where
   pub live_slot : (s : ℕ) → is_listed h.slots s ≡ true → IsSome (slot_graph p s)
   live_slot s in' =
       let r = beside (λ (entry : ℕ × Stands) (k : ℕ). SlotHolds h entry.1 (slot_graph p k)) h.table h.slots t.held s in' in
-      some_held h r.0.1 (slot_graph p s) r.1
+      some_held h r.0.1.cols (overlay_on r.0.1.what) (slot_graph p s) r.1
 
   -- the slot of a handle that holds a base
   pub base_slot : (handle : ℕ) (cols : Columns) → IsBaseHandle handle cols h.table → (s : ℕ) × (slot_of handle h.table h.slots ≡ Some s) × IsBaseWith cols (slot_graph p s)
   base_slot handle cols b =
-      let r = slot_beside (λ (stands : Stands) (k : ℕ). SlotHolds h stands (slot_graph p k)) handle h.table h.slots t.held (Base b.0 b.1) b.2 in
+      let r = slot_beside (λ (stands : Stands) (k : ℕ). SlotHolds h stands (slot_graph p k)) handle h.table h.slots t.held (record { what = Base b.0; cols = b.1 }) b.2 in
       (r.0, r.1, at (slot_graph p r.0) r.2)
     where
       at : (o : Option SlotGraph) → IsGraphIn (with_messages b.1) (λ x. x ≡ base.Nothing) o → IsBaseWith cols o
@@ -98,22 +94,21 @@ module _ (p : PoolState) (h : HandlesState) (t : IsTied p h) where
   held_at handle s is = ap (λ o. unwrap_or o []) (graph_beside (members_at p) handle h.table h.slots s is)
 
   -- what stands for a graph that rests on a slot rests on the handle of that slot
-  pub rests_by : (stands : Stands) (g : SlotGraph) (b : Slot) → SlotHolds h stands (Some g) → g.base ≡ base.Slot b
-      → (handle : ℕ) × (is_overlay_on handle stands ≡ true) × (slot_of handle h.table h.slots ≡ Some b.0)
-  rests_by (Overlay t' cols None) g b held is = absurd (subst IsNoSlot is held.1)
-  rests_by (Overlay t' cols (Some handle)) g b held is =
+  pub rests_by : (cols : Columns) (on : Option (Option ℕ)) (g : SlotGraph) (b : Slot) → IsGraphOn h cols on (Some g) → g.base ≡ base.Slot b
+      → (handle : ℕ) × (is_on handle on ≡ true) × (slot_of handle h.table h.slots ≡ Some b.0)
+  rests_by cols None g b held is = absurd (subst IsNoSlot (sym held.1 ∙ is) tt)
+  rests_by cols (Some None) g b held is = absurd (subst IsNoSlot is held.1)
+  rests_by cols (Some (Some handle)) g b held is =
       let r = base_slot handle cols held.1.0 in
       let same : b.0 ≡ r.0 = ap slot_number (sym is ∙ held.1.1 ∙ ap at_slot r.1) in
       (handle, eq-eqb handle handle refl, r.1 ∙ ap (λ n. Some n) (sym same))
-  rests_by (Base node cols) g b held is = absurd (subst IsNoSlot (sym held.1 ∙ is) tt)
-  rests_by (Selected what cols) g b held is = absurd (subst IsNoSlot (sym held.1 ∙ is) tt)
 
   -- a slot on which a live one rests is one of the handles'
   pub rests_among : (s : ℕ) (g : SlotGraph) (b : Slot) → slot_graph p s ≡ Some g → g.base ≡ base.Slot b → is_listed h.slots b.0 ≡ true
   rests_among s g b is on =
       let in' = t.only s (some_by (slot_graph p s) g is) in
       let r = beside (λ (entry : ℕ × Stands) (k : ℕ). SlotHolds h entry.1 (slot_graph p k)) h.table h.slots t.held s in' in
-      let on' = rests_by r.0.1 g b (subst (SlotHolds h r.0.1) is r.1) on in
+      let on' = rests_by r.0.1.cols (overlay_on r.0.1.what) g b (subst (SlotHolds h r.0.1) is r.1) on in
       slot_listed on'.0 h.table h.slots b.0 on'.2
 
   -- none rests on the slot of a handle on which none depends
@@ -122,7 +117,7 @@ module _ (p : PoolState) (h : HandlesState) (t : IsTied p h) where
       let in' = t.only s (some_by (slot_graph p s) g is) in
       let R : ℕ × Stands → ℕ → Type 0 = λ (entry : ℕ × Stands) (k : ℕ). SlotHolds h entry.1 (slot_graph p k) in
       let r = beside (λ (entry : ℕ × Stands) (k : ℕ). R entry k × (is_overlay_on handle entry.1 ≡ false)) h.table h.slots (none_dependent R handle h.table h.slots none t.held) s in' in
-      let on' = rests_by r.0.1 g b (subst (SlotHolds h r.0.1) is r.1.0) on in
+      let on' = rests_by r.0.1.cols (overlay_on r.0.1.what) g b (subst (SlotHolds h r.0.1) is r.1.0) on in
       let there : slot_of on'.0 h.table h.slots ≡ Some (get_or h.slots entry_index 0) = on'.2 ∙ ap (λ n. Some n) same in
       let it : handle ≡ on'.0 = sym here ∙ slot_apart on'.0 h.table h.slots entry_index t.apart many within there in
       both_ways (is_overlay_on handle r.0.1) r.1.1 (ap (λ n. is_overlay_on n r.0.1) it ∙ on'.1)
@@ -140,18 +135,17 @@ module _ (p : PoolState) (h k : HandlesState) (t : IsTied p h) where
   rests_still cols (Some handle) b stays r =
       let s = stays handle refl in
       let at = base_slot p h t handle cols r.0 in
-      ((r.0.0, r.0.1, s.entry (Base r.0.0 r.0.1) r.0.2, r.0.3), r.1 ∙ ap at_slot at.1 ∙ sym (ap at_slot (s.slot at.0 at.1)))
+      ((r.0.0, r.0.1, s.entry (record { what = Base r.0.0; cols = r.0.1 }) r.0.2, r.0.3), r.1 ∙ ap at_slot at.1 ∙ sym (ap at_slot (s.slot at.0 at.1)))
 
-  pub holds_still : (stands : Stands) (o : Option SlotGraph) → ((handle : ℕ) → is_overlay_on handle stands ≡ true → Stays h k handle) → SlotHolds h stands o → SlotHolds k stands o
-  holds_still (Overlay t' cols on) None stays held = absurd held
-  holds_still (Overlay t' cols None) (Some g) stays held = held
-  holds_still (Overlay t' cols (Some handle)) (Some g) stays held =
+  pub holds_still : (cols : Columns) (on : Option (Option ℕ)) (o : Option SlotGraph) → ((handle : ℕ) → is_on handle on ≡ true → Stays h k handle) → IsGraphOn h cols on o → IsGraphOn k cols on o
+  holds_still cols None o stays held = held
+  holds_still cols (Some on) None stays held = absurd held
+  holds_still cols (Some None) (Some g) stays held = held
+  holds_still cols (Some (Some handle)) (Some g) stays held =
       (held.0, rests_still cols (Some handle) g.base (λ n e. stays n (eq-eqb handle n (of_handle n e))) held.1)
     where
       of_handle : (n : ℕ) → Some handle ≡ Some n → handle ≡ n
       of_handle n e = ap (λ o. unwrap_or o handle) e
-  holds_still (Base node cols) o stays held = held
-  holds_still (Selected what cols) o stays held = held
 
 pub tie_is_kept : TieIsKept
 tie_is_kept = λ old new h same t. record {

@@ -6,8 +6,8 @@ use Rattle.dg_graph.specs.declared.element.Columns.{Columns}
 use Rattle.dg_graph.specs.declared.element.Element.{Element}
 use Rattle.dg_history.specs.declared.node.NodeId.{NodeId}
 use Rattle.dg_machine.specs.declared.stands.Stands.{Stands}
-use Rattle.dg_machine.specs.declared.stands.Stands.TheVariants.{Overlay, Base, Selected}
-use Rattle.dg_machine.specs.MachineState.{stands_at, union_of_sets}
+use Rattle.dg_machine.specs.declared.stands.Shown.TheVariants.{Overlay, Base}
+use Rattle.dg_machine.specs.MachineState.{overlay_on, stands_at, union_of_sets}
 use Rattle.dg_machine.specs.Planning.{includes}
 use Rattle.dg_pool.specs.declared.slots.Base.{Base as PoolBase}
 use Rattle.dg_pool.specs.declared.slots.Base.TheVariants as base
@@ -33,7 +33,7 @@ numbered next (stands ∷ more) = (next, stands) ∷ numbered (next + 1) more
 abbrev pub overlays_on : Columns → List ℕ → List (Option ℕ) → List Stands
 overlays_on cols [] handles = []
 overlays_on cols (t ∷ times) [] = []
-overlays_on cols (t ∷ times) (on ∷ handles) = Overlay t cols on ∷ overlays_on cols times handles
+overlays_on cols (t ∷ times) (on ∷ handles) = record { what = Overlay t on; cols = cols } ∷ overlays_on cols times handles
 
 -- the numbers rise, none is below the first bound, and all are below the second
 abbrev pub RiseWithin : ℕ → ℕ → List ℕ → Type 0
@@ -70,11 +70,11 @@ graphs_without handle (entry ∷ table) (graph ∷ graphs) = if entry.0 == handl
 
 -- the handle holds the set of this node, in columns that have all of these
 abbrev pub HoldsNode : List (ℕ × Stands) → Columns → ℕ × NodeId → Type 0
-HoldsNode table cols (handle, node) = (all : Columns) × (stands_at handle table ≡ Some (Base node all)) × (includes all cols ≡ true)
+HoldsNode table cols (handle, node) = (all : Columns) × (stands_at handle table ≡ Some (record { what = Base node; cols = all })) × (includes all cols ≡ true)
 
 -- the handle holds the set of some node, in columns that have all of these
 abbrev pub IsBaseHandle : ℕ → Columns → List (ℕ × Stands) → Type 0
-IsBaseHandle handle cols table = (node : NodeId) × (all : Columns) × (stands_at handle table ≡ Some (Base node all)) × (includes all cols ≡ true)
+IsBaseHandle handle cols table = (node : NodeId) × (all : Columns) × (stands_at handle table ≡ Some (record { what = Base node; cols = all })) × (includes all cols ≡ true)
 
 -- where a graph begins so with the set of a handle, the handle holds a base for these columns
 abbrev pub CanBegin : List (ℕ × Stands) → Columns → Beginning → Type 0
@@ -118,19 +118,15 @@ IsGraphIn cols allowed (Some g) = (g.cols ≡ cols) × allowed g.base
 abbrev pub with_messages : Columns → Columns
 with_messages cols = record cols { transient = true }
 
--- A slot has a graph in the columns of what a handle stands for: an overlay rests as it is entered, and a set, of a node
--- or selected, rests on nothing. A set has the messages with its columns, so that overlays with messages can rest on that of
--- a node.
-abbrev pub SlotHolds : HandlesState → Stands → Option SlotGraph → Type 0
-SlotHolds h (Overlay t cols on) o = IsGraphIn cols (RestsOn h cols on) o
-SlotHolds h (Base node cols) o = IsGraphIn (with_messages cols) (λ b. b ≡ base.Nothing) o
-SlotHolds h (Selected what cols) o = IsGraphIn (with_messages cols) (λ b. b ≡ base.Nothing) o
+-- A graph is there, in these columns: an overlay rests as it is entered, and a set, of a node or selected, rests on
+-- nothing. A set has the messages with its columns, so that overlays with messages can rest on that of a node.
+abbrev pub IsGraphOn : HandlesState → Columns → Option (Option ℕ) → Option SlotGraph → Type 0
+IsGraphOn h cols (Some on) o = IsGraphIn cols (RestsOn h cols on) o
+IsGraphOn h cols None o = IsGraphIn (with_messages cols) (λ b. b ≡ base.Nothing) o
 
--- it stands for a set, which rests on nothing
-abbrev pub RestsOnNothing : Stands → Type 0
-RestsOnNothing (Overlay t cols on) = ⊥
-RestsOnNothing (Base node cols) = Unit {0}
-RestsOnNothing (Selected what cols) = Unit {0}
+-- the slot has a graph as the handle stands for it
+abbrev pub SlotHolds : HandlesState → Stands → Option SlotGraph → Type 0
+SlotHolds h stands o = IsGraphOn h stands.cols (overlay_on stands.what) o
 
 -- There are as many slots as handles. Each handle has a slot of its own, whose graph rests as the handle's entry says,
 -- and no other slot is live.

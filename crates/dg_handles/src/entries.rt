@@ -11,7 +11,7 @@ ghost use Rattle.dg_retrieval.specs.Beginnings.{base_handle};
 ghost use Rattle.dg_pool.specs.Changes.{numbers_of};
 
 use dg_graph::Columns;
-use dg_machine::Stands;
+use dg_machine::{Shown, Stands};
 use dg_planner::Base;
 use dg_pool::Slot;
 use dg_retrieval::Beginning;
@@ -42,8 +42,8 @@ pub(crate) fn index_of_handle(entries: &[Entry], handle: u32) -> Option<usize>
 fn rests_on(stands: Stands, handle: u32) -> bool
     ensures { result ≡ is_overlay_on handle stands }
 {
-    match stands {
-        Stands::Overlay { on: Some(base), .. } => base == handle,
+    match stands.what {
+        Shown::Overlay { on: Some(base), .. } => base == handle,
         _ => false,
     }
 }
@@ -72,8 +72,8 @@ fn usable(entry: &Entry, cols: Columns) -> Option<Base>
     ensures some { IfSome result (λ base. usable cols (entry.now.handle, entry.now.stands) ≡ node_of base ∷ []) }
     ensures none { IfNone result (usable cols (entry.now.handle, entry.now.stands) ≡ []) }
 {
-    match entry.stands {
-        Stands::Base { node, cols: all } if includes(all, cols) => Some(Base {
+    match entry.stands.what {
+        Shown::Base(node) if includes(entry.stands.cols, cols) => Some(Base {
             handle: entry.handle,
             node,
         }),
@@ -108,34 +108,43 @@ fn base_of(begins: Beginning) -> Option<u32>
     }
 }
 
-/// Adds an entry for each instant, with the numbers from this one on, on what its graph begins with. There is room for
-/// them.
-pub(crate) fn enter(
-    entries: &mut Vec<Entry>,
-    next: u64,
+/// What stands for the graphs as of these instants, each on what it begins with. An `Err` says that memory ran out.
+pub(crate) fn overlays(
+    alloc: Global,
     cols: Columns,
     times: &[u64],
     begins: &[Beginning],
-    slots: &[Slot],
-)
-    requires begins { length begins.now ≡ length times.now }
-    requires slots { length slots.now ≡ length times.now }
-    requires room { vec_len entries.old + length times.now ≤ vec_capacity entries.old }
-    requires numbers { next + length times.now ≤ HANDLE_MAX + 1 }
-    ensures table { map (λ e. (e.handle, e.stands)) entries.new.items
-        ≡ map (λ e. (e.handle, e.stands)) entries.old.items ++ numbered next (overlays_on cols times.now (map base_handle begins.now)) }
-    ensures slots { map (λ e. e.slot.0) entries.new.items ≡ map (λ e. e.slot.0) entries.old.items ++ numbers_of slots.now }
-    ensures len { vec_len entries.new ≡ vec_len entries.old + length times.now }
-    ensures capacity { vec_capacity entries.new ≡ vec_capacity entries.old }
+) -> Result<Vec<Stands>, AllocError>
+    requires { length begins.now ≡ length times.now }
+    ensures { IfOk result (λ v. v.items ≡ overlays_on cols times.now (map base_handle begins.now)) }
 {
+    let mut overlays = Vec::with_capacity(alloc, times.len())?;
     for i in 0..times.len() {
-        entries.push_reserved(Entry {
-            handle: (next + i as u64) as u32,
-            stands: Stands::Overlay {
+        overlays.push_reserved(Stands {
+            what: Shown::Overlay {
                 t: times[i],
-                cols,
                 on: base_of(begins[i]),
             },
+            cols,
+        });
+    }
+    Ok(overlays)
+}
+
+/// Adds an entry for each of these, with the numbers from this one on and the slot beside it. There is room for them.
+pub(crate) fn enter(entries: &mut Vec<Entry>, next: u64, stands: &[Stands], slots: &[Slot])
+    requires slots { length slots.now ≡ length stands.now }
+    requires room { vec_len entries.old + length stands.now ≤ vec_capacity entries.old }
+    requires numbers { next + length stands.now ≤ HANDLE_MAX + 1 }
+    ensures table { map (λ e. (e.handle, e.stands)) entries.new.items ≡ map (λ e. (e.handle, e.stands)) entries.old.items ++ numbered next stands.now }
+    ensures slots { map (λ e. e.slot.0) entries.new.items ≡ map (λ e. e.slot.0) entries.old.items ++ numbers_of slots.now }
+    ensures len { vec_len entries.new ≡ vec_len entries.old + length stands.now }
+    ensures capacity { vec_capacity entries.new ≡ vec_capacity entries.old }
+{
+    for i in 0..stands.len() {
+        entries.push_reserved(Entry {
+            handle: (next + i as u64) as u32,
+            stands: stands[i],
             slot: slots[i],
         });
     }

@@ -6,9 +6,8 @@ ghost use Rattle.std.specs.Option.{option_map};
 ghost use Rattle.dg_graph.specs.Composition.{applied};
 ghost use Rattle.dg_graph.specs.Elements.{shown};
 ghost use Rattle.dg_handles.specs.Attached.{AreAttached, graph_begun, graph_led, resting};
-ghost use Rattle.dg_handles.specs.Handles.{BeginsOn, CanBegin, HoldsNode, IsTied, RestsOnNothing, graph_among, slot_graphs, graphs_without, held_by, numbered, overlays_on, slot_of, with_messages};
-ghost use Rattle.dg_machine.specs.Answer.{columns_if};
-ghost use Rattle.dg_machine.specs.MachineState.{dependent_on, stands_at, without_handle};
+ghost use Rattle.dg_handles.specs.Handles.{BeginsOn, CanBegin, HoldsNode, IsTied, graph_among, slot_graphs, graphs_without, held_by, numbered, overlays_on, slot_of, with_messages};
+ghost use Rattle.dg_machine.specs.MachineState.{dependent_on, overlay_on, stands_at, without_handle};
 ghost use Rattle.dg_machine.specs.Planning.{bases_in};
 ghost use Rattle.dg_machine.specs.declared.limits.TheConstants.{HANDLE_MAX, LIVE_HANDLES_MAX};
 ghost use Rattle.dg_planner.specs.Bases.{base_of as node_of};
@@ -17,7 +16,7 @@ ghost use Rattle.dg_pool.specs.Graphs.{PoolState, SameGraphs, graph_now, slot_gr
 ghost use Rattle.dg_retrieval.specs.Beginnings.{base_handle, leads_in, led_to};
 
 use crate::attach::{attach, attach_unchanged, detach, detach_all};
-use crate::entries::{Entry, bases, dependent, enter, index_of_handle};
+use crate::entries::{Entry, bases, dependent, enter, index_of_handle, overlays};
 use crate::write::write_all;
 use dg_delta::Delta;
 use dg_graph::Columns;
@@ -61,17 +60,6 @@ fn with_messages(cols: Columns) -> Columns
     Columns {
         transient: true,
         ..cols
-    }
-}
-
-// The columns of what a handle stands for.
-fn columns(stands: Stands) -> Columns
-    ensures { result ≡ columns_if (Some stands) }
-{
-    match stands {
-        Stands::Overlay { cols, .. } => cols,
-        Stands::Base { cols, .. } => cols,
-        Stands::Selected { cols, .. } => cols,
     }
 }
 
@@ -210,6 +198,19 @@ impl Handles {
         }
     }
 
+    // A handle for each of these, with the slot beside it. There is room for them.
+    fn enter(&mut self, stands: &[Stands], slots: &[Slot])
+        requires slots { length slots.now ≡ length stands.now }
+        requires room { length self.old.table + length stands.now ≤ LIVE_HANDLES_MAX }
+        requires numbers { self.old.next + length stands.now ≤ HANDLE_MAX + 1 }
+        ensures table { self.new.table ≡ self.old.table ++ numbered self.old.next stands.now }
+        ensures slots { self.new.slots ≡ self.old.slots ++ numbers_of slots.now }
+        ensures next { self.new.next ≡ self.old.next + length stands.now }
+    {
+        enter(&mut self.entries, self.next, stands, slots);
+        self.next += stands.len() as u64;
+    }
+
     /// A handle for the graph to which each lead comes, as of these instants in these columns: each graph gets a slot
     /// of the pool, which rests on what the lead begins with, and each delta is written once for all of them. An `Err`
     /// says that memory ran out; then all handles and all graphs are as before.
@@ -240,16 +241,9 @@ impl Handles {
         ensures err { OnErr result (self.new ≡ self.old) }
         ensures graphs_err { OnErr result (SameGraphs pool.old pool.new) }
     {
+        let stands = overlays(self.alloc, cols, times, &leads.begins)?;
         let slots = self.attach_leads(pool, cols, leads)?;
-        enter(
-            &mut self.entries,
-            self.next,
-            cols,
-            times,
-            &leads.begins,
-            &slots,
-        );
-        self.next += times.len() as u64;
+        self.enter(&stands, &slots);
         Ok(())
     }
 
@@ -265,13 +259,13 @@ impl Handles {
         requires tied { IsTied pool.old self.old }
         requires room { length self.old.table + 1 ≤ LIVE_HANDLES_MAX }
         requires numbers { self.old.next + 1 ≤ HANDLE_MAX + 1 }
-        requires alone { RestsOnNothing stands }
+        requires alone { overlay_on stands.what ≡ None }
 
         // the handle and its graph
         ensures table { OnOk result (self.new.table ≡ self.old.table ++ (self.old.next, stands) ∷ []) }
         ensures next { OnOk result (self.new.next ≡ self.old.next + 1) }
         ensures graphs { OnOk result (slot_graphs pool.new self.new.slots
-            ≡ slot_graphs pool.old self.old.slots ++ shown (applied delta.now []) (with_messages (columns_if (Some stands))) ∷ []) }
+            ≡ slot_graphs pool.old self.old.slots ++ shown (applied delta.now []) (with_messages stands.cols) ∷ []) }
         ensures tied { IsTied pool.new self.new }
         ensures now { graph_now pool.new ≡ graph_now pool.old }
 
@@ -279,13 +273,8 @@ impl Handles {
         ensures err { OnErr result (self.new ≡ self.old) }
         ensures graphs_err { OnErr result (SameGraphs pool.old pool.new) }
     {
-        let slot = attach(pool, Base::Nothing, delta, with_messages(columns(stands)))?;
-        self.entries.push_reserved(Entry {
-            handle: self.next as u32,
-            stands,
-            slot,
-        });
-        self.next += 1;
+        let slot = attach(pool, Base::Nothing, delta, with_messages(stands.cols))?;
+        self.enter(&[stands], &[slot]);
         Ok(())
     }
 

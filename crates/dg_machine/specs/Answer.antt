@@ -39,7 +39,7 @@ use Rattle.dg_machine.specs.QueryTable.{Told, told_of}
 use Rattle.dg_machine.specs.declared.selection.Selection.{Selection}
 use Rattle.dg_machine.specs.declared.selection.Selection.TheVariants.{Chosen, Added}
 use Rattle.dg_machine.specs.declared.stands.Stands.{Stands}
-use Rattle.dg_machine.specs.declared.stands.Stands.TheVariants.{Overlay, Base, Selected}
+use Rattle.dg_machine.specs.declared.stands.Shown.TheVariants.{Overlay, Base, Selected}
 use Rattle.dg_aux.specs.Values.{additions_of}
 use Rattle.dg_machine.specs.Selections.{added_length}
 use Rattle.dg_machine.specs.ValueIndex.{found, key_text, node_attrs_length, value_text}
@@ -112,7 +112,7 @@ with_handles m (stands ∷ more) = with_handles (with_handle m stands) more
 
 -- the graphs as of these instants, each on the base that the function gives for it
 abbrev pub overlays : Columns → (ℕ → Option ℕ) → List ℕ → List Stands
-overlays cols base times = map (λ t. Overlay t cols (base t)) times
+overlays cols base times = map (λ t. record { what = Overlay t (base t); cols = cols }) times
 
 -- the base with which the path to the graph as of an instant begins, within the tree of these steps
 abbrev pub base_for : MachineState → Columns → List ℕ → ℕ → Option ℕ
@@ -121,9 +121,7 @@ base_for m cols steps t = base_under (edges_in m cols) steps (point_for m t)
 -- the columns of what a handle stands for; none but structure, where it is not live
 abbrev pub columns_if : Option Stands → Columns
 columns_if None = record { nodes_attr = false; edges_attr = false; transient = false }
-columns_if (Some (Overlay t cols on)) = cols
-columns_if (Some (Base node cols)) = cols
-columns_if (Some (Selected what cols)) = cols
+columns_if (Some stands) = stands.cols
 
 abbrev pub columns_by : MachineState → ℕ → Columns
 columns_by m handle = columns_if (stands_at handle m.table)
@@ -262,7 +260,7 @@ accepted m (command.Load count) lines p = with_lines m (λ events total last. he
 accepted m (command.Append count) lines p = with_lines m (λ events total last. head.Appended events total last) lines
 accepted m (command.At t cols) lines p = record {
   reply = headed (head.At m.next (weight_of (arcs_of (edges_in m cols)) p.steps + heard_for m cols (t ∷ [])));
-  state = with_handle m (Overlay t cols (base_for m cols p.steps t));
+  state = with_handle m (record { what = Overlay t (base_for m cols p.steps t); cols = cols });
 }
 accepted m (command.Several cols times count) lines p = record {
   reply = several_reply m.next (tree_weight (arcs_of (edges_in m cols)) p.grafts + heard_for m cols (take count times)) (take count times)
@@ -271,7 +269,7 @@ accepted m (command.Several cols times count) lines p = record {
 }
 accepted m (command.Materialise node cols) lines p = record {
   reply = headed (head.Materialised m.next (weight_of (arcs_of (record_edges_in m cols)) p.steps));
-  state = with_handle m (Base node cols);
+  state = with_handle m (record { what = Base node; cols = cols });
 }
 accepted m (command.Ask handle q) lines p = say m (query_reply q handle (columns_by m handle) (shown_by m handle))
 accepted m (command.Release handle) lines p = record {
@@ -290,7 +288,7 @@ accepted m command.Tree lines p = say m (tree_reply (history_in m.index))
 accepted m (command.Workload seed count) lines p = with_workload m (batch_of_changes (history_in m.index) (generated seed count))
 accepted m (command.Select what cols) lines p = record {
   reply = headed (selection_head what m.next (weight_of_selection m cols what p));
-  state = with_handle m (Selected what cols);
+  state = with_handle m (record { what = Selected what; cols = cols });
 }
 accepted m (command.Index key) lines p = with_index m (number_in (names_in m.index) (key_text key))
 accepted m (command.Find t key value) lines p =

@@ -1,5 +1,6 @@
 -- The machine that keeps only the events and a table of handles.
 use Rattle.std.specs.Prelude.{ℕ, ◌≤◌, ◌==◌, Bool, false, List, [], ◌∷◌, Option, Some, None, if◌then◌else◌, map}
+use Rattle.dg_graph.specs.declared.element.Columns.{Columns}
 use Rattle.dg_graph.specs.declared.element.Element.{Element}
 use Rattle.dg_graph.specs.declared.event.Event.{Event}
 use Rattle.dg_graph.specs.declared.function.Function.TheVariants.{Intersection}
@@ -7,10 +8,13 @@ use Rattle.dg_machine.specs.declared.limits.Limits.{Limits}
 use Rattle.dg_history.specs.declared.limits.TheConstants.{EVENTS_MAX, FILE_BYTES_MAX}
 use Rattle.dg_machine.specs.declared.limits.TheConstants.{FIRST_HANDLE, SCRIPT_BYTES_MAX}
 use Rattle.dg_machine.specs.declared.stands.Stands.{Stands}
-use Rattle.dg_machine.specs.declared.stands.Stands.TheVariants.{Overlay, Base, Selected}
+use Rattle.dg_machine.specs.declared.stands.Shown.{Shown}
+use Rattle.dg_machine.specs.declared.stands.Shown.TheVariants.{Overlay, Base, Selected}
 use Rattle.dg_machine.specs.Selections.{selected}
 use Rattle.dg_graph.specs.Elements.{shown}
 use Rattle.dg_history.specs.declared.form.Form.TheVariants as form
+use Rattle.dg_history.specs.declared.node.NodeId.{NodeId}
+use Rattle.dg_history.specs.declared.params.Params.{Params}
 use Rattle.dg_history.specs.History.{History, empty_history, events_of, names_of}
 use Rattle.dg_graph.specs.Replay.{replay, shown_at}
 use Rattle.dg_graph.specs.Sets.{unioned}
@@ -61,24 +65,47 @@ abbrev pub without_handle : ℕ → List (ℕ × Stands) → List (ℕ × Stands
 without_handle handle [] = []
 without_handle handle (entry ∷ table) = if entry.0 == handle then table else entry ∷ without_handle handle table
 
+-- ---- what is shown
+
+-- The handle on which an overlay rests, if on any. What is no overlay is a set, which rests on nothing.
+abbrev pub overlay_on : Shown → Option (Option ℕ)
+overlay_on (Overlay t on) = Some on
+overlay_on (Base node) = None
+overlay_on (Selected what) = None
+
+-- the node of a base
+abbrev pub base_node : Shown → Option NodeId
+base_node (Overlay t on) = None
+base_node (Base node) = Some node
+base_node (Selected what) = None
+
+-- The elements by these parameters and events, in these columns: the graph as of the instant with the messages of the
+-- instant, the set of the node, or what is selected.
+abbrev pub elements_of : Params → List Event → Columns → Shown → List Element
+elements_of p events cols (Overlay t on) = shown_at events t cols
+elements_of p events cols (Base node) = shown (set_of p events node) cols
+elements_of p events cols (Selected what) = selected events cols what
+
+-- ---- what handles stand for
+
+-- an overlay rests on this handle
+abbrev pub is_on : ℕ → Option (Option ℕ) → Bool
+is_on handle None = false
+is_on handle (Some None) = false
+is_on handle (Some (Some base)) = base == handle
+
 -- it stands for an overlay that rests on this handle
 abbrev pub is_overlay_on : ℕ → Stands → Bool
-is_overlay_on handle (Overlay t cols None) = false
-is_overlay_on handle (Overlay t cols (Some base)) = base == handle
-is_overlay_on handle (Base node cols) = false
-is_overlay_on handle (Selected what cols) = false
+is_overlay_on handle stands = is_on handle (overlay_on stands.what)
 
 -- the first live handle that rests on this one, and so the least
 abbrev pub dependent_on : ℕ → List (ℕ × Stands) → Option ℕ
 dependent_on handle [] = None
 dependent_on handle (entry ∷ table) = if is_overlay_on handle entry.1 then Some entry.0 else dependent_on handle table
 
--- The elements of what a handle stands for, in its columns: the graph as of the instant with the messages of the
--- instant, the set of the node, or what is selected.
+-- the elements of what a handle stands for
 abbrev pub elements : History → Stands → List Element
-elements z (Overlay t cols on) = shown_at (events_of z) t cols
-elements z (Base node cols) = shown (set_of z.params (events_of z) node) cols
-elements z (Selected what cols) = selected z cols what
+elements z stands = elements_of z.params (events_of z) stands.cols stands.what
 
 -- the elements of any of these sets
 abbrev pub union_of_sets : List (List Element) → List Element

@@ -21,8 +21,7 @@ use Rattle.dg_machine.specs.declared.reply.Refusal.TheVariants as refusal
 use Rattle.dg_machine.specs.declared.selection.Selection.{Selection}
 use Rattle.dg_machine.specs.declared.selection.Selection.TheVariants.{Chosen, Added}
 use Rattle.dg_machine.specs.declared.stands.Stands.{Stands}
-use Rattle.dg_machine.specs.declared.stands.Stands.TheVariants.{Overlay, Base, Selected}
-use Rattle.dg_machine.specs.MachineState.{MachineState, dependent_on, events_in_index, history_in, names_in, stands_at}
+use Rattle.dg_machine.specs.MachineState.{MachineState, dependent_on, events_in_index, history_in, names_in, overlay_on, stands_at}
 use Rattle.dg_machine.specs.QueryTable.{is_of_nodes, takes_memory}
 use Rattle.dg_machine.specs.ValueIndex.{is_among, key_text}
 
@@ -145,9 +144,7 @@ earliest (r ∷ rest) = Some r
 -- the handle is live, and stands for a set: of a node of the index, or selected
 abbrev pub is_set : Option Stands → Bool
 is_set None = false
-is_set (Some (Overlay t cols on)) = false
-is_set (Some (Base node cols)) = true
-is_set (Some (Selected what cols)) = true
+is_set (Some stands) = not (is_some (overlay_on stands.what))
 
 -- the node is a leaf or an interior node that exists where so many events are there
 abbrev pub can_be_held : Params → ℕ → NodeId → Bool

@@ -1,5 +1,5 @@
 -- The plans of commands: over which graph of the index, and to which node.
-use Rattle.std.specs.Prelude.{◌≡◌, ℕ, Bool, ◌&&◌, ◌||◌, not, List as ListOf, [], ◌∷◌, if◌then◌else◌, map, take}
+use Rattle.std.specs.Prelude.{◌≡◌, ℕ, Bool, ◌&&◌, ◌||◌, not, List as ListOf, [], ◌∷◌, Option, Some, None, if◌then◌else◌, map, take}
 use Rattle.std.specs.List.{AllZip, flat_map}
 use Rattle.dg_expr.specs.Expressions.{instants_of, words_of}
 use Rattle.dg_graph.specs.declared.element.Columns.{Columns}
@@ -15,18 +15,20 @@ use Rattle.dg_machine.specs.declared.command.Command.{Command}
 use Rattle.dg_machine.specs.declared.command.Command.TheVariants as command
 use Rattle.dg_machine.specs.declared.selection.Selection.TheVariants.{Chosen}
 use Rattle.dg_machine.specs.declared.stands.Stands.{Stands}
-use Rattle.dg_machine.specs.declared.stands.Stands.TheVariants.{Overlay, Base, Selected}
-use Rattle.dg_machine.specs.MachineState.{MachineState, history_in}
+use Rattle.dg_machine.specs.MachineState.{MachineState, base_node, history_in}
 
 -- the first columns have all of the second
 abbrev pub includes : Columns → Columns → Bool
 includes all cols = (all.nodes_attr || not cols.nodes_attr) && (all.edges_attr || not cols.edges_attr)
 
+-- the handle with the node, where there is one and it can serve
+abbrev pub base_if : Bool → ℕ → Option NodeId → ListOf (ℕ × NodeId)
+base_if serves handle None = []
+base_if serves handle (Some node) = if serves then (handle, node) ∷ [] else []
+
 -- the handle and its node, where it stands for a node in columns that can serve these
 abbrev pub usable : Columns → ℕ × Stands → ListOf (ℕ × NodeId)
-usable cols (handle, Overlay t others on) = []
-usable cols (handle, Selected what others) = []
-usable cols (handle, Base node all) = if includes all cols then (handle, node) ∷ [] else []
+usable cols (handle, stands) = base_if (includes stands.cols cols) handle (base_node stands.what)
 
 -- the handles whose nodes can serve a retrieval in these columns, the oldest first
 abbrev pub bases_in : Columns → ListOf (ℕ × Stands) → ListOf (ℕ × NodeId)

@@ -1,4 +1,4 @@
--- The elements that are selected from a history, and the lists that are read for them.
+-- The elements that are selected from events, and the lists that are read for them.
 use Rattle.std.specs.Prelude.{ℕ, Bool, ◌+◌, ◌&&◌, List, [], if◌then◌else◌, filter, length, map, nat_le, nat_lt, sum}
 use Rattle.dg_expr.specs.Chosen.{chosen}
 use Rattle.dg_expr.specs.Expressions.{words_of}
@@ -18,9 +18,9 @@ use Rattle.dg_machine.specs.declared.selection.Selection.TheVariants.{Chosen, Ad
 use Rattle.dg_added.specs.Additions.{added_between}
 
 -- The elements that are selected, in these columns. No graph has a message, so an expression chooses none.
-abbrev pub selected : History → Columns → Selection → List Element
-selected z cols (Chosen e) = chosen (words_of e) (λ t. shown (replay_at (events_of z) t) cols)
-selected z cols (Added from until) = shown (added_between from until (events_of z)) cols
+abbrev pub selected : List Event → Columns → Selection → List Element
+selected events cols (Chosen e) = chosen (words_of e) (λ t. shown (replay_at events t) cols)
+selected events cols (Added from until) = shown (added_between from until events) cols
 
 -- the list begins before the end, and does not end before the beginning
 abbrev pub meets : Params → List Event → ℕ → ℕ → ℕ → Bool

@@ -20,5 +20,5 @@ pub use limits::{
 pub use query::{Query, QueryHead};
 pub use reply::{BodyLine, BodyLines, Head, Refusal, Reply};
 pub use selection::Selection;
-pub use stands::Stands;
+pub use stands::{Shown, Stands};
 pub use texts::{KeyText, ValueText};

@@ -22,7 +22,7 @@ use Rattle.dg_index.specs.Hierarchy.{numbers, set_of}
 use Rattle.dg_index.specs.IndexRecords.{heights}
 use Rattle.dg_index.specs.OpenedIndex.{Opening}
 use Rattle.dg_machine.specs.declared.stands.Stands.{Stands}
-use Rattle.dg_machine.specs.declared.stands.Stands.TheVariants.{Base}
+use Rattle.dg_machine.specs.declared.stands.Shown.TheVariants.{Base}
 use Rattle.dg_machine.specs.MachineState.{elements, stands_at}
 use Rattle.dg_machine.specs.Planning.{includes}
 use Rattle.dg_plan.specs.declared.edge.Edge.{Edge}
@@ -96,7 +96,7 @@ found z h (e ∷ table) s is = by (e.0 == h) (found z h table s) is
 -- a handle that holds a node lists its set in the handle's columns
 pub held_is : (z : History) (table : ListOf (ℕ × Stands)) (cols : Columns) (h : ℕ) (v : NodeId) (holds : HoldsNode table cols (h, v))
     → held_by table (map (λ (e : ℕ × Stands). elements z e.1) table) h ≡ shown (set_of z.params (events_of z) v) holds.0
-held_is z table cols h v holds = ap (λ (o : Option (ListOf Element)). unwrap_or o []) (found z h table (Base v holds.0) holds.1)
+held_is z table cols h v holds = ap (λ (o : Option (ListOf Element)). unwrap_or o []) (found z h table (record { what = Base v; cols = holds.0 }) holds.1)
 
 -- ---- what is shown of it
 

@@ -2,6 +2,7 @@
 use Rattle.std.proofs.Common.{◌≡◌, ℕ, ◌*◌, ◌-◌, ◌≤◌, false, List, [], Option, Some, None, get_or, length, sym, ◌∙◌, ap, subst, arith}
 use Rattle.std.specs.Prelude.{is_some}
 use Rattle.std.proofs.lemmas.Bool.{false≢true}
+use Rattle.std.proofs.lemmas.Option.{IfSome_then}
 use Rattle.dg_ask.specs.HeldIndex.{HasNodeOf, HasNodes}
 use Rattle.dg_batch.specs.Held.{IsHeld}
 use Rattle.dg_batch.specs.declared.held.Held.{Held}
@@ -16,7 +17,7 @@ use Rattle.dg_index.specs.Hierarchy.{leaves}
 use Rattle.dg_index.specs.IndexGrowth.{index_upgraded, name_total}
 use Rattle.dg_index.specs.OpenedIndex.{Opening, bare, event_total, first_in, last_list}
 use Rattle.dg_machine.specs.declared.stands.Stands.{Stands}
-use Rattle.dg_machine.specs.declared.stands.Stands.TheVariants.{Overlay, Base, Selected}
+use Rattle.dg_machine.specs.MachineState.{base_node}
 use Rattle.dg_session.specs.Upgrade.{with_index}
 use Rattle.dg_stored.specs.StoredHistory.{IsSoundHistory, floor_of, index_opening}
 
@@ -35,9 +36,7 @@ sound_upgraded o names now recent s = record {
 }
 
 node_stays : (o : Opening) (s : Stands) → HasNodeOf (Some o) s → HasNodeOf (Some (index_upgraded o)) s
-node_stays o (Overlay t cols on) h = tt
-node_stays o (Base node cols) h = h
-node_stays o (Selected what cols) h = tt
+node_stays o s h = IfSome_then (base_node s.what) h (λ node has. has)
 
 nodes_stay : (o : Opening) (table : List (ℕ × Stands)) → HasNodes (Some o) table → HasNodes (Some (index_upgraded o)) table
 nodes_stay o table h = λ k d lt. node_stays o (get_or table k d).1 (h k d lt)
@@ -84,9 +83,7 @@ made_sound o names now recent none no_records s = record {
 }
 
 no_node : (o : Opening) (s : Stands) → HasNodeOf None s → HasNodeOf (Some o) s
-no_node o (Overlay t cols on) h = tt
-no_node o (Base node cols) h = absurd h
-no_node o (Selected what cols) h = tt
+no_node o s h = IfSome_then (base_node s.what) h (λ node none. absurd none)
 
 pub held_made : (h : Held) (i : IndexState) (params : Params) → is_some (index_opening h.live.history.index) ≡ false → i.opening ≡ (bare form.Two params).index → IsHeld h → IsHeld (with_index h i)
 held_made h i params none is held = by (index_opening h.live.history.index) none held.live.sound held.handles.nodes

@@ -1,5 +1,6 @@
 -- The graph in which a session plans, by the planners that it keeps.
-use Rattle.std.proofs.Common.{◌≡◌, ◌≢◌, ℕ, Bool, true, false, cond, List as ListOf, [], ◌∷◌, ◌++◌, Some, ◌∙◌, ap, subst}
+use Rattle.std.proofs.Common.{◌≡◌, ◌≢◌, ℕ, Bool, true, false, List as ListOf, [], ◌∷◌, ◌++◌, Option, Some, None, ◌∙◌, ap, subst}
+use Rattle.std.specs.Prelude.{IfSome}
 use Rattle.std.specs.List.{All}
 use Rattle.std.proofs.lemmas.Bool.{false≢true}
 use Rattle.std.proofs.lemmas.List.Elements.{All-cons, All-head, All-nil, All-tail}
@@ -10,13 +11,13 @@ use Rattle.dg_history.specs.declared.node.NodeId.{NodeId}
 use Rattle.dg_history.specs.declared.node.NodeId.TheVariants.{List}
 use Rattle.dg_index.specs.OpenedIndex.{Opening, event_total}
 use Rattle.dg_machine.specs.declared.stands.Stands.{Stands}
-use Rattle.dg_machine.specs.declared.stands.Stands.TheVariants.{Overlay, Base, Selected}
-use Rattle.dg_machine.specs.Planning.{bases_in, includes}
+use Rattle.dg_machine.specs.MachineState.{base_node}
+use Rattle.dg_machine.specs.Planning.{base_if, bases_in, includes}
 use Rattle.dg_planner.specs.Whole.{PlannerGraph}
 use Rattle.dg_retrieval.specs.KeptGraph.{HoldNoList, kept_edges, kept_nodes}
 use Rattle.dg_session.specs.contracts.session.Session.{the_view}
 use Rattle.dg_session.specs.declared.session.Session.TheInside.{Inside}
-use Rattle.dg_ask.specs.HeldIndex.{HasNodeOf, HasNodes, has_node_held}
+use Rattle.dg_ask.specs.HeldIndex.{HasNode, HasNodeOf, HasNodes, has_node_held}
 use Rattle.dg_ask.specs.KeptPlanner.{IsGraphFor, IsKeptFor, IsKeptIn}
 use Rattle.dg_session.specs.Parts.{Parts}
 use Rattle.dg_stored.specs.StoredHistory.{index_opening}
@@ -27,18 +28,14 @@ no_list o v has i e = false≢true (subst (λ x. has_node_held (Some o) x ≡ tr
 
 pub no_lists : (o : Opening) (cols : Columns) (table : ListOf (ℕ × Stands)) → HasNodes (Some o) table → HoldNoList (bases_in cols table)
 no_lists o cols [] h = All-nil (λ (b : ℕ × NodeId). (i : ℕ) → b.1 ≢ List i)
-no_lists o cols ((handle, Overlay t others on) ∷ table) h =
-    no_lists o cols table (All-tail (λ (e : ℕ × Stands). HasNodeOf (Some o) e.1) (handle, Overlay t others on) table h)
-no_lists o cols ((handle, Selected what others) ∷ table) h =
-    no_lists o cols table (All-tail (λ (e : ℕ × Stands). HasNodeOf (Some o) e.1) (handle, Selected what others) table h)
-no_lists o cols ((handle, Base node all) ∷ table) h =
-    by (includes all cols) (no_lists o cols table (All-tail (λ (e : ℕ × Stands). HasNodeOf (Some o) e.1) (handle, Base node all) table h))
+no_lists o cols (e ∷ table) h =
+    by (includes e.1.cols cols) (base_node e.1.what) (All-head (λ (x : ℕ × Stands). HasNodeOf (Some o) x.1) e table h)
+    (no_lists o cols table (All-tail (λ (x : ℕ × Stands). HasNodeOf (Some o) x.1) e table h))
   where
-    by : (b : Bool) → HoldNoList (bases_in cols table) → HoldNoList (cond b ((handle, node) ∷ []) [] ++ bases_in cols table)
-    by true rest =
-        All-cons (λ (b : ℕ × NodeId). (i : ℕ) → b.1 ≢ List i) (handle, node) (bases_in cols table)
-        (no_list o node (All-head (λ (e : ℕ × Stands). HasNodeOf (Some o) e.1) (handle, Base node all) table h)) rest
-    by false rest = rest
+    by : (serves : Bool) (held : Option NodeId) → IfSome held (HasNode (Some o)) → HoldNoList (bases_in cols table) → HoldNoList (base_if serves e.0 held ++ bases_in cols table)
+    by serves None has rest = rest
+    by false (Some node) has rest = rest
+    by true (Some node) has rest = All-cons (λ (b : ℕ × NodeId). (i : ℕ) → b.1 ≢ List i) (e.0, node) (bases_in cols table) (no_list o node has) rest
 
 -- The graph is that of the session's index, with the handles that can serve.
 pub record IsPlanningIn (p : Parts) (o : Opening) (cols : Columns) (g : PlannerGraph) : Type 0 where

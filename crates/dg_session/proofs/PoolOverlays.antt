@@ -11,10 +11,9 @@ use Rattle.dg_ask.specs.HeldIndex.{HasNodes}
 use Rattle.dg_batch.specs.Held.{IsHeld}
 use Rattle.dg_batch.specs.declared.held.Held.{Held}
 use Rattle.dg_graph.specs.declared.element.Element.{Element}
-use Rattle.dg_handles.specs.Handles.{HandlesState, IsSweptWhole, IsTied, SlotHolds, TieIsKept, UnionOfHandles, graph_among, graphs_without, slot_graphs}
+use Rattle.dg_handles.specs.Handles.{HandlesState, IsGraphOn, IsSweptWhole, IsTied, SlotHolds, TieIsKept, UnionOfHandles, graph_among, graphs_without, slot_graphs}
 use Rattle.dg_machine.specs.declared.stands.Stands.{Stands}
-use Rattle.dg_machine.specs.declared.stands.Stands.TheVariants.{Overlay, Base, Selected}
-use Rattle.dg_machine.specs.MachineState.{stands_at, union_of_sets, without_handle}
+use Rattle.dg_machine.specs.MachineState.{overlay_on, stands_at, union_of_sets, without_handle}
 use Rattle.dg_pool.specs.Graphs.{PoolState, graph_now, slot_graph}
 use Rattle.dg_pool.specs.Sweeps.{cells_of}
 use Rattle.dg_retrieval.specs.NamesThere.{NamesAreThere}
@@ -25,9 +24,11 @@ use Rattle.dg_stored.specs.StoredHistory.{index_opening}
 
 -- no slot is live, and a handle has its own
 none_held : (h : HandlesState) (stands : Stands) → SlotHolds h stands None → ⊥
-none_held h (Overlay t cols on) held = held
-none_held h (Base node cols) held = held
-none_held h (Selected what cols) held = held
+none_held h stands held = by (overlay_on stands.what) held
+  where
+    by : (on : Option (Option ℕ)) → IsGraphOn h stands.cols on None → ⊥
+    by (Some on) graph = graph
+    by None graph = graph
 
 -- so no handle lives
 no_handles : (h : HandlesState) → IsTied bare h → (h.table ≡ []) × (h.slots ≡ [])

@@ -22,15 +22,16 @@ use Rattle.dg_index.proofs.RecentEvents.{replay_at_more}
 use Rattle.dg_index.proofs.HierarchyStability.{stable}
 use Rattle.dg_index.specs.Hierarchy.{leaves, set_of}
 use Rattle.dg_machine.specs.declared.stands.Stands.{Stands}
-use Rattle.dg_machine.specs.declared.stands.Stands.TheVariants.{Overlay, Base, Selected}
+use Rattle.dg_machine.specs.declared.stands.Shown.{Shown}
+use Rattle.dg_machine.specs.declared.stands.Shown.TheVariants.{Overlay, Base, Selected}
 use Rattle.dg_machine.specs.declared.selection.Selection.TheVariants.{Chosen, Added}
-use Rattle.dg_machine.specs.MachineState.{elements}
+use Rattle.dg_machine.specs.MachineState.{elements, elements_of}
 use Rattle.dg_machine.specs.Needs.{can_be_held, in_range_or_next, is_out_of_range}
 use Rattle.dg_batch.proofs.HeldIndexNodes.{held_more}
 use Rattle.dg_batch.proofs.LegalHistory.{events_with}
 use Rattle.dg_expr.specs.Expressions.{instants_of, words_of}
 use Rattle.dg_session.proofs.ChosenGraphs.{all_pass, chosen_same, none_fails, same_at_each}
-use Rattle.dg_session.specs.Session.{is_reached}
+use Rattle.dg_session.specs.Session.{is_reached, is_within}
 
 -- ---- instants
 
@@ -145,19 +146,19 @@ module _ (p : Params) (pos : 0 < p.l) (events more : List Event) where
 -- ---- handles
 
 module _ (z : History) (pos : 0 < z.params.l) (b : Batch) (rises : RisesFrom (earliest_next (span_of (events_of z))) b.events) where
-  pub elements_more : (s : Stands) → is_reached z s ≡ true → elements (with_batch z b) s ≡ elements z s
-  elements_more (Overlay t cols on) r =
+  elements_more : (cols : Columns) (what : Shown) → is_within z.params (events_of z) what ≡ true → elements_of z.params (events_of (with_batch z b)) cols what ≡ elements_of z.params (events_of z) cols what
+  elements_more cols (Overlay t on) r =
       ap (λ (es : List Event). shown_at es t cols) (events_with z b)
       ∙ shown_more (earliest_next (span_of (events_of z))) t cols (events_of z) b.events rises (before_next (events_of z) t r)
-  elements_more (Base node cols) r =
+  elements_more cols (Base node) r =
       ap (λ (es : List Event). shown (set_of z.params es node) cols) (events_with z b)
       ∙ ap (λ (es : List Element). shown es cols) (set_more z.params pos (events_of z) b.events node r)
-  elements_more (Selected (Added from until) cols) r =
+  elements_more cols (Selected (Added from until)) r =
       ap (λ (es : List Event). shown (added_between from until es) cols) (events_with z b)
       ∙ ap (λ (set : List Element). shown set cols)
       (added_more from until (earliest_next (span_of (events_of z))) (events_of z) b.events rises
       (up_to_next (events_of z) until (ends_inside (span_of (events_of z)) from until r).1))
-  elements_more (Selected (Chosen e) cols) r =
+  elements_more cols (Selected (Chosen e)) r =
       chosen_same (words_of e) (λ t. shown (replay_at (events_of (with_batch z b)) t) cols) (λ t. shown (replay_at (events_of z) t) cols)
       (same_at_each (in_range (span_of (events_of z))) (λ t. shown (replay_at (events_of (with_batch z b)) t) cols) (λ t. shown (replay_at (events_of z) t) cols) (instants_of (words_of e))
       (λ t within.
@@ -166,18 +167,18 @@ module _ (z : History) (pos : 0 < z.params.l) (b : Batch) (rises : RisesFrom (ea
       (replay_at_more (events_of z) b.events t (none_until (earliest_next (span_of (events_of z))) t b.events rises (before_next (events_of z) t within))))
       (all_pass (in_range (span_of (events_of z))) (instants_of (words_of e)) (not-true (list_any (λ t. not (in_range (span_of (events_of z)) t)) (instants_of (words_of e))) r)))
 
-  pub reached_more : (s : Stands) → is_reached z s ≡ true → is_reached (with_batch z b) s ≡ true
-  reached_more (Overlay t cols on) r = ap (λ (es : List Event). in_range (span_of es) t) (events_with z b) ∙ range_more (events_of z) b.events t rises r
-  reached_more (Base node cols) r =
+  reached_more : (what : Shown) → is_within z.params (events_of z) what ≡ true → is_within z.params (events_of (with_batch z b)) what ≡ true
+  reached_more (Overlay t on) r = ap (λ (es : List Event). in_range (span_of es) t) (events_with z b) ∙ range_more (events_of z) b.events t rises r
+  reached_more (Base node) r =
       ap (λ (es : List Event). can_be_held z.params (length es) node) (events_with z b)
       ∙ ap (λ n. can_be_held z.params n node) (length-append (events_of z) b.events)
       ∙ held_more z.params pos (length (events_of z)) (length b.events) node r
-  reached_more (Selected (Chosen e) cols) r =
+  reached_more (Selected (Chosen e)) r =
       ap not
       (none_fails (in_range (span_of (events_of z))) (in_range (span_of (events_of (with_batch z b)))) (instants_of (words_of e))
       (λ t within. ap (λ (es : List Event). in_range (span_of es) t) (events_with z b) ∙ range_more (events_of z) b.events t rises within)
       (not-true (list_any (λ t. not (in_range (span_of (events_of z)) t)) (instants_of (words_of e))) r))
-  reached_more (Selected (Added from until) cols) r =
+  reached_more (Selected (Added from until)) r =
       let inside = ends_inside (span_of (events_of z)) from until r in
       let begins : in_range (span_of (events_of (with_batch z b))) from ≡ true =
       ap (λ (es : List Event). in_range (span_of es) from) (events_with z b) ∙ range_more (events_of z) b.events from rises inside.0 in
@@ -190,11 +191,11 @@ module _ (z : History) (pos : 0 < z.params.l) (b : Batch) (rises : RisesFrom (ea
       → map (λ (e : ℕ × Stands). elements z e.1) table ≡ map (λ (e : ℕ × Stands). elements (with_batch z b) e.1) table
   graphs_more [] r = refl
   graphs_more (e ∷ table) r =
-      λ i. sym (elements_more e.1 (All-head (λ (e : ℕ × Stands). is_reached z e.1 ≡ true) e table r)) i
+      λ i. sym (elements_more e.1.cols e.1.what (All-head (λ (e : ℕ × Stands). is_reached z e.1 ≡ true) e table r)) i
       ∷ graphs_more table (All-tail (λ (e : ℕ × Stands). is_reached z e.1 ≡ true) e table r) i
 
   pub all_reached_more : (table : List (ℕ × Stands)) → All (λ (e : ℕ × Stands). is_reached z e.1 ≡ true) table → All (λ (e : ℕ × Stands). is_reached (with_batch z b) e.1 ≡ true) table
   all_reached_more [] r = All-nil (λ (e : ℕ × Stands). is_reached (with_batch z b) e.1 ≡ true)
   all_reached_more (e ∷ table) r =
-      All-cons (λ (e : ℕ × Stands). is_reached (with_batch z b) e.1 ≡ true) e table (reached_more e.1 (All-head (λ (e : ℕ × Stands). is_reached z e.1 ≡ true) e table r))
+      All-cons (λ (e : ℕ × Stands). is_reached (with_batch z b) e.1 ≡ true) e table (reached_more e.1.what (All-head (λ (e : ℕ × Stands). is_reached z e.1 ≡ true) e table r))
       (all_reached_more table (All-tail (λ (e : ℕ × Stands). is_reached z e.1 ≡ true) e table r))

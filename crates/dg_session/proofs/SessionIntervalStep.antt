@@ -20,7 +20,7 @@ use Rattle.dg_machine.specs.declared.reply.Head.TheVariants as head
 use Rattle.dg_machine.specs.declared.reply.Reply.{Reply}
 use Rattle.dg_machine.specs.declared.selection.Selection.TheVariants.{Added}
 use Rattle.dg_machine.specs.declared.stands.Stands.{Stands}
-use Rattle.dg_machine.specs.declared.stands.Stands.TheVariants.{Selected}
+use Rattle.dg_machine.specs.declared.stands.Shown.TheVariants.{Selected}
 use Rattle.dg_machine.specs.Answer.{accepted, headed, is_refusal, weight_told, with_handle}
 use Rattle.dg_machine.specs.MachineState.{MachineState, elements, history_in}
 use Rattle.dg_machine.specs.Needs.{is_out_of_range}
@@ -58,24 +58,24 @@ interval_free p from until none =
 -- ---- the answer
 
 module _ (p : Parts) (from until : ℕ) (cols : Columns) (free : refused_by p 0 (interval_needs from until) ≡ None) where
-  interval_reached : (image : List ℕ) (m : MachineState) → StandsFor p image m → is_reached (history_in m.index) (Selected (Added from until) cols) ≡ true
+  interval_reached : (image : List ℕ) (m : MachineState) → StandsFor p image m → is_reached (history_in m.index) (record { what = Selected (Added from until); cols = cols }) ≡ true
   interval_reached image m s =
       ap (λ (ends : Option (ℕ × ℕ)). not (is_out_of_range ends (from ∷ []) (Some until))) (ap span_of (events_there m.index) ∙ sym (instants_are p image m s))
       ∙ ap not (interval_free p from until free).1
 
   pub interval_answers : (q : Parts) (before after : Option (List ℕ)) (weight : ℕ) (set : List Element) (reply : Reply) → after ≡ before
       → ((image : List ℕ) (m : MachineState) → StandsFor p image m → weight ≡ added_length (history_in m.index) from until cols)
-      → IfSome before (λ image. (m : MachineState) → StandsFor p image m → set ≡ selected (history_in m.index) cols (Added from until))
-      → q ≡ with_new_handles p (Selected (Added from until) cols ∷ []) (shown set (with_messages cols) ∷ []) → reply ≡ headed (head.Added p.next weight)
+      → IfSome before (λ image. (m : MachineState) → StandsFor p image m → set ≡ selected (events_of (history_in m.index)) cols (Added from until))
+      → q ≡ with_new_handles p (record { what = Selected (Added from until); cols = cols } ∷ []) (shown set (with_messages cols) ∷ []) → reply ≡ headed (head.Added p.next weight)
       → Accepts (command.Select (Added from until) cols) [] p before q after reply
   interval_answers q before after weight set reply same weighs got is reply_is =
       let c : Command = command.Select (Added from until) cols in
-      let new : Stands = Selected (Added from until) cols in
+      let new : Stands = record { what = Selected (Added from until); cols = cols } in
       retrieval_accepted c p q before after (new ∷ []) (shown set (with_messages cols) ∷ []) reply
       (moved_with c p q before after reply free
       (λ m x y a b s.
       let z : History = history_in m.index in
-      let set_is : set ≡ selected z cols (Added from until) = one_told before (λ image. (k : MachineState) → StandsFor p image k → set ≡ selected (history_in k.index) cols (Added from until)) x got a m s in
+      let set_is : set ≡ selected (events_of z) cols (Added from until) = one_told before (λ image. (k : MachineState) → StandsFor p image k → set ≡ selected (events_of (history_in k.index)) cols (Added from until)) x got a m s in
       let listed : shown set (with_messages cols) ≡ elements z new =
       ap (λ (l : List Element). shown l (with_messages cols)) set_is ∙ shown_again cols (added_between from until (events_of z)) in
       let room = interval_free p from until free in
@@ -121,7 +121,7 @@ module _ (p : Parts) (o : Opening) (from until : ℕ) (cols : Columns) (there : 
   bytes_of_interval lists weight met along image m s = along ∙ ap (λ l. bytes_along o (asked_columns cols l)) (sym met) ∙ length_is image m s
 
   module _ (law : ImagesHaveAdded) (names : ℕ) (recent : List Event) (is : IsSession p o names recent) (before after : ℕ) where
-    found : (image : List ℕ) (m : MachineState) → StandsFor p image m → (set : List Element) → IsAddedIn names image o recent from until cols set → set ≡ selected (history_in m.index) cols (Added from until)
+    found : (image : List ℕ) (m : MachineState) → StandsFor p image m → (set : List Element) → IsAddedIn names image o recent from until cols set → set ≡ selected (events_of (history_in m.index)) cols (Added from until)
     found image m s set read =
         let z : History = z_of p o image m there s in
         let of : IsOf p o image m z = (is_of p o image m there s).1 in
@@ -129,7 +129,7 @@ module _ (p : Parts) (o : Opening) (from until : ℕ) (cols : Columns) (there : 
         (subst (λ n. IsAddedIn n image (opened_of z).index (recent_of z.params (events_of z)) from until cols set) (is.count ∙ ap length of.names)
         (subst (λ (x : Opening). IsAddedIn names image x (recent_of z.params (events_of z)) from until cols set) of.opened
         (subst (λ es. IsAddedIn names image o es from until cols set) (is.all ∙ of.recent) read)))
-        ∙ sym (ap (λ (i : Option History). selected (history_in i) cols (Added from until)) of.index)
+        ∙ sym (ap (λ (i : Option History). selected (events_of (history_in i)) cols (Added from until)) of.index)
 
     never : (image : List ℕ) (m : MachineState) → StandsFor p image m → (f : RecordFault) → IsFirstDamage names image o (range_columns o from until cols) f → IsNoDamage f
     never image m s f first =
@@ -170,7 +170,7 @@ module _ (p : Parts) (from until : ℕ) (cols : Columns) (told : Option (List �
   abbrev pub ForInterval : Result (List Element) RecordFault → Type 0
   ForInterval r = IfSome told (λ image. (m : MachineState) → StandsFor p image m → AddsFor m from until cols before after r)
 
-  pub interval_set_of : (set : List Element) → ForInterval (Ok set) → IfSome told (λ image. (m : MachineState) → StandsFor p image m → set ≡ selected (history_in m.index) cols (Added from until))
+  pub interval_set_of : (set : List Element) → ForInterval (Ok set) → IfSome told (λ image. (m : MachineState) → StandsFor p image m → set ≡ selected (events_of (history_in m.index)) cols (Added from until))
   interval_set_of set over = if_some told (λ image. (m : MachineState) → StandsFor p image m → AddsFor m from until cols before after (Ok set)) _ (λ image f m s. (f m s).added) over
 
   pub interval_taken_of : (set : List Element) (weight : ℕ) → ((image : List ℕ) (m : MachineState) → StandsFor p image m → weight ≡ added_length (history_in m.index) from until cols)

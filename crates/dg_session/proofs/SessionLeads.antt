@@ -17,7 +17,7 @@ use Rattle.dg_history.specs.History.{History}
 use Rattle.dg_index.specs.HeardLists.{heard_length}
 use Rattle.dg_index.specs.OpenedIndex.{Opening, event_total}
 use Rattle.dg_machine.specs.declared.stands.Stands.{Stands}
-use Rattle.dg_machine.specs.declared.stands.Stands.TheVariants.{Overlay}
+use Rattle.dg_machine.specs.declared.stands.Shown.TheVariants.{Overlay}
 use Rattle.dg_machine.specs.Answer.{heard_for, with_heard}
 use Rattle.dg_machine.specs.MachineState.{MachineState, elements, history_in}
 use Rattle.dg_machine.specs.Planning.{bases_in, edges_in, points_for}
@@ -79,7 +79,7 @@ module _ (law : HeardBytesAreTheHistorys) (p : Parts) (o : Opening) (image : Lis
       → shown_with_messages (z_of p o image m there s) times cols ≡ map (elements (z_of p o image m there s)) (overlays_on cols times bases)
   mapped [] bases cols many = refl
   mapped (t ∷ times) [] cols many = absurd (omega arith)
-  mapped (t ∷ times) (b ∷ bases) cols many = λ i. elements (z_of p o image m there s) (Overlay t cols b) ∷ mapped times bases cols (omega arith) i
+  mapped (t ∷ times) (b ∷ bases) cols many = λ i. elements (z_of p o image m there s) (record { what = Overlay t b; cols = cols }) ∷ mapped times bases cols (omega arith) i
 
   -- the graphs as of the instants with their messages are those that new handles list
   listed : (times : List ℕ) (bases : List (Option ℕ)) (cols : Columns) → length bases ≡ length times

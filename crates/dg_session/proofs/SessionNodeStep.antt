@@ -14,7 +14,7 @@ use Rattle.dg_machine.specs.declared.limits.TheConstants.{HANDLE_MAX, LIVE_HANDL
 use Rattle.dg_machine.specs.declared.reply.Head.TheVariants as head
 use Rattle.dg_machine.specs.declared.reply.Reply.{Reply}
 use Rattle.dg_machine.specs.declared.stands.Stands.{Stands}
-use Rattle.dg_machine.specs.declared.stands.Stands.TheVariants.{Base}
+use Rattle.dg_machine.specs.declared.stands.Shown.TheVariants.{Base}
 use Rattle.dg_machine.specs.Answer.{accepted, headed, is_refusal, weight_told, with_handle}
 use Rattle.dg_machine.specs.MachineState.{MachineState, elements, history_in}
 use Rattle.dg_machine.specs.Needs.{can_be_held}
@@ -59,7 +59,7 @@ found_free p node none =
 
 -- a node that the index has is one of the history
 node_reached : (p : Parts) (image : List ℕ) (m : MachineState) (node : NodeId) (cols : Columns) → StandsFor p image m → has_node_held p.index node ≡ true
-    → is_reached (history_in m.index) (Base node cols) ≡ true
+    → is_reached (history_in m.index) (record { what = Base node; cols = cols }) ≡ true
 node_reached p image m node cols s has =
     ap (λ es. can_be_held (history_in m.index).params (length es) node) (events_there m.index)
     ∙ (λ i. can_be_held (sym (params_are p image m s) i) (sym (events_are p image m s) i) node) ∙ has
@@ -67,22 +67,22 @@ node_reached p image m node cols s has =
 pub node_answers : (p q : Parts) (node : NodeId) (cols : Columns) (before after : Option (List ℕ)) (weight : ℕ) (graph : List Element) (reply : Reply)
     → refused_by p 0 (node_needs node) ≡ None → after ≡ before
     → IfSome before (λ image. (m : MachineState) → StandsFor p image m → IsNodeHeld m node cols weight graph)
-    → q ≡ with_new_handles p (Base node cols ∷ []) (graph ∷ []) → reply ≡ headed (head.Materialised p.next weight)
+    → q ≡ with_new_handles p (record { what = Base node; cols = cols } ∷ []) (graph ∷ []) → reply ≡ headed (head.Materialised p.next weight)
     → Accepts (command.Materialise node cols) [] p before q after reply
 node_answers p q node cols before after weight graph reply none same got is reply_is =
-    retrieval_accepted (command.Materialise node cols) p q before after (Base node cols ∷ []) (graph ∷ []) reply
+    retrieval_accepted (command.Materialise node cols) p q before after (record { what = Base node; cols = cols } ∷ []) (graph ∷ []) reply
     (moved_with (command.Materialise node cols) p q before after reply none
     (λ m x y a b s.
     let r = one_told before (λ image. (k : MachineState) → StandsFor p image k → IsNodeHeld k node cols weight graph) x got a m s in
     let free = found_free p node none in
     let reaches : Stands → Type 0 = λ e. is_reached (history_in m.index) e ≡ true in (
       record no_plan { steps = r.plan.0 },
-      with_handle m (Base node cols),
+      with_handle m (record { what = Base node; cols = cols }),
       r.plan.1,
-      (λ i. record { reply = (ap (λ n. headed (head.Materialised n (weight_of (arcs_of (record_edges_in m cols)) r.plan.0))) (sym s.next) ∙ ap (λ w. headed (head.Materialised p.next w)) (sym r.plan.2) ∙ sym reply_is) i; state = with_handle m (Base node cols) }),
-      handles_taken p q y m (Base node cols ∷ []) (subst (λ image. StandsFor p image m) (one_image before after x y same a b) s) free.0
-          (All-cons reaches (Base node cols) [] (node_reached p x m node cols s free.1) (All-nil reaches))
-          (is ∙ ap (λ g. with_new_handles p (Base node cols ∷ []) (g ∷ [])) r.listed),
+      (λ i. record { reply = (ap (λ n. headed (head.Materialised n (weight_of (arcs_of (record_edges_in m cols)) r.plan.0))) (sym s.next) ∙ ap (λ w. headed (head.Materialised p.next w)) (sym r.plan.2) ∙ sym reply_is) i; state = with_handle m (record { what = Base node; cols = cols }) }),
+      handles_taken p q y m (record { what = Base node; cols = cols } ∷ []) (subst (λ image. StandsFor p image m) (one_image before after x y same a b) s) free.0
+          (All-cons reaches (record { what = Base node; cols = cols }) [] (node_reached p x m node cols s free.1) (All-nil reaches))
+          (is ∙ ap (λ g. with_new_handles p (record { what = Base node; cols = cols } ∷ []) (g ∷ [])) r.listed),
     )))
     (ap is_refusal reply_is) none (subst (Fits (command.Materialise node cols)) (sym reply_is) tt) same is (head_names (length q.names) (head.Materialised p.next weight) reply reply_is)
 
@@ -151,7 +151,7 @@ module _ (p : Parts) (o : Opening) (node : NodeId) (cols : Columns) (told : Opti
       held_over (Ok x) image m s done led = record {
         plan = subst (λ (es : List Edge). LedBy x.weight es) (records_edges_in p o image m there s cols) done.plan;
         listed = led_with_messages (z_of p o image m there s) image o names cols node x.delta (over_index image m s) led
-            ∙ sym (ap (λ (i : Option History). elements (history_in i) (Base node cols)) (is_of p o image m there s).1.index);
+            ∙ sym (ap (λ (i : Option History). elements (history_in i) (record { what = Base node; cols = cols })) (is_of p o image m there s).1.index);
       }
 
   -- the names that the delta puts in are among those of the session

@@ -1,6 +1,6 @@
 -- The answer to a release.
 use Rattle.std.proofs.Common.{◌≡◌, ℕ, Bool, true, false, ◌==◌, List, [], ◌∷◌, ◌++◌, Option, Some, None, if◌then◌else◌, map, length, refl, sym, ◌∙◌, ap, subst}
-use Rattle.std.specs.Prelude.{IfSome}
+use Rattle.std.specs.Prelude.{IfSome, is_some}
 use Rattle.std.specs.List.{All}
 use Rattle.std.proofs.lemmas.Bool.{false≢true}
 use Rattle.std.proofs.lemmas.List.Elements.{All-cons, All-head, All-nil, All-same, All-tail}
@@ -13,12 +13,11 @@ use Rattle.dg_machine.specs.declared.command.Command.TheVariants as command
 use Rattle.dg_machine.specs.declared.reply.Head.TheVariants as head
 use Rattle.dg_machine.specs.declared.reply.Reply.{Reply}
 use Rattle.dg_machine.specs.declared.stands.Stands.{Stands}
-use Rattle.dg_machine.specs.declared.stands.Stands.TheVariants.{Overlay, Base, Selected}
 use Rattle.dg_machine.specs.Answer.{Answered, headed, is_refusal}
-use Rattle.dg_machine.specs.MachineState.{MachineState, elements, stands_at, history_in, without_handle}
+use Rattle.dg_machine.specs.MachineState.{MachineState, base_node, elements, stands_at, history_in, without_handle}
 use Rattle.dg_index.specs.OpenedIndex.{Opening}
 use Rattle.dg_machine.specs.Needs.{needs}
-use Rattle.dg_machine.specs.Planning.{bases_in, usable}
+use Rattle.dg_machine.specs.Planning.{base_if, bases_in, includes, usable}
 use Rattle.dg_planner.specs.Whole.{PlannerGraph}
 use Rattle.dg_ask.specs.KeptPlanner.{IsGraphOver, IsKeptFor}
 use Rattle.dg_ask.proofs.HeldIndexHandles.{kept_same}
@@ -41,10 +40,12 @@ all_without P handle (e ∷ table) h = by (e.0 == handle) (all_without P handle 
 
 -- ---- the planners that are kept
 
-none_usable : (cols : Columns) (e : ℕ × Stands) → is_of_node e.1 ≡ false → usable cols e ≡ []
-none_usable cols (handle, Overlay t others on) overlay = refl
-none_usable cols (handle, Base node all) overlay = absurd (false≢true (sym overlay))
-none_usable cols (handle, Selected what others) overlay = refl
+pub none_usable : (cols : Columns) (e : ℕ × Stands) → is_of_node e.1 ≡ false → usable cols e ≡ []
+none_usable cols e overlay = by (base_node e.1.what) overlay
+  where
+    by : (o : Option NodeId) → is_some o ≡ false → base_if (includes e.1.cols cols) e.0 o ≡ []
+    by None none = refl
+    by (Some node) none = absurd (false≢true (sym none))
 
 -- without a handle of no node the same handles can serve
 bases_without : (cols : Columns) (handle : ℕ) (table : List (ℕ × Stands)) (s : Stands) → stands_at handle table ≡ Some s → is_of_node s ≡ false

@@ -23,7 +23,7 @@ use Rattle.dg_machine.specs.declared.reply.Refusal.TheVariants as refusal
 use Rattle.dg_machine.specs.declared.reply.Reply.{Reply}
 use Rattle.dg_machine.specs.declared.reply.Reply.TheVariants as replied
 use Rattle.dg_machine.specs.declared.stands.Stands.{Stands}
-use Rattle.dg_machine.specs.declared.stands.Stands.TheVariants.{Overlay}
+use Rattle.dg_machine.specs.declared.stands.Shown.TheVariants.{Overlay}
 use Rattle.dg_machine.specs.Answer.{Answered, IsPlannedBy, accepted, is_refusal, overlays, weight_told, with_handle, with_handles}
 use Rattle.dg_machine.specs.MachineState.{MachineState, elements, history_in}
 use Rattle.dg_machine.specs.Needs.{needs, refused}
@@ -183,7 +183,7 @@ pub instants_reached : (p : Parts) (image : List ℕ) (m : MachineState) (times 
 instants_reached p image m [] bases cols s h = All-nil (λ (x : Stands). is_reached (history_in m.index) x ≡ true)
 instants_reached p image m (t ∷ times) [] cols s h = All-nil (λ (x : Stands). is_reached (history_in m.index) x ≡ true)
 instants_reached p image m (t ∷ times) (b ∷ bases) cols s h =
-    All-cons (λ (x : Stands). is_reached (history_in m.index) x ≡ true) (Overlay t cols b) (overlays_on cols times bases)
+    All-cons (λ (x : Stands). is_reached (history_in m.index) x ≡ true) (record { what = Overlay t b; cols = cols }) (overlays_on cols times bases)
     (ap (λ (es : List Event). in_range (span_of es) t) (events_there m.index) ∙ ap (λ (ends : Option (ℕ × ℕ)). in_range ends t) (sym (instants_are p image m s))
     ∙ not-false (in_range (span_held p.index) t) (or_left (is_out (span_held p.index) t) (list_any (is_out (span_held p.index)) times) h))
     (instants_reached p image m times bases cols s (or_right (is_out (span_held p.index) t) (list_any (is_out (span_held p.index)) times) h))
@@ -192,7 +192,7 @@ instants_reached p image m (t ∷ times) (b ∷ bases) cols s h =
 pub overlays_same : (cols : Columns) (point : ℕ → NodeId) (base : NodeId → Option ℕ) (times : List ℕ)
     → overlays_on cols times (map base (map point times)) ≡ overlays cols (λ t. base (point t)) times
 overlays_same cols point base [] = refl
-overlays_same cols point base (t ∷ times) = λ i. Overlay t cols (base (point t)) ∷ overlays_same cols point base times i
+overlays_same cols point base (t ∷ times) = λ i. record { what = Overlay t (base (point t)); cols = cols } ∷ overlays_same cols point base times i
 
 -- the state that the session stands for with the new handles
 pub handles_stand : (p q : Parts) (x y : List ℕ) (m : MachineState) (times : List ℕ) (cols : Columns) (weight : ℕ) (singles : List ℕ) (bases : List (Option ℕ)) (graphs : List (List Element))

@@ -31,7 +31,7 @@ use Rattle.dg_machine.specs.declared.reply.Reply.{Reply}
 use Rattle.dg_machine.specs.declared.selection.Selection.{Selection}
 use Rattle.dg_machine.specs.declared.selection.Selection.TheVariants.{Chosen}
 use Rattle.dg_machine.specs.declared.stands.Stands.{Stands}
-use Rattle.dg_machine.specs.declared.stands.Stands.TheVariants.{Overlay, Base, Selected}
+use Rattle.dg_machine.specs.declared.stands.Shown.TheVariants.{Overlay, Selected}
 use Rattle.dg_machine.specs.Answer.{accepted, headed, is_refusal, weight_told, with_handle}
 use Rattle.dg_machine.specs.MachineState.{MachineState, elements, history_in}
 use Rattle.dg_machine.specs.Planning.{IsPlanned, Planned, bases_in, edges_in, ground_in, no_plan, points_for, usable}
@@ -54,9 +54,7 @@ use Rattle.dg_text.specs.Lines.{ScriptLine}
 -- ---- plans without messages
 
 usable_same : (cols : Columns) (e : ℕ × Stands) → usable (graph_columns cols) e ≡ usable cols e
-usable_same cols (handle, Overlay t others on) = refl
-usable_same cols (handle, Base node all) = refl
-usable_same cols (handle, Selected what others) = refl
+usable_same cols e = refl
 
 bases_same : (cols : Columns) (table : List (ℕ × Stands)) → bases_in (graph_columns cols) table ≡ bases_in cols table
 bases_same cols [] = refl
@@ -78,12 +76,12 @@ pub graphs_listed : (z : History) (cols : Columns) (times : List ℕ) (bases : L
 graphs_listed z cols [] bases many = refl
 graphs_listed z cols (t ∷ times) [] many = absurd (omega (arith, many))
 graphs_listed z cols (t ∷ times) (b ∷ bases) many =
-    let one : elements z (Overlay t (graph_columns cols) b) ≡ graph_in z cols t = append-nil (shown (replay_at (events_of z) t) (graph_columns cols)) ∙ shown_without (events_of z) t cols in
+    let one : elements z (record { what = Overlay t b; cols = graph_columns cols }) ≡ graph_in z cols t = append-nil (shown (replay_at (events_of z) t) (graph_columns cols)) ∙ shown_without (events_of z) t cols in
     λ i. one i ∷ graphs_listed z cols times bases (omega (arith, many)) i
 
 -- all of what is chosen is shown in the slot, which has the messages with its columns
 pub chosen_again : ChosenAreShown → (z : History) (e : Expr) (cols : Columns)
-    → shown (chosen (words_of e) (graph_in z cols)) (with_messages cols) ≡ elements z (Selected (Chosen e) cols)
+    → shown (chosen (words_of e) (graph_in z cols)) (with_messages cols) ≡ elements z (record { what = Selected (Chosen e); cols = cols })
 chosen_again law z e cols =
     law (words_of e) (graph_in z cols) (with_messages cols)
     (λ t. IsSet-filter (λ x. asks cols (column_of x)) (replay_at (events_of z) t) (IsSet-replay_from (events_until (events_of z) t) [] tt))
@@ -93,7 +91,7 @@ chosen_again law z e cols =
 
 -- the instants are in the history
 chosen_reached : (p : Parts) (image : List ℕ) (m : MachineState) (e : Expr) (cols : Columns) → StandsFor p image m → list_any (is_out (span_held p.index)) (instants_of (words_of e)) ≡ false
-    → is_reached (history_in m.index) (Selected (Chosen e) cols) ≡ true
+    → is_reached (history_in m.index) (record { what = Selected (Chosen e); cols = cols }) ≡ true
 chosen_reached p image m e cols s inside =
     ap (λ (ends : Option (ℕ × ℕ)). not (list_any (is_out ends) (instants_of (words_of e)))) (ap span_of (events_there m.index) ∙ sym (instants_are p image m s)) ∙ ap not inside
 
@@ -101,11 +99,11 @@ module _ (law : ChosenAreShown) (p : Parts) (e : Expr) (cols : Columns) (free : 
   pub chosen_answers : (q : Parts) (before after : Option (List ℕ)) (weight : ℕ) (singles : List ℕ) (bases : List (Option ℕ)) (graphs : List (List Element)) (set : List Element) (reply : Reply) → after ≡ before
       → IfSome before (λ image. (m : MachineState) → StandsFor p image m → IsRetrieved m (instants_of (words_of e)) (graph_columns cols) weight singles bases graphs)
       → length bases ≡ length (instants_of (words_of e)) → ((graph : ℕ → List Element) → graphs ≡ map graph (instants_of (words_of e)) → set ≡ chosen (words_of e) graph)
-      → q ≡ with_new_handles p (Selected (Chosen e) cols ∷ []) (shown set (with_messages cols) ∷ []) → reply ≡ headed (head.Chosen p.next weight)
+      → q ≡ with_new_handles p (record { what = Selected (Chosen e); cols = cols } ∷ []) (shown set (with_messages cols) ∷ []) → reply ≡ headed (head.Chosen p.next weight)
       → Accepts (command.Select (Chosen e) cols) [] p before q after reply
   chosen_answers q before after weight singles bases graphs set reply same got many is_chosen is reply_is =
       let c : Command = command.Select (Chosen e) cols in
-      let new : Stands = Selected (Chosen e) cols in
+      let new : Stands = record { what = Selected (Chosen e); cols = cols } in
       retrieval_accepted c p q before after (new ∷ []) (shown set (with_messages cols) ∷ []) reply
       (moved_with c p q before after reply free
       (λ m x y a b s.
@@ -147,13 +145,13 @@ module _ (law : ChosenAreShown) (p : Parts) (e : Expr) (cols : Columns) (free : 
 
 -- ---- the planners that are kept
 
-bases_with : (asked : Columns) (table : List (ℕ × Stands)) (next : ℕ) (what : Selection) (cols : Columns) → bases_in asked (table ++ (next, Selected what cols) ∷ []) ≡ bases_in asked table
+bases_with : (asked : Columns) (table : List (ℕ × Stands)) (next : ℕ) (what : Selection) (cols : Columns) → bases_in asked (table ++ (next, record { what = Selected what; cols = cols }) ∷ []) ≡ bases_in asked table
 bases_with asked [] next what cols = refl
 bases_with asked (e ∷ table) next what cols = ap (λ (l : List (ℕ × NodeId)). usable asked e ++ l) (bases_with asked table next what cols)
 
 -- no plan begins with what is selected
 pub selected_kept : {A E : Type 0} (r : Result A E) (index : Option Opening) (old new : HandlesState) (kept : List (Columns × PlannerGraph)) (what : Selection) (cols : Columns)
-    → OnOk r (new.table ≡ old.table ++ (old.next, Selected what cols) ∷ []) → OnErr r (new ≡ old) → IsKeptFor index old.table kept → IsKeptFor index new.table kept
+    → OnOk r (new.table ≡ old.table ++ (old.next, record { what = Selected what; cols = cols }) ∷ []) → OnErr r (new ≡ old) → IsKeptFor index old.table kept → IsKeptFor index new.table kept
 selected_kept (Ok x) index old new kept what cols added same h =
     kept_same index old.table new.table kept (λ asked. ap (bases_in asked) added ∙ bases_with asked old.table old.next what cols) h
 selected_kept (Err e) index old new kept what cols added same h = subst (λ (s : HandlesState). IsKeptFor index s.table kept) (sym same) h

@@ -27,7 +27,6 @@ use Rattle.dg_machine.specs.declared.reply.Refusal.TheVariants as refusal
 use Rattle.dg_machine.specs.declared.reply.Reply.{Reply}
 use Rattle.dg_machine.specs.declared.reply.Reply.TheVariants as replied
 use Rattle.dg_machine.specs.declared.stands.Stands.{Stands}
-use Rattle.dg_machine.specs.declared.stands.Stands.TheVariants.{Overlay, Base, Selected}
 use Rattle.dg_machine.specs.declared.selection.Selection.TheVariants.{Chosen, Added}
 use Rattle.dg_machine.specs.Answer.{Answered, answer, headed, is_refusal, refuse, upgrading}
 use Rattle.dg_machine.specs.CutImage.{IsAcceptedWrite, IsCut, As_before, As_after}
@@ -88,15 +87,10 @@ first_form form.Two e = absurd (false≢true (sym e))
 
 -- what handles stand for is as it was
 elements_stay : (z : History) (s : Stands) → elements z s ≡ elements (with_upgrade z) s
-elements_stay z (Overlay t cols on) = refl
-elements_stay z (Base node cols) = refl
-elements_stay z (Selected (Chosen e) cols) = refl
-elements_stay z (Selected (Added from until) cols) = refl
+elements_stay z s = refl
 
 reached_stays : (z : History) (s : Stands) → is_reached z s ≡ true → is_reached (with_upgrade z) s ≡ true
-reached_stays z (Overlay t cols on) r = r
-reached_stays z (Base node cols) r = r
-reached_stays z (Selected what cols) r = r
+reached_stays z s r = r
 
 -- the bytes that the marker needs are those of the upgraded file
 size_is : (z : History) → z.form ≡ form.One → needed_for_marker (opening_of z) ≡ size (with_upgrade z)

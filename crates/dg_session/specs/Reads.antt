@@ -18,7 +18,7 @@ use Rattle.dg_machine.specs.declared.command.Command.TheVariants as command
 use Rattle.dg_machine.specs.declared.reply.Reply.{Reply}
 use Rattle.dg_machine.specs.declared.reply.Reply.TheVariants as replied
 use Rattle.dg_machine.specs.declared.stands.Stands.{Stands}
-use Rattle.dg_machine.specs.declared.stands.Stands.TheVariants.{Base}
+use Rattle.dg_machine.specs.declared.stands.Shown.TheVariants.{Base}
 use Rattle.dg_machine.specs.Answer.{IsPlannedBy, answer, heard_for, is_refusal, weight_told, with_heard}
 use Rattle.dg_machine.specs.declared.selection.Selection.TheVariants.{Added}
 use Rattle.dg_machine.specs.MachineState.{MachineState, elements, history_in}
@@ -78,7 +78,7 @@ pub record IsRetrieved (m : MachineState) (times : List ℕ) (cols : Columns) (w
 -- weighs so much.
 pub record IsNodeHeld (m : MachineState) (node : NodeId) (cols : Columns) (weight : ℕ) (graph : List Element) : Type 0 where
   pub plan : (steps : List ℕ) × IsPlan (arcs_of (record_edges_in m cols)) (Root ∷ []) node steps × (weight ≡ weight_of (arcs_of (record_edges_in m cols)) steps)
-  pub listed : graph ≡ elements (history_in m.index) (Base node cols)
+  pub listed : graph ≡ elements (history_in m.index) (record { what = Base node; cols = cols })
 
 -- the bytes read are at most what the tree of the instants weighs, with the messages that are asked for
 abbrev pub TakesAtMostRetrieval : MachineState → List ℕ → Columns → ℕ → ℕ → Type 0
@@ -120,7 +120,7 @@ pub record IndexesFor (m : MachineState) (key : ℕ) (before after : ℕ) (r : R
 -- add, with their messages, in these columns; as many bytes are read as the asked columns of the lists that are met have,
 -- never more, and no damage is met.
 pub record AddsFor (m : MachineState) (from until : ℕ) (cols : Columns) (before after : ℕ) (r : Result (List Element) RecordFault) : Type 0 where
-  pub added : IfOk r (λ set. set ≡ selected (history_in m.index) cols (Added from until))
+  pub added : IfOk r (λ set. set ≡ selected (events_of (history_in m.index)) cols (Added from until))
   pub takes : IfOk r (λ set. Takes (added_length (history_in m.index) from until cols) before after)
   pub most : TakesAtMost (added_length (history_in m.index) from until cols) before after
   pub never : IfErr r IsNoDamage

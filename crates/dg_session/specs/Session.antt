@@ -7,6 +7,8 @@ use Rattle.dg_text.specs.declared.limits.TheConstants.{NAMES_MAX}
 use Rattle.dg_text.specs.Lines.{ScriptLine}
 use Rattle.dg_history.specs.declared.node.Key.{Key}
 use Rattle.dg_history.specs.declared.node.NodeId.{NodeId}
+use Rattle.dg_history.specs.declared.params.Params.{Params}
+use Rattle.dg_graph.specs.declared.event.Event.{Event}
 use Rattle.dg_history.specs.History.{History, events_of, span_of, in_range, is_wide}
 use Rattle.dg_index.specs.ImageOfHistory.{StandsAs}
 use Rattle.dg_index.specs.OpenedIndex.{Opening}
@@ -16,10 +18,11 @@ use Rattle.dg_machine.specs.declared.reply.Refusal.TheVariants as refusal
 use Rattle.dg_machine.specs.declared.reply.Reply.{Reply}
 use Rattle.dg_machine.specs.declared.reply.Reply.TheVariants as replied
 use Rattle.dg_machine.specs.declared.stands.Stands.{Stands}
-use Rattle.dg_machine.specs.declared.stands.Stands.TheVariants.{Overlay, Base, Selected}
+use Rattle.dg_machine.specs.declared.stands.Shown.{Shown}
+use Rattle.dg_machine.specs.declared.stands.Shown.TheVariants.{Overlay, Base, Selected}
 use Rattle.dg_machine.specs.Answer.{is_refusal, refusal_of}
 use Rattle.dg_machine.specs.CutImage.{IsCut}
-use Rattle.dg_machine.specs.MachineState.{MachineState, graphs_of, history_in}
+use Rattle.dg_machine.specs.MachineState.{MachineState, base_node, graphs_of, history_in}
 use Rattle.dg_machine.specs.Needs.{Needs, Seen, can_be_held, earliest, end_asked, instants_asked, is_followed, is_out_of_range, is_writing, needs, nothing_more, refusals_seen}
 use Rattle.dg_machine.specs.Run.{Step, is_failed_read}
 use Rattle.dg_machine.specs.Script.{Asked}
@@ -39,16 +42,18 @@ use Rattle.dg_stored.specs.StoredHistory.{IsHeldBy, KeepsHistory}
 
 -- the handle stands for a node of the index, with which plans may begin
 abbrev pub is_of_node : Stands → Bool
-is_of_node (Overlay t cols on) = false
-is_of_node (Base node cols) = true
-is_of_node (Selected what cols) = false
+is_of_node stands = is_some (base_node stands.what)
 
--- The instants of what a handle stands for are in the history, and what it ends before is there or next, or its index has
--- the node, so that no later event changes it.
+-- The instants of what is shown are among those of the events, and what it ends before is there or next, or the index of the
+-- events has the node, so that no later event changes it.
+abbrev pub is_within : Params → List Event → Shown → Bool
+is_within p events (Overlay t on) = in_range (span_of events) t
+is_within p events (Base node) = can_be_held p (length events) node
+is_within p events (Selected what) = not (is_out_of_range (span_of events) (instants_asked what) (end_asked what))
+
+-- the history reaches what the handle stands for
 abbrev pub is_reached : History → Stands → Bool
-is_reached z (Overlay t cols on) = in_range (span_of (events_of z)) t
-is_reached z (Base node cols) = can_be_held z.params (length (events_of z)) node
-is_reached z (Selected what cols) = not (is_out_of_range (span_of (events_of z)) (instants_asked what) (end_asked what))
+is_reached z stands = is_within z.params (events_of z) stands.what
 
 -- the session stands for this state of the machine, over the image
 pub record StandsFor (session : Parts) (image : List ℕ) (m : MachineState) : Type 0 where

@@ -7,7 +7,7 @@ ghost use Rattle.dg_graph.specs.Elements.{shown};
 ghost use Rattle.dg_handles.specs.Handles.{with_messages};
 ghost use Rattle.dg_machine.specs.declared.limits.TheConstants.{HANDLE_MAX, LIVE_HANDLES_MAX};
 ghost use Rattle.dg_machine.specs.Answer.{headed};
-ghost use Rattle.dg_machine.specs.declared.stands.Stands.TheVariants as Stands;
+ghost use Rattle.dg_machine.specs.declared.stands.Shown.TheVariants as kind;
 ghost use Rattle.dg_machine.specs.MachineState.{MachineState};
 ghost use Rattle.dg_retrieval.specs.NamesThere.{NamesAreThere};
 ghost use Rattle.dg_session.specs.Calls.{ReadsFile};
@@ -24,7 +24,7 @@ use dg_delta::Delta;
 use dg_disk::Disk;
 use dg_graph::Columns;
 use dg_history::NodeId;
-use dg_machine::{Command, Head, Refusal, Reply, Stands};
+use dg_machine::{Command, Head, Refusal, Reply, Shown, Stands};
 use dg_records::RecordFault;
 use dg_retrieval::NodeLead;
 use std::alloc::AllocError;
@@ -79,7 +79,7 @@ impl Session {
     ) -> Result<(), AllocError>
         requires free { refused_by self.old.parts 0 (node_needs node) ≡ None }
         requires named { NamesAreThere (length self.old.parts.names) delta.now.plus }
-        ensures added { OnOk result (self.new.parts ≡ with_new_handles self.old.parts (Stands.Base node cols ∷ []) (shown (applied delta.now []) (with_messages cols) ∷ [])) }
+        ensures added { OnOk result (self.new.parts ≡ with_new_handles self.old.parts (record { what = kind.Base node; cols = cols } ∷ []) (shown (applied delta.now []) (with_messages cols) ∷ [])) }
         ensures err { OnErr result (self.new.parts ≡ self.old.parts) }
     {
         self.overlay()?;
@@ -87,9 +87,14 @@ impl Session {
         let Some(pool) = &mut self.held.live.pool else {
             unreachable!()
         };
-        self.held
-            .handles
-            .add_set(pool, Stands::Base { node, cols }, delta)
+        self.held.handles.add_set(
+            pool,
+            Stands {
+                what: Shown::Base(node),
+                cols,
+            },
+            delta,
+        )
     }
 
     // A new handle that holds the set of a leaf or an interior node in these columns.

@@ -6,7 +6,6 @@ ghost use Rattle.dg_batch.specs.Held.{IsHeld, graphs_held};
 ghost use Rattle.dg_graph.specs.declared.element.Element.{Element};
 ghost use Rattle.dg_handles.specs.Handles.{IsSweptWhole, IsTied, graphs_without, slot_graphs};
 ghost use Rattle.dg_machine.specs.Answer.{headed};
-ghost use Rattle.dg_machine.specs.declared.stands.Stands.TheVariants as Stands;
 ghost use Rattle.dg_machine.specs.MachineState.{dependent_on, union_of_sets, without_handle};
 ghost use Rattle.dg_pool.specs.Sweeps.{cells_of};
 ghost use Rattle.dg_session.specs.Session.{ComesTo, is_of_node};
@@ -19,7 +18,7 @@ use dg_append::Live;
 use dg_ask::KeptPlanner;
 use dg_batch::{Halt, Held, Stop};
 use dg_handles::{Handles, law_tie_is_kept, law_union_of_handles};
-use dg_machine::{Command, Head, Reply, Stands};
+use dg_machine::{Command, Head, Reply, Shown, Stands};
 use dg_pool::Pool;
 use std::boxed::Box;
 
@@ -84,7 +83,7 @@ fn forget_base(planner: &mut KeptPlanner, stands: Stands)
     ensures base { is_of_node stands ≡ true → planner.new ≡ [] }
     ensures other { is_of_node stands ≡ false → planner.new ≡ planner.old }
 {
-    if matches!(stands, Stands::Base { .. }) {
+    if matches!(stands.what, Shown::Base(_)) {
         planner.forget();
     }
 }

@@ -4,7 +4,6 @@ ghost use Rattle.std.specs.Prelude.{◌≡◌, ℕ, List, [], Option, None, Some
 ghost use Rattle.dg_append.specs.Overlays.{pool_of};
 ghost use Rattle.dg_handles.specs.Handles.{IsTied, graph_among, slot_graphs};
 ghost use Rattle.dg_machine.specs.Answer.{columns_if};
-ghost use Rattle.dg_machine.specs.declared.stands.Stands.TheVariants as Stands;
 ghost use Rattle.dg_machine.specs.MachineState.{stands_at};
 ghost use Rattle.dg_session.specs.Session.{ComesTo};
 ghost use Rattle.dg_batch.specs.declared.stop.Stop.TheVariants as stop;
@@ -13,9 +12,8 @@ use super::Session;
 use crate::needs::Needs;
 use dg_ask::{AskedGraph, answer, is_of_nodes};
 use dg_batch::{Halt, Stop};
-use dg_graph::Columns;
 use dg_handles::Handles;
-use dg_machine::{Command, Query, Reply, Stands};
+use dg_machine::{Command, Query, Reply};
 use dg_pool::Pool;
 use dg_view::View;
 use std::boxed::Box;
@@ -56,17 +54,7 @@ fn asked_graph<'a>(handles: &Handles, pool: &'a Option<Box<Pool>>, handle: u32) 
     AskedGraph {
         handle,
         graph,
-        cols: columns_of(stands),
-    }
-}
-
-// The columns of what a live handle stands for.
-fn columns_of(stands: Stands) -> Columns
-    ensures { result ≡ columns_if (Some stands) }
-{
-    match stands {
-        Stands::Overlay { cols, .. } | Stands::Base { cols, .. } | Stands::Selected { cols, .. } =>
-            cols,
+        cols: stands.cols,
     }
 }
 

@@ -15,7 +15,7 @@ use crate::needs::Needs;
 use dg_ask::has_node;
 use dg_graph::{Function, SKEW_MAX};
 use dg_history::{NodeId, Params, are_parameters};
-use dg_machine::{HANDLE_MAX, INDEXES_MAX, LIVE_HANDLES_MAX, Refusal, Stands};
+use dg_machine::{HANDLE_MAX, INDEXES_MAX, LIVE_HANDLES_MAX, Refusal, Shown, Stands};
 use dg_text::NAMES_MAX;
 
 // A line may bring the text of a key and that of a value.
@@ -243,5 +243,8 @@ fn in_range_or_next(ends: Option<(u64, u64)>, t: u64) -> bool
 fn is_set(stands: Option<Stands>) -> bool
     ensures { result ≡ is_set stands }
 {
-    matches!(stands, Some(Stands::Base { .. } | Stands::Selected { .. }))
+    match stands {
+        Some(stands) => !matches!(stands.what, Shown::Overlay { .. }),
+        None => false,
+    }
 }

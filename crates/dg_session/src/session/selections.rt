@@ -15,7 +15,7 @@ ghost use Rattle.dg_machine.specs.declared.limits.TheConstants.{HANDLE_MAX, LIVE
 ghost use Rattle.dg_machine.specs.MachineState.{MachineState, history_in};
 ghost use Rattle.dg_machine.specs.Selections.{added_length};
 ghost use Rattle.dg_machine.specs.declared.selection.Selection.TheVariants as selection;
-ghost use Rattle.dg_machine.specs.declared.stands.Stands.TheVariants as stands;
+ghost use Rattle.dg_machine.specs.declared.stands.Shown.TheVariants as kind;
 ghost use Rattle.dg_retrieval.specs.Beginnings.{leads_in, led_to};
 ghost use Rattle.dg_retrieval.specs.NamesThere.{NamesAreThere};
 ghost use Rattle.dg_session.specs.Calls.{ReadsFile};
@@ -33,7 +33,7 @@ use dg_delta::Delta;
 use dg_disk::Disk;
 use dg_expr::{Expr, law_chosen_elements_are_shown, select};
 use dg_graph::Columns;
-use dg_machine::{Command, Head, Refusal, Reply, Selection, Stands};
+use dg_machine::{Command, Head, Refusal, Reply, Selection, Shown, Stands};
 use dg_range::{law_images_have_added, lists_between, lists_bytes, read_added};
 use dg_records::RecordFault;
 use dg_retrieval::{Leads, Retrieved};
@@ -206,7 +206,7 @@ impl Session {
         requires room { length self.old.parts.table + 1 ≤ LIVE_HANDLES_MAX }
         requires numbers { self.old.parts.next + 1 ≤ HANDLE_MAX + 1 }
         requires named { NamesAreThere (length self.old.parts.names) elements }
-        ensures added { OnOk result (self.new.parts ≡ with_new_handles self.old.parts (stands.Selected what cols ∷ []) (shown elements (with_messages cols) ∷ [])) }
+        ensures added { OnOk result (self.new.parts ≡ with_new_handles self.old.parts (record { what = kind.Selected what; cols = cols } ∷ []) (shown elements (with_messages cols) ∷ [])) }
         ensures err { OnErr result (self.new.parts ≡ self.old.parts) }
     {
         // No plan begins with a selection, so the planners stay.
@@ -215,9 +215,14 @@ impl Session {
         let Some(pool) = &mut self.held.live.pool else {
             unreachable!()
         };
-        self.held
-            .handles
-            .add_set(pool, Stands::Selected { what, cols }, &delta)
+        self.held.handles.add_set(
+            pool,
+            Stands {
+                what: Shown::Selected(what),
+                cols,
+            },
+            &delta,
+        )
     }
 }
 

@@ -1,16 +1,13 @@
-use Rattle.std.proofs.Common.{arith, ◌≡◌, ℕ, ◌+◌, ◌<◌, ◌++◌, [], ◌∷◌, List, Some, length, map, refl, sym, ap, ◌∙◌, subst}
-use Rattle.std.proofs.lemmas.List.{map-append, map_push}
-use Rattle.std.proofs.Math.ListN.{length-map}
+use Rattle.std.proofs.Common.{arith, ◌≡◌, ℕ, ◌+◌, ◌<◌, ◌++◌, [], ◌∷◌, List, length, refl, sym, ap, ◌∙◌, subst}
+use Rattle.std.proofs.lemmas.List.{map-append}
 use Rattle.dg_graph.specs.Composition.{applied}
 use Rattle.dg_graph.specs.declared.element.Element.{Element}
 use Rattle.dg_graph.specs.Elements.{shown}
 use Rattle.dg_handles.specs.Attached.{AreAttached}
-use Rattle.dg_handles.specs.Handles.{HandlesState, IsTied, slot_graphs, members_at, with_messages}
+use Rattle.dg_handles.specs.Handles.{IsTied, slot_graphs, members_at}
 use Rattle.dg_handles.proofs.AttachedSlots.{attached_more, attached_none, held_kept, some_free, tied_more, with_more}
 use Rattle.dg_handles.proofs.HandleEntries.{Entries}
-use Rattle.dg_handles.proofs.HandleAdditions.{entry_of, number_of, rise_more}
 use Rattle.dg_handles.proofs.HandleTies.{set_holds, tie_is_kept}
-use Rattle.dg_machine.specs.Answer.{columns_if}
 use Rattle.dg_pool.specs.declared.slots.Base.TheVariants as base
 use Rattle.dg_pool.specs.Sweeps.{members_as}
 use Rattle.dg_handles.proofs.handles.Handles.add_set.Goals as goal
@@ -24,21 +21,12 @@ pub returns-in_err-slot-clause-tied : goal.returns-in_err-slot-clause-tied
 returns-in_err-slot-clause-tied c = tie_is_kept c.args.pool.now c.attach.new.pool c.args.self.now c.in_err-slot.ensures.err.slots c.requires.tied
 
 -- the graph of the new handle
-attached : (c : goal.After-self-1) → AreAttached c.args.pool.now c.attach.new.pool (c.in_ok-slot.slot.0 ∷ [])
+attached : (c : goal.After-enter) → AreAttached c.args.pool.now c.attach.new.pool (c.in_ok-slot.slot.0 ∷ [])
     (record { base = base.Nothing; cols = c.with_messages.result; members = shown (applied c.args.delta.now []) c.with_messages.result } ∷ [])
 attached c = attached_more c.args.pool.now c.args.pool.now [] [] (attached_none c.args.pool.now) c.attach.new.pool c.in_ok-slot.slot.0 _ c.in_ok-slot.ensures.slot
 
-slots_are : (c : goal.After-self-1) → map number_of c.push_reserved.new.self.items ≡ c.args.self.now.slots ++ c.in_ok-slot.slot.0 ∷ []
-slots_are c =
-    ap (map number_of) c.push_reserved.ensures.items ∙ map_push number_of c.self.inside.entries.items _
-    ∙ ap (λ (s : HandlesState). s.slots ++ c.in_ok-slot.slot.0 ∷ []) c.self.view_is
-
-table_is : (c : goal.After-self-1) → map entry_of c.push_reserved.new.self.items ≡ map entry_of c.self.inside.entries.items ++ (c.self.inside.next, c.args.stands) ∷ []
-table_is c = ap (map entry_of) c.push_reserved.ensures.items ∙ map_push entry_of c.self.inside.entries.items _
-
--- the columns of the new slot
-cols_are : (c : goal.After-self-1) → c.with_messages.result ≡ with_messages (columns_if (Some c.args.stands))
-cols_are c = c.with_messages.ensures ∙ ap with_messages c.columns.ensures
+slots_are : (c : goal.After-enter) → c.enter.new.self.slots ≡ c.args.self.now.slots ++ c.in_ok-slot.slot.0 ∷ []
+slots_are c = c.enter.ensures.slots
 
 pub returns-clause-graphs : goal.returns-clause-graphs
 returns-clause-graphs c =
@@ -50,24 +38,12 @@ returns-clause-graphs c =
     ap (slot_graphs new) (slots_are c) ∙ map-append (members_at new) h.slots slots
     ∙ ap (λ (l : List (List Element)). l ++ slot_graphs new slots) (held_kept old new h c.requires.tied slots _ (attached c))
     ∙ ap (λ o. slot_graphs old h.slots ++ members_as o ∷ []) c.in_ok-slot.ensures.slot.holds
-    ∙ ap (λ cols. slot_graphs old h.slots ++ shown (applied delta []) cols ∷ []) (cols_are c)
+    ∙ ap (λ cols. slot_graphs old h.slots ++ shown (applied delta []) cols ∷ []) c.with_messages.ensures
 
 pub returns-clause-tied : goal.returns-clause-tied
 returns-clause-tied c =
     let h = c.args.self.now in
-    let last = c.self.inside.next + 1 in
-    let more : Entries = (c.self.inside.next, c.args.stands) ∷ [] in
-    let table : map entry_of c.push_reserved.new.self.items ≡ h.table ++ more = table_is c ∙ ap (λ (s : HandlesState). s.table ++ more) c.self.view_is in
-    subst (IsTied c.attach.new.pool) (λ k. record { table = sym table k; slots = sym (slots_are c) k; next = last })
-    (tied_more c.args.pool.now c.attach.new.pool h c.requires.tied more (c.in_ok-slot.slot.0 ∷ []) last _ (attached c) (set_holds (with_more h more (c.in_ok-slot.slot.0 ∷ []) last) c.args.stands _ c.requires.alone (cols_are c) refl, tt))
-
-pub invariant_of-self : goal.invariant_of-self
-invariant_of-self c =
-    let entries = c.self.inside.entries in
-    let many : length c.args.self.now.table ≡ length entries.items = ap (λ (s : HandlesState). length s.table) (sym c.self.view_is) ∙ length-map entries.items entry_of in
-    let last : c.self.inside.next ≡ c.args.self.now.next = ap (λ (s : HandlesState). s.next) c.self.view_is in (
-      omega (arith, c.push_reserved.ensures.len, c.requires.room, many, entries.ok.0),
-      omega (arith, c.push_reserved.ensures.capacity, c.self.invariant.1),
-      omega (arith, c.requires.numbers, last),
-      rise_more entries.items c.push_reserved.new.self.items c.self.inside.next (c.self.inside.next + 1) (c.args.stands ∷ []) c.self.invariant.3 (table_is c) refl,
-    )
+    let last = c.enter.new.self.next in
+    let more : Entries = (h.next, c.args.stands) ∷ [] in
+    subst (IsTied c.attach.new.pool) (λ k. record { table = sym c.enter.ensures.table k; slots = sym (slots_are c) k; next = last })
+    (tied_more c.args.pool.now c.attach.new.pool h c.requires.tied more (c.in_ok-slot.slot.0 ∷ []) last _ (attached c) (set_holds (with_more h more (c.in_ok-slot.slot.0 ∷ []) last) c.args.stands _ c.requires.alone c.with_messages.ensures refl, tt))

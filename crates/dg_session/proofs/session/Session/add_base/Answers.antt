@@ -8,7 +8,7 @@ use Rattle.dg_session.proofs.PoolOverlays.{now_of}
 use Rattle.dg_session.proofs.GraphNames.{there_after, there_base}
 use Rattle.dg_graph.specs.Elements.{shown}
 use Rattle.dg_handles.specs.Handles.{slot_graphs, with_messages}
-use Rattle.dg_machine.specs.declared.stands.Stands.TheVariants.{Base}
+use Rattle.dg_machine.specs.declared.stands.Shown.TheVariants.{Base}
 use Rattle.dg_pool.specs.Graphs.{graph_now}
 use Rattle.dg_ask.specs.KeptAdjacency.{KeepsAdjacency}
 use Rattle.dg_session.specs.contracts.session.Session.{the_view}
@@ -18,7 +18,7 @@ use Rattle.dg_session.specs.Session.{node_needs, refused_by}
 use Rattle.dg_session.specs.SessionState.{SessionState}
 use Rattle.dg_ask.proofs.KeptAdjacencies.{kept_after as adjacency_after}
 use Rattle.dg_session.proofs.SessionNodeStep.{found_free}
-use Rattle.dg_ask.proofs.HeldIndexHandles.{node_after}
+use Rattle.dg_ask.proofs.HeldIndexHandles.{node_there, set_after}
 use Rattle.dg_session.proofs.session.Session.add_base.Goals as goal
 
 pub invariant_of-self : goal.invariant_of-self
@@ -38,8 +38,8 @@ invariant_of-self c =
         live = record { sound = c.self.invariant.1.live.sound; pool = r.ensures.now ∙ ap graph_now here ∙ now_of view.graph s.held.live.pool c.in-Some.pool c.in-Some.is c.self.invariant.1.live.pool };
         handles = record {
           tied = r.ensures.tied;
-          nodes = node_after r.result view.index s.held.handles r.new.self node cols r.ensures.table r.ensures.err free.0 free.1 c.self.invariant.1.handles.nodes;
-          adjacency = adjacency_after r.result s.held.handles r.new.self pool r.new.pool ((s.held.handles.next, Base node cols) ∷ []) (shown (applied c.args.delta.now []) (with_messages cols) ∷ []) s.held.adjacency
+          nodes = set_after r.result view.index s.held.handles r.new.self (record { what = Base node; cols = cols }) r.ensures.table r.ensures.err (node_there view.index node free.0 free.1) c.self.invariant.1.handles.nodes;
+          adjacency = adjacency_after r.result s.held.handles r.new.self pool r.new.pool ((s.held.handles.next, record { what = Base node; cols = cols }) ∷ []) (shown (applied c.args.delta.now []) (with_messages cols) ∷ []) s.held.adjacency
               r.ensures.table r.ensures.graphs r.ensures.err r.ensures.graphs_err (subst (λ p. KeepsAdjacency s.held.handles.table (slot_graphs p s.held.handles.slots) s.held.adjacency) (sym here) c.self.invariant.1.handles.adjacency);
           named = there_after n r.result s.held.handles r.new.self pool r.new.pool (shown (applied c.args.delta.now []) (with_messages cols) ∷ []) r.ensures.graphs r.ensures.err r.ensures.graphs_err
               (subst (λ p. All (NamesAreThere n) (slot_graphs p s.held.handles.slots)) (sym here) c.self.invariant.1.handles.named)

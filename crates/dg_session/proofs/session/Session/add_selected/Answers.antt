@@ -10,7 +10,7 @@ use Rattle.dg_graph.specs.declared.element.Element.{Element}
 use Rattle.dg_graph.specs.Elements.{asks, column_of, shown}
 use Rattle.dg_handles.specs.Handles.{slot_graphs, with_messages}
 use Rattle.dg_machine.specs.declared.stands.Stands.{Stands}
-use Rattle.dg_machine.specs.declared.stands.Stands.TheVariants.{Selected}
+use Rattle.dg_machine.specs.declared.stands.Shown.TheVariants.{Selected}
 use Rattle.dg_pool.specs.Graphs.{graph_now}
 use Rattle.dg_retrieval.proofs.PutElements.{of_filtered}
 use Rattle.dg_retrieval.specs.NamesThere.{HasNamesThere, NamesAreThere}
@@ -29,7 +29,7 @@ returns-clause-added c =
     let r = c.add_set in
     let view : Parts = (the_view s).parts in
     let cols = c.args.cols in
-    let new : Stands = Selected c.args.what cols in
+    let new : Stands = record { what = Selected c.args.what; cols = cols } in
     let graph : List Element = shown c.args.elements (with_messages cols) in
     let here : view ≡ c.args.self.now.parts = ap (λ (x : SessionState). x.parts) c.self.view_is ∙ c.overlay.ensures.parts in
     let is : c.deref_mut.result.now ≡ pool_of s.held.live.pool = c.deref_mut.ensures.value ∙ ap pool_of (sym c.in-Some.is) in
@@ -52,7 +52,7 @@ invariant_of-self c =
     let n : ℕ = length s.held.live.history.names in
     let view : Parts = (the_view s).parts in
     let cols = c.args.cols in
-    let new : Stands = Selected c.args.what cols in
+    let new : Stands = record { what = Selected c.args.what; cols = cols } in
     let delta = c.delta_to-delta.result in
     let graph : List Element = shown (applied delta []) (with_messages cols) in
     let same : view ≡ c.args.self.now.parts = ap (λ (x : SessionState). x.parts) c.self.view_is ∙ c.overlay.ensures.parts in

@@ -16,7 +16,7 @@ use Rattle.dg_machine.specs.declared.reply.Refusal.TheVariants as refusal
 use Rattle.dg_machine.specs.declared.reply.Reply.{Reply}
 use Rattle.dg_machine.specs.declared.reply.Reply.TheVariants as replied
 use Rattle.dg_machine.specs.declared.selection.Selection.TheVariants.{Chosen}
-use Rattle.dg_machine.specs.declared.stands.Stands.TheVariants.{Selected}
+use Rattle.dg_machine.specs.declared.stands.Shown.TheVariants.{Selected}
 use Rattle.dg_machine.specs.MachineState.{MachineState}
 use Rattle.dg_machine.specs.Needs.{needs}
 use Rattle.dg_retrieval.specs.Beginnings.{GraphLead, base_handle, leads_in, led_to}
@@ -117,7 +117,7 @@ returns-clause-comes g c =
     (retrieved_of p c.first_of-times.result.now (graph_columns cols) image (g.D.Disk.taken c.args.disk.now) (g.D.Disk.taken c.retrieve.new.disk) r c.in_ok-leads.ensures.over))
     (length-map leads (λ (l : GraphLead). base_handle l.begins) ∙ c.in_ok-leads.ensures.done.count ∙ ap length asked)
     (λ graph all. c.in_ok-elements.ensures.chosen graph (ap (λ (x : Parts). map (led_to x.graph (listed_by x) (graph_columns cols)) leads) same ∙ all))
-    (c.in_ok-add_selected.ensures.added ∙ (λ i. with_new_handles (same i) (Selected (Chosen e) cols ∷ []) (shown c.in_ok-elements.elements (with_messages cols) ∷ [])))
+    (c.in_ok-add_selected.ensures.added ∙ (λ i. with_new_handles (same i) (record { what = Selected (Chosen e); cols = cols } ∷ []) (shown c.in_ok-elements.elements (with_messages cols) ∷ [])))
     (c.headed.ensures ∙ ap (λ n. headed (head.Chosen n r.weight)) number)
 
 pub returns-in-Some-clause-file : goal.returns-in-Some-clause-file

@@ -7,7 +7,7 @@ use Rattle.dg_machine.specs.declared.reply.Head.TheVariants as head
 use Rattle.dg_machine.specs.declared.reply.Refusal.TheVariants as refusal
 use Rattle.dg_machine.specs.declared.reply.Reply.{Reply}
 use Rattle.dg_machine.specs.declared.reply.Reply.TheVariants as replied
-use Rattle.dg_machine.specs.declared.stands.Stands.TheVariants.{Base}
+use Rattle.dg_machine.specs.declared.stands.Shown.TheVariants.{Base}
 use Rattle.dg_machine.specs.Answer.{headed}
 use Rattle.dg_machine.specs.Needs.{needs}
 use Rattle.dg_session.specs.SessionState.{SessionState}
@@ -50,7 +50,7 @@ returns-clause-comes g c =
     let number : c.next-handle.result ≡ p.next = c.next-handle.ensures.next ∙ ap (λ (x : SessionState). x.parts.next) (c.self.view_is ∙ c.lead_to_node.ensures.same) in
     node_answers p c.add_base.new.self.parts c.args.node cols (g.D.Disk.image c.args.disk.now) (g.D.Disk.image c.lead_to_node.new.disk) r.weight (shown (applied r.delta []) (with_messages cols)) c.headed.result
     (sym c.refused.ensures ∙ c.in_default.is) c.lead_to_node.ensures.disk.same_image (node_held_of c.args.self.now.parts c.args.node c.args.cols (g.D.Disk.image c.args.disk.now) (g.D.Disk.taken c.args.disk.now) (g.D.Disk.taken c.lead_to_node.new.disk) c.in_ok-delta.field-0 c.in_ok-delta.ensures.over)
-    (c.in_ok-add_base.ensures.added ∙ (λ i. with_new_handles (same i) (Base c.args.node cols ∷ []) (shown (applied r.delta []) (with_messages cols) ∷ [])))
+    (c.in_ok-add_base.ensures.added ∙ (λ i. with_new_handles (same i) (record { what = Base c.args.node; cols = cols } ∷ []) (shown (applied r.delta []) (with_messages cols) ∷ [])))
     (c.headed.ensures ∙ ap (λ n. headed (head.Materialised n r.weight)) number)
 
 pub returns-in-Some-clause-file : goal.returns-in-Some-clause-file
