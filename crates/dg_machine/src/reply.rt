@@ -137,8 +137,8 @@ pub enum Head {
     },
 }
 
-// A new refusal also needs: its place and its premise in `refusals` (`Needs`) and in dg_session's `refusals_by`; its words in
-// `ReplyText` and dg_reply; and where it comes of a change, of the file or of memory, its line in `is_late`.
+// A new refusal also needs: its place and its premise in `refusals_seen` (`Needs`); its words in `ReplyText` and dg_reply; and
+// where it comes of a change, of the file or of memory, its line in `is_late`.
 /// Why a command was refused. docs/SCRIPT.md has the order in which these are tested.
 #[derive(Clone, Copy)]
 pub enum Refusal {

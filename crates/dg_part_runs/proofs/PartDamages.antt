@@ -12,7 +12,7 @@ use Rattle.dg_machine.specs.declared.reply.Refusal.{Refusal}
 use Rattle.dg_machine.specs.declared.reply.Reply.TheVariants as replied
 use Rattle.dg_records.specs.declared.fault.RecordFault.{RecordFault}
 use Rattle.dg_records.specs.declared.fault.RecordFault.TheVariants as fault
-use Rattle.dg_session.specs.Damage.{IsMetBy, MeetsNone, TellsGraphDamage, damage_told}
+use Rattle.dg_session.specs.Damage.{IsMetBy, MeetsNone, MeetsOver, Tells, damage_told, graph_readings}
 use Rattle.dg_session.specs.SessionState.{SessionState}
 use Rattle.dg_part_runs.specs.Disks.{ReadsAll, images_of}
 use Rattle.dg_part_runs.specs.HeldParts.{span_kept}
@@ -42,7 +42,7 @@ first_at P Q (x ∷ xs) (y ∷ ys) (suc i) d e all in_xs in_ys one = inr (all.0,
 
 module _ (t : ℕ) (cols : Columns) (s : SessionState) (told : Option (List ℕ)) where
   -- a part that is asked for an instant of its own
-  pub met_at : {A : Type 0} (time : ℕ) (r : Result A RecordFault) → time_within (span_kept s) t ≡ Some time → TellsGraphDamage s.parts told (time ∷ [], cols) r → TellsMet t cols s told r
+  pub met_at : {A : Type 0} (time : ℕ) (r : Result A RecordFault) → time_within (span_kept s) t ≡ Some time → Tells (MeetsOver (graph_readings (time ∷ []) cols) s.parts told) r → TellsMet t cols s told r
   met_at time (Ok g) is tells = subst (λ (o : Option ℕ). MeetsNone (reads_at o cols) s.parts told) (sym is) tells
   met_at time (Err fault.Disk) is tells = tt
   met_at time (Err fault.Memory) is tells = tt

@@ -15,7 +15,7 @@ use Rattle.dg_machine.specs.ReplyText.{text}
 use Rattle.dg_machine.specs.Script.{Asked, Entry, Long_line, No_command, script_by}
 use Rattle.dg_records.specs.declared.fault.RecordFault.{RecordFault}
 use Rattle.dg_records.specs.declared.fault.RecordFault.TheVariants as fault
-use Rattle.dg_session.specs.Damage.{Graphs, IsMetBy, MeetsNone, Nothing_read, ReadsFor, damage_told}
+use Rattle.dg_session.specs.Damage.{IsMetBy, MeetsNone, Nothing_read, ReadsFor, Reads_along, damage_told, graph_readings}
 use Rattle.dg_session.specs.SessionStart.{Begins, IsNew}
 use Rattle.dg_session.specs.SessionState.{SessionState}
 use Rattle.dg_start.specs.SessionStart.{started_with}
@@ -38,7 +38,7 @@ FirstZip P Q xs ys = ⊥
 -- what is read of a part: the graph as of its own instant, in these columns; and of a part that is not asked, nothing
 abbrev pub reads_at : Option ℕ → Columns → ReadsFor
 reads_at None cols = Nothing_read
-reads_at (Some t) cols = Graphs (t ∷ []) cols
+reads_at (Some t) cols = Reads_along (graph_readings (t ∷ []) cols)
 
 -- what is read of the part of a session as of an instant of the whole
 abbrev pub reads_within : ℕ → Columns → SessionState → ReadsFor

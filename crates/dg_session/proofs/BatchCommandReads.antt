@@ -1,12 +1,13 @@
 -- Which bytes a command that adds a batch has read, and which damage it tells of.
-use Rattle.std.proofs.Common.{◌≡◌, inl, inr, ℕ, Bool, true, false, List, [], ◌∷◌, Option, Some, Result, Ok, Err, if◌then◌else◌, length, nat_lt, refl, sym, ◌∙◌, ap, subst, arith}
+use Rattle.std.proofs.Common.{◌≡◌, inl, inr, ℕ, Bool, true, false, List, [], ◌∷◌, Option, Some, None, Result, Ok, Err, if◌then◌else◌, length, map, nat_lt, refl, sym, ◌∙◌, ap, subst, arith}
 use Rattle.std.specs.Prelude.{IfSome}
 use Rattle.std.specs.List.{sum}
 use Rattle.std.proofs.lemmas.Bool.{false≢true}
+use Rattle.std.proofs.lemmas.Option.{IfSome_then}
 use Rattle.dg_append.specs.AddedBatches.{AddsBatch, FailsBatch, IsOverHistory, MeetsDamage, MeetsNoDamage, ReadsNothing, TakesBatch}
 use Rattle.dg_append.specs.Fronts.{ComeTo, IsFront, lines}
 use Rattle.dg_append.specs.OlderChildSteps.{IsNamedDamage}
-use Rattle.dg_append.specs.OlderGroups.{older_children}
+use Rattle.dg_append.specs.OlderGroups.{AreUndamaged, in_groups, older_children}
 use Rattle.dg_append.specs.declared.batch.AddedBatch.{AddedBatch}
 use Rattle.dg_append.specs.declared.fault.BatchFault.{BatchFault}
 use Rattle.dg_append.specs.declared.fault.BatchFault.TheVariants as fault
@@ -45,7 +46,7 @@ use Rattle.dg_session.proofs.PartStates.{is_of}
 use Rattle.dg_session.proofs.SessionSteps.{refused_not_read}
 use Rattle.dg_session.specs.BatchCommand.{Bars, barred, command_with}
 use Rattle.dg_batch.specs.BatchLines.{IsBarred, ReadsBatch, first_refusal}
-use Rattle.dg_session.specs.Damage.{Batch_of, DamageIn, DamageIs, MeetsNone, NamesBatchDamage, reads_for}
+use Rattle.dg_session.specs.Damage.{Batch_of, DamageIn, DamageIs, MeetAlong, MeetsNone, NamesBatchDamage, Tree, reads_for}
 use Rattle.dg_session.specs.declared.batch_command.BatchCommand.{BatchCommand}
 use Rattle.dg_session.specs.declared.batch_command.BatchCommand.TheVariants.{Load, Append}
 use Rattle.dg_append.specs.declared.batch.Batch.{Batch}
@@ -161,6 +162,11 @@ names_it (Lines_of Load) count p image key col d = d
 names_it (Lines_of Append) count p image key col d = d
 names_it (Seed seed) count p image key col d = d
 
+-- the trees of groups of nodes are whole, one after another
+sets_whole : (names : ℕ) (o : Opening) (bytes : List ℕ) (gs : List (List NodeId)) → AreUndamaged names o bytes gs → MeetAlong (map (Tree (record_edges o) all_columns) gs) names o bytes None
+sets_whole names o bytes [] whole = tt
+sets_whole names o bytes (g ∷ gs) whole = (whole.0, sets_whole names o bytes gs whole.1)
+
 module _ (from : Origin) (got : List ScriptLine) (p : Parts) (count limit : ℕ) (l : Live) (b : Batch) (a : IsAsked from got p count limit l b) where
   abbrev c : StoredHistory
   c = l.history
@@ -242,11 +248,9 @@ module _ (from : Origin) (got : List ScriptLine) (p : Parts) (count limit : ℕ)
   pub added_undamaged : (told after : Option (List ℕ)) (new : Live) (x : AddedBatch) → IfSome (index_opening c.index) (λ o. AddsBatch o limit b l new told after x) → MeetsNone (Batch_of count) p told
   added_undamaged told after new x adds =
       let d : AddsBatch o limit b l new told after x = of_here (index_opening c.index) o (λ o. AddsBatch o limit b l new told after x) here adds in
-      let many : length b.changes.items ≡ count = many_changes from got p count limit l b a d.comes.whole in (
-        o,
-        there,
-        subst (λ (n : ℕ). MeetsNoDamage told o n count) a.known_is (subst (λ (n : ℕ). MeetsNoDamage told o b.known n) many d.whole),
-      )
+      let many : length b.changes.items ≡ count = many_changes from got p count limit l b a d.comes.whole in
+      let whole : MeetsNoDamage told o (length p.names) count = subst (λ (n : ℕ). MeetsNoDamage told o n count) a.known_is (subst (λ (n : ℕ). MeetsNoDamage told o b.known n) many d.whole) in
+      (o, there, IfSome_then told whole (λ bytes. sets_whole (length p.names) o bytes (in_groups (older_children o count))))
 
 -- what a command that adds a batch reads records for
 pub reads_of : (which : BatchCommand) (count : ℕ) → reads_for (command_with which count) ≡ Batch_of count

@@ -1,8 +1,11 @@
 -- Which reply tells of a damage, which damage it is, and where there is none.
-use Rattle.std.proofs.Common.{◌≡◌, ℕ, Bool, true, false, List, [], ◌∷◌, Option, Some, None, Result, Ok, Err, length, sym, ◌∙◌, subst}
-use Rattle.std.specs.Prelude.{◌||◌, IfSome, IsErr, OnOk, is_some}
+use Rattle.std.proofs.Common.{◌≡◌, inl, inr, ℕ, Bool, true, false, List, [], ◌∷◌, Option, Some, None, Result, Ok, Err, length, refl, sym, ◌∙◌, ap, subst}
+use Rattle.std.specs.Prelude.{◌||◌, IfSome, IsErr, OnOk, if◌then◌else◌, is_some}
 use Rattle.std.proofs.lemmas.Bool.{false≢true, false_from_ne_true}
+use Rattle.std.proofs.lemmas.Option.{IfSome_then}
+use Rattle.dg_fold.specs.Parts.{fault_named}
 use Rattle.dg_graph.specs.declared.element.Column.{Column}
+use Rattle.dg_graph.specs.declared.element.Column.TheVariants.{Transient}
 use Rattle.dg_graph.specs.declared.element.Columns.{Columns}
 use Rattle.dg_graph.specs.declared.event.Event.{Event}
 use Rattle.dg_text.specs.Lines.{ScriptLine}
@@ -15,22 +18,23 @@ use Rattle.dg_machine.specs.declared.reply.Reply.TheVariants as replied
 use Rattle.dg_machine.specs.Answer.{is_refusal, refusal_of}
 use Rattle.dg_machine.specs.Needs.{needs}
 use Rattle.dg_machine.specs.Run.{is_failed_read}
-use Rattle.dg_range.specs.Added.{range_columns}
-use Rattle.dg_range.specs.ColumnRuns.{TellsColumnDamage}
+use Rattle.dg_messages.specs.Calls.{AreHeard}
+use Rattle.dg_range.specs.ColumnRuns.{TellsColumnDamage, events_along}
+use Rattle.dg_range.specs.ListValues.{TellsValueDamage, values_along}
 use Rattle.dg_records.specs.declared.fault.RecordFault.{RecordFault}
-use Rattle.dg_records.specs.declared.fault.RecordFault.TheVariants as retrieval_fault
+use Rattle.dg_records.specs.declared.fault.RecordFault.TheVariants as fault
 use Rattle.dg_retrieval.specs.declared.retrieval.Retrieved.{Retrieved}
 use Rattle.dg_history.specs.declared.node.Key.{Key}
 use Rattle.dg_history.specs.declared.node.NodeId.{NodeId}
 use Rattle.dg_machine.specs.Planning.{bases_in}
 use Rattle.dg_plan.specs.declared.edge.Edge.{Edge}
-use Rattle.dg_retrieval.specs.declared.node_lead.NodeLead.{NodeLead}
-use Rattle.dg_retrieval.specs.KeptGraph.{index_edges, kept_edges}
-use Rattle.dg_retrieval.specs.Calls.{TellsDamage}
+use Rattle.dg_retrieval.specs.KeptGraph.{kept_edges}
+use Rattle.dg_retrieval.specs.Calls.{TellsDamage as TellsTreeDamage}
+use Rattle.dg_retrieval.specs.NodeSets.{IsUndamaged}
 use Rattle.dg_session.proofs.SessionRetrievals.{IsSession}
 use Rattle.dg_batch.specs.declared.halt.Halt.{Halt}
 use Rattle.dg_batch.specs.declared.halt.Halt.TheVariants as halt
-use Rattle.dg_session.specs.Damage.{DamageIn, DamageIs, Events_of_lists, Graphs, damage_told, events_between, IsMetBy, MeetsNone, NamesDamage, NamesListFault, NamesNodeDamage, Node_set, ReadsFor, TellsGraphDamage, TellsListDamage, TellsNodeDamage, reads_for}
+use Rattle.dg_session.specs.Damage.{DamageIn, DamageIs, IsMetBy, Lists, MeetAlong, MeetsNone, MeetsOver, Reading, ReadsFor, Reads_along, Tells, Tree, damage_told, graph_readings, messages_for, reads_for}
 use Rattle.dg_batch.specs.Halt.{retrieval_halt}
 use Rattle.dg_session.specs.Parts.{Parts}
 use Rattle.dg_session.specs.Retrievals.{TellsLeadDamage}
@@ -73,61 +77,71 @@ never_for_damage c x got p before q after r is no_reads comes =
 
 -- ---- a damage
 
+-- what is told of readings in an image holds over what the session has in memory
+pub damage_over : {A : Type 0} {Lower : List ℕ → Type 0} (reads : Parts → Opening → List Reading) (p : Parts) (o : Opening) (told : Option (List ℕ)) (names : ℕ) (r : Result A RecordFault) → p.index ≡ Some o
+    → names ≡ length p.names → IfSome told Lower → ((bytes : List ℕ) → Lower bytes → Tells (MeetAlong (reads p o) names o bytes) r) → Tells (MeetsOver reads p told) r
+damage_over {A = B} reads p o told names r there count damage tells = by r (subst (λ n. IfSome told (λ bytes. Tells (MeetAlong (reads p o) n o bytes) r)) count (IfSome_then told damage tells))
+  where
+    by : (r : Result B RecordFault) → IfSome told (λ bytes. Tells (MeetAlong (reads p o) (length p.names) o bytes) r) → Tells (MeetsOver reads p told) r
+    by (Ok x) d = (o, there, d)
+    by (Err fault.Disk) d = tt
+    by (Err fault.Memory) d = tt
+    by (Err (fault.Damaged key col)) d = (o, there, d)
+
+-- a tree
+pub tree_tells : {A : Type 0} (names : ℕ) (edges : List Edge) (o : Opening) (cols : Columns) (nodes : List NodeId) (bytes : List ℕ) (r : Result A RecordFault)
+    → TellsTreeDamage names edges o cols nodes bytes r → Tells (MeetAlong (Tree edges cols nodes ∷ []) names o bytes) r
+tree_tells names edges o cols nodes bytes (Ok x) d = (d, tt)
+tree_tells names edges o cols nodes bytes (Err fault.Disk) d = tt
+tree_tells names edges o cols nodes bytes (Err fault.Memory) d = tt
+tree_tells names edges o cols nodes bytes (Err (fault.Damaged key col)) d = inl d
+
+-- a tree, and then the messages, where they are asked for
+module _ (names : ℕ) (edges : List Edge) (o : Opening) (nodes : List NodeId) (times : List ℕ) (cols : Columns) (bytes : List ℕ) where
+  abbrev along : Bool → List Reading
+  along asked = Tree edges cols nodes ∷ (if asked then Lists (messages_for times) ∷ [] else [])
+
+  none_along : (asked : Bool) → IsUndamaged names edges o cols nodes bytes → (asked ≡ true → AreHeard names bytes o times) → MeetAlong (along asked) names o bytes None
+  none_along true whole heard = let h = heard refl in (whole, ((h.0, ap (fault_named _) h.1), tt))
+  none_along false whole heard = (whole, tt)
+
+  pub lead_tells : {A : Type 0} (r : Result A RecordFault) → TellsLeadDamage names edges o nodes times cols bytes r → Tells (MeetAlong (along cols.transient) names o bytes) r
+  lead_tells (Ok x) d = none_along cols.transient d.0 d.1
+  lead_tells (Err fault.Disk) d = tt
+  lead_tells (Err fault.Memory) d = tt
+  lead_tells (Err (fault.Damaged key col)) (inl d) = inl d
+  lead_tells (Err (fault.Damaged key col)) (inr (asked, whole, (i, heard, k_is, col_is))) =
+      subst (λ b. MeetAlong (along b) names o bytes (Some (key, col))) (sym asked) (inr (whole, inl ((i, Transient), ap (fault_named _) heard, k_is, col_is)))
+
+-- columns of lists
+pub columns_tell : {A : Type 0} (names : ℕ) (o : Opening) (ps : List (ℕ × Column)) (bytes : List ℕ) (r : Result A RecordFault)
+    → TellsColumnDamage names o ps bytes r → Tells (MeetAlong (Lists (λ names bytes o. events_along names bytes o ps) ∷ []) names o bytes) r
+columns_tell names o ps bytes (Ok x) d = (d, tt)
+columns_tell names o ps bytes (Err fault.Disk) d = tt
+columns_tell names o ps bytes (Err fault.Memory) d = tt
+columns_tell names o ps bytes (Err (fault.Damaged key col)) d = inl d
+
+pub values_tell : {A : Type 0} (names : ℕ) (o : Opening) (bytes : List ℕ) (r : Result A RecordFault) → TellsValueDamage names o bytes r → Tells (MeetAlong (Lists values_along ∷ []) names o bytes) r
+values_tell names o bytes (Ok x) d = (d, tt)
+values_tell names o bytes (Err fault.Disk) d = tt
+values_tell names o bytes (Err fault.Memory) d = tt
+values_tell names o bytes (Err (fault.Damaged key col)) d = inl d
+
 -- the fault of a retrieval over what the session has in memory
 pub graph_damage_over : (p : Parts) (o : Opening) (times : List ℕ) (cols : Columns) (told : Option (List ℕ)) (names : ℕ) (recent : List Event) (r : Result Retrieved RecordFault)
     → IsSession p o names recent → (edges : List Edge) → edges ≡ kept_edges o (event_total o.batches) cols (bases_in cols p.table)
-    → IfSome told (λ image. TellsLeadDamage names edges o (points_over o recent times) times cols image r) → TellsGraphDamage p told (times, cols) r
+    → IfSome told (λ image. TellsLeadDamage names edges o (points_over o recent times) times cols image r) → Tells (MeetsOver (graph_readings times cols) p told) r
 graph_damage_over p o times cols told names recent r is edges edges_is damage =
-    by r (subst (λ gs. IfSome told (λ image. TellsLeadDamage (length p.names) gs o (points_over o p.recent times) times cols image r)) edges_is
-    (subst (λ es. IfSome told (λ image. TellsLeadDamage (length p.names) edges o (points_over o es times) times cols image r)) is.all
-    (subst (λ n. IfSome told (λ image. TellsLeadDamage n edges o (points_over o recent times) times cols image r)) is.count damage)))
-  where
-    by : (r : Result Retrieved RecordFault)
-        → IfSome told (λ image. TellsLeadDamage (length p.names) (kept_edges o (event_total o.batches) cols (bases_in cols p.table)) o (points_over o p.recent times) times cols image r)
-        → TellsGraphDamage p told (times, cols) r
-    by (Ok x) d = (o, is.there, d)
-    by (Err f) d = (o, is.there, d)
+    damage_over (graph_readings times cols) p o told names r is.there is.count damage
+    (λ bytes d. subst (λ (x : List Edge × List Event). Tells (MeetAlong (along names x.0 o (points_over o x.1 times) times cols bytes cols.transient) names o bytes) r) (λ i. (edges_is i, is.all i))
+    (lead_tells names edges o (points_over o recent times) times cols bytes r d))
 
-pub node_damage_over : (p : Parts) (o : Opening) (node : NodeId) (cols : Columns) (told : Option (List ℕ)) (names : ℕ) (r : Result NodeLead RecordFault) → p.index ≡ Some o → names ≡ length p.names
-    → IfSome told (λ image. TellsDamage names (index_edges o cols false []) o cols (node ∷ []) image r) → TellsNodeDamage p told (node, cols) r
-node_damage_over p o node cols told names r there count damage =
-    by r (subst (λ n. IfSome told (λ image. TellsDamage n (index_edges o cols false []) o cols (node ∷ []) image r)) count damage)
-  where
-    by : (r : Result NodeLead RecordFault) → IfSome told (λ image. TellsDamage (length p.names) (index_edges o cols false []) o cols (node ∷ []) image r) → TellsNodeDamage p told (node, cols) r
-    by (Ok x) d = (o, there, d)
-    by (Err f) d = (o, there, d)
-
--- what the command that reads for it comes to by the fault
-pub damage_in : (c : Command) (p : Parts) (image : Option (List ℕ)) (times : List ℕ) (cols : Columns) (f : RecordFault) → reads_for c ≡ Graphs times cols → NamesDamage p image (times, cols) f
-    → DamageIn c p image (Err (retrieval_halt f))
-damage_in c p image times cols retrieval_fault.Disk is damage = tt
-damage_in c p image times cols retrieval_fault.Memory is damage = tt
-damage_in c p image times cols (retrieval_fault.Damaged key col) is damage = subst (λ (x : ReadsFor). IsMetBy x p image key col) (sym is) damage
-
--- the fault of a node that is to be held, over what the session has in memory
-pub node_damage_in : (c : Command) (p : Parts) (image : Option (List ℕ)) (node : NodeId) (cols : Columns) (f : RecordFault) → reads_for c ≡ Node_set node cols → NamesNodeDamage p image (node, cols) f
-    → DamageIn c p image (Err (retrieval_halt f))
-node_damage_in c p image node cols retrieval_fault.Disk is damage = tt
-node_damage_in c p image node cols retrieval_fault.Memory is damage = tt
-node_damage_in c p image node cols (retrieval_fault.Damaged key col) is damage = subst (λ (x : ReadsFor). IsMetBy x p image key col) (sym is) damage
-
--- the fault of what reads these events of lists, by the index that the session has
-pub list_damage_over : {A : Type 0} (p : Parts) (o : Opening) (from until : ℕ) (cols : Columns) (told : Option (List ℕ)) (names : ℕ) (r : Result A RecordFault) → p.index ≡ Some o → names ≡ length p.names
-    → IfSome told (λ image. TellsColumnDamage names o (range_columns o from until cols) image r) → TellsListDamage p told (events_between from until cols) r
-list_damage_over {A = B} p o from until cols told names r there count damage =
-    by r (subst (λ n. IfSome told (λ image. TellsColumnDamage n o (range_columns o from until cols) image r)) count damage)
-  where
-    by : (r : Result B RecordFault) → IfSome told (λ image. TellsColumnDamage (length p.names) o (range_columns o from until cols) image r) → TellsListDamage p told (events_between from until cols) r
-    by (Ok x) d = (o, there, d)
-    by (Err retrieval_fault.Disk) d = tt
-    by (Err retrieval_fault.Memory) d = tt
-    by (Err (retrieval_fault.Damaged key col)) d = (o, there, d)
-
-pub list_damage_in : (c : Command) (p : Parts) (image : Option (List ℕ)) (read : ℕ → List ℕ → Opening → Result (List Event) (ℕ × Column)) (f : RecordFault) → reads_for c ≡ Events_of_lists read
-    → NamesListFault p image read f → DamageIn c p image (Err (retrieval_halt f))
-list_damage_in c p image read retrieval_fault.Disk is damage = tt
-list_damage_in c p image read retrieval_fault.Memory is damage = tt
-list_damage_in c p image read (retrieval_fault.Damaged key col) is damage = subst (λ (x : ReadsFor). IsMetBy x p image key col) (sym is) damage
+-- what the command that reads so comes to by the fault, whatever it would have read
+pub damage_in : (c : Command) (reads : Parts → Opening → List Reading) (p : Parts) (image : Option (List ℕ)) (f : RecordFault) → reads_for c ≡ Reads_along reads
+    → (let r : Result (Unit {0}) RecordFault = Err f in Tells (MeetsOver reads p image) r) → DamageIn c p image (Err (retrieval_halt f))
+damage_in c reads p image fault.Disk is damage = tt
+damage_in c reads p image fault.Memory is damage = tt
+damage_in c reads p image (fault.Damaged key col) is damage = subst (λ (x : ReadsFor). IsMetBy x p image key col) (sym is) damage
 
 -- ---- what is read, and is not damaged
 

@@ -20,7 +20,7 @@ use Rattle.dg_records.specs.declared.fault.RecordFault.TheVariants as fault
 use Rattle.dg_retrieval.specs.declared.graph_lead.Beginning.{Beginning}
 use Rattle.dg_retrieval.specs.declared.retrieval.Retrieved.{Retrieved}
 use Rattle.dg_retrieval.specs.Beginnings.{begun_with, leads_from, leads_in, led_to}
-use Rattle.dg_session.specs.Damage.{TellsGraphDamage}
+use Rattle.dg_session.specs.Damage.{MeetsOver, Tells, graph_readings}
 use Rattle.dg_session.specs.Gathering.{GathersFor}
 use Rattle.dg_session.specs.Parts.{Parts}
 use Rattle.dg_session.specs.Reads.{IsRetrieved, RetrievesFor, bases_of, listed_by}
@@ -85,8 +85,8 @@ module _ (p : Parts) (t : ℕ) (cols : Columns) (told : Option (List ℕ)) (befo
   memory_lacks x over = IfSome_then told over (λ image h m s. record { shown = tt; weighs = tt; takes = tt; never = inr refl })
 
   -- what is told of damage
-  pub none_damaged : (x : Retrieved) (g : Gathered) → (let r : Result Retrieved RecordFault = Ok x in TellsGraphDamage p told (t ∷ [], cols) r) → (let r : Result Gathered RecordFault = Ok g in TellsGraphDamage p told (t ∷ [], cols) r)
+  pub none_damaged : (x : Retrieved) (g : Gathered) → (let r : Result Retrieved RecordFault = Ok x in Tells (MeetsOver (graph_readings (t ∷ []) cols) p told) r) → (let r : Result Gathered RecordFault = Ok g in Tells (MeetsOver (graph_readings (t ∷ []) cols) p told) r)
   none_damaged x g none = none
 
-  pub lacking_damage : (x : Retrieved) → (let r : Result Retrieved RecordFault = Ok x in TellsGraphDamage p told (t ∷ [], cols) r) → (let r : Result Gathered RecordFault = Err fault.Memory in TellsGraphDamage p told (t ∷ [], cols) r)
-  lacking_damage x none = (none.0, none.1, IfSome_then told none.2 (λ image undamaged. inl tt))
+  pub lacking_damage : (x : Retrieved) → (let r : Result Retrieved RecordFault = Ok x in Tells (MeetsOver (graph_readings (t ∷ []) cols) p told) r) → (let r : Result Gathered RecordFault = Err fault.Memory in Tells (MeetsOver (graph_readings (t ∷ []) cols) p told) r)
+  lacking_damage x none = tt

@@ -31,7 +31,6 @@ use Rattle.dg_session.proofs.PartStates.{IsOf, are_of, is_of, kept, one_image, o
 use Rattle.dg_session.proofs.ReplyNames.{head_names, names_stay}
 use Rattle.dg_session.proofs.SessionRetrievals.{IsSession, if_some, moved_with, reads_failed, z_of}
 use Rattle.dg_session.specs.BatchReads.{is_early}
-use Rattle.dg_session.specs.Damage.{TellsListDamage}
 use Rattle.dg_session.specs.Decided.{Fits}
 use Rattle.dg_session.specs.Parts.{Parts}
 use Rattle.dg_session.specs.Reads.{IndexesFor, Reads, with_new_index}
@@ -163,17 +162,6 @@ module _ (law : ImagesHaveValues) (p : Parts) (o : Opening) (there : p.index ≡
       most = subst (λ n. TakesAtMost n before after) (bytes_are image m s) takes.most;
       never = never image m s f damage;
     }
-
--- the fault of what reads the values, by the index that the session has
-pub value_damage_over : (p : Parts) (o : Opening) (told : Option (List ℕ)) (names : ℕ) (r : Result AuxState RecordFault) → p.index ≡ Some o → names ≡ length p.names
-    → IfSome told (λ image. TellsValueDamage names o image r) → TellsListDamage p told values_along r
-value_damage_over p o told names r there count damage = by r (subst (λ n. IfSome told (λ image. TellsValueDamage n o image r)) count damage)
-  where
-    by : (r : Result AuxState RecordFault) → IfSome told (λ image. TellsValueDamage (length p.names) o image r) → TellsListDamage p told values_along r
-    by (Ok x) d = (o, there, d)
-    by (Err fault.Disk) d = tt
-    by (Err fault.Memory) d = tt
-    by (Err (fault.Damaged key col)) d = (o, there, d)
 
 -- ---- by what is read, where the image is told
 

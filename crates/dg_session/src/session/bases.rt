@@ -11,7 +11,7 @@ ghost use Rattle.dg_machine.specs.declared.stands.Shown.TheVariants as kind;
 ghost use Rattle.dg_machine.specs.MachineState.{MachineState};
 ghost use Rattle.dg_retrieval.specs.NamesThere.{NamesAreThere};
 ghost use Rattle.dg_session.specs.Calls.{ReadsFile};
-ghost use Rattle.dg_session.specs.Damage.{TellsNodeDamage};
+ghost use Rattle.dg_session.specs.Damage.{MeetsOver, Tells, node_readings};
 ghost use Rattle.dg_session.specs.Reads.{HoldsNodeFor, with_new_handles};
 ghost use Rattle.dg_session.specs.Session.{ComesTo, HoldsImage, StandsFor, node_needs, refused_by};
 ghost use Rattle.dg_batch.specs.declared.stop.Stop.TheVariants as stop;
@@ -49,7 +49,7 @@ impl Session {
 
         // why nothing is
         ensures cause { IsErrOf result RecordFault.Disk → Fails D.Disk disk.old disk.new }
-        ensures damage { TellsNodeDamage self.old.parts (D.image disk.old) (node, cols) result }
+        ensures damage { Tells (MeetsOver (node_readings node cols) self.old.parts (D.image disk.old)) result }
 
         // what it leaves
         ensures same { self.new ≡ self.old }

@@ -17,7 +17,7 @@ ghost use Rattle.dg_records.specs.EventNames.{EventNamesAreThere};
 ghost use Rattle.dg_retrieval.specs.Beginnings.{leads_in, led_to};
 ghost use Rattle.dg_retrieval.specs.NamesThere.{NamesAreThere};
 ghost use Rattle.dg_retrieval.specs.Retrieval.{IsNoDamage};
-ghost use Rattle.dg_session.specs.Damage.{TellsGraphDamage};
+ghost use Rattle.dg_session.specs.Damage.{MeetsOver, Tells, graph_readings};
 ghost use Rattle.dg_session.specs.Gathering.{GathersFor};
 ghost use Rattle.dg_session.specs.Reads.{listed_by};
 ghost use Rattle.dg_session.specs.Session.{HoldsImage, StandsFor, refused_by, retrieval_needs};
@@ -105,7 +105,7 @@ impl Session {
 
         // why nothing is
         ensures cause { IsErrOf result RecordFault.Disk → Fails D.Disk disk.old disk.new }
-        ensures damage { TellsGraphDamage self.old.parts (D.image disk.old) (t ∷ [], cols) result }
+        ensures damage { Tells (MeetsOver (graph_readings (t ∷ []) cols) self.old.parts (D.image disk.old)) result }
 
         // what it leaves
         ensures same { self.new ≡ self.old }

@@ -12,7 +12,7 @@ ghost use Rattle.dg_machine.specs.ValueIndex.{key_text, node_attrs_length, value
 ghost use Rattle.dg_range.specs.ListValues.{values_along};
 ghost use Rattle.dg_session.specs.BatchCommand.{Bars};
 ghost use Rattle.dg_session.specs.Calls.{ReadsFile};
-ghost use Rattle.dg_session.specs.Damage.{TellsListDamage};
+ghost use Rattle.dg_session.specs.Damage.{MeetsOver, Tells, value_readings};
 ghost use Rattle.dg_session.specs.Reads.{IndexesFor, with_new_index};
 ghost use Rattle.dg_session.specs.Session.{ComesTo, HoldsImage, StandsFor, index_needs, is_indexed_by, refused_by};
 ghost use Rattle.dg_session.specs.ValuesSaid.{AreFound, IndexKept, all_said_with, kept_of};
@@ -109,7 +109,7 @@ impl Session {
 
         // why there is none
         ensures cause { IsErrOf result RecordFault.Disk → Fails D.Disk disk.old disk.new }
-        ensures damage { TellsListDamage self.now.parts (D.image disk.old) values_along result }
+        ensures damage { Tells (MeetsOver value_readings self.now.parts (D.image disk.old)) result }
 
         // what it leaves
         ensures disk { ReadsDisk D.Disk disk.old disk.new }

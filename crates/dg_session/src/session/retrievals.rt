@@ -11,7 +11,7 @@ ghost use Rattle.dg_machine.specs.MachineState.{MachineState};
 ghost use Rattle.dg_retrieval.specs.Beginnings.{leads_in, led_to};
 ghost use Rattle.dg_retrieval.specs.NamesThere.{NamesAreThere};
 ghost use Rattle.dg_session.specs.Calls.{ReadsFile};
-ghost use Rattle.dg_session.specs.Damage.{Graphs, TellsGraphDamage};
+ghost use Rattle.dg_session.specs.Damage.{MeetsOver, Tells, graph_readings};
 ghost use Rattle.dg_session.specs.Reads.{HasRetrieved, RetrievesFor, bases_of, listed_by, with_new_handles};
 ghost use Rattle.dg_session.specs.Session.{ComesTo, HoldsImage, StandsFor, refused_by, retrieval_needs};
 ghost use Rattle.dg_batch.specs.declared.stop.Stop.TheVariants as stop;
@@ -50,7 +50,7 @@ impl Session {
 
         // why nothing is
         ensures cause { IsErrOf result RecordFault.Disk → Fails D.Disk disk.old disk.new }
-        ensures damage { TellsGraphDamage self.old.parts (D.image disk.old) (times.now, cols) result }
+        ensures damage { Tells (MeetsOver (graph_readings times.now cols) self.old.parts (D.image disk.old)) result }
 
         // what it leaves
         ensures same { self.new ≡ self.old }

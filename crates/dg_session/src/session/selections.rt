@@ -19,7 +19,7 @@ ghost use Rattle.dg_machine.specs.declared.stands.Shown.TheVariants as kind;
 ghost use Rattle.dg_retrieval.specs.Beginnings.{leads_in, led_to};
 ghost use Rattle.dg_retrieval.specs.NamesThere.{NamesAreThere};
 ghost use Rattle.dg_session.specs.Calls.{ReadsFile};
-ghost use Rattle.dg_session.specs.Damage.{TellsListDamage, events_between};
+ghost use Rattle.dg_session.specs.Damage.{MeetsOver, Tells, interval_readings};
 ghost use Rattle.dg_session.specs.Reads.{AddsFor, listed_by, with_new_handles};
 ghost use Rattle.dg_session.specs.Session.{ComesTo, HoldsImage, StandsFor};
 ghost use Rattle.dg_batch.specs.declared.stop.Stop.TheVariants as stop;
@@ -175,7 +175,7 @@ impl Session {
 
         // why nothing is
         ensures cause { IsErrOf result RecordFault.Disk → Fails D.Disk disk.old disk.new }
-        ensures damage { TellsListDamage self.now.parts (D.image disk.old) (events_between from until cols) result }
+        ensures damage { Tells (MeetsOver (interval_readings from until cols) self.now.parts (D.image disk.old)) result }
 
         // what it leaves
         ensures disk { ReadsDisk D.Disk disk.old disk.new }

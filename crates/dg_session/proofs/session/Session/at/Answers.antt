@@ -10,7 +10,7 @@ use Rattle.dg_machine.specs.Needs.{needs}
 use Rattle.dg_retrieval.specs.Beginnings.{leads_in, led_to}
 use Rattle.dg_session.specs.SessionState.{SessionState}
 use Rattle.dg_batch.specs.declared.halt.Halt.TheVariants as halt
-use Rattle.dg_session.specs.Damage.{DamageIn, DamageIs, MeetsNone, reads_for}
+use Rattle.dg_session.specs.Damage.{DamageIn, DamageIs, MeetsNone, graph_readings, reads_for}
 use Rattle.dg_batch.specs.Halt.{retrieval_halt}
 use Rattle.dg_session.specs.Parts.{Parts}
 use Rattle.dg_session.specs.Reads.{ReadsIn, bases_of, listed_by, with_new_handles, Reads}
@@ -68,7 +68,7 @@ returns-in_err-leads-clause-file g c = record {
   damaged =
       handed_out c.from_residual.result (retrieval_halt c.in_err-leads.field-0.0)
       (λ r. DamageIn (command.At c.args.t c.args.cols) c.args.self.now.parts (g.D.Disk.image c.args.disk.now) r) c.from_residual.ensures
-      (damage_in (command.At c.args.t c.args.cols) c.args.self.now.parts (g.D.Disk.image c.args.disk.now) (c.args.t ∷ []) c.args.cols c.in_err-leads.field-0.0 refl c.in_err-leads.ensures.damage);
+      (damage_in (command.At c.args.t c.args.cols) (graph_readings (c.args.t ∷ []) c.args.cols) c.args.self.now.parts (g.D.Disk.image c.args.disk.now) c.in_err-leads.field-0.0 refl c.in_err-leads.ensures.damage);
   undamaged = none_met c.from_residual.result (MeetsNone (reads_for (command.At c.args.t c.args.cols)) c.args.self.now.parts (g.D.Disk.image c.args.disk.now)) c.from_residual.ensures.0;
   reads =
       handed_out c.from_residual.result (retrieval_halt c.in_err-leads.field-0.0)

@@ -26,7 +26,7 @@ use Rattle.dg_session.proofs.SessionLeads.{most_of, never_of, retrieved_of, take
 use Rattle.dg_session.proofs.SessionRetrievals.{reads_exactly, reads_failing, reads_unasked, retrieval_failed, retrieval_free, without_handles}
 use Rattle.dg_session.proofs.SessionSelectionStep.{chosen_answers, chosen_fails}
 use Rattle.dg_session.proofs.SessionSteps.{handed_out, lacking_denies, refused_denies, refused_not_read}
-use Rattle.dg_session.specs.Damage.{DamageIn, DamageIs, MeetsNone, NamesDamage, Graphs, reads_for}
+use Rattle.dg_session.specs.Damage.{DamageIn, DamageIs, MeetsNone, MeetsOver, Reads_along, graph_readings, reads_for}
 use Rattle.dg_session.specs.Parts.{Parts}
 use Rattle.dg_session.specs.Reads.{IsRetrieved, Reads, ReadsIn, TakesAtMostRetrieval, bases_of, listed_by, with_new_handles}
 use Rattle.dg_session.specs.Session.{ComesTo, StandsFor, refused_by, retrieval_needs}
@@ -141,8 +141,8 @@ returns-in_err-leads-clause-file g c =
     let none : refused_by p 0 (retrieval_needs (instants_of (words_of c.args.expr)) 1) ≡ None = ap (λ ts. refused_by p 0 (retrieval_needs ts 1)) (sym asked) ∙ sym c.refused.ensures ∙ c.in_default.is in
     record {
       damaged = handed_out c.from_residual.result (retrieval_halt c.in_err-leads.field-0.0) (λ r. DamageIn done p image r) c.from_residual.ensures
-          (damage_in done p image (instants_of (words_of c.args.expr)) (graph_columns c.args.cols) c.in_err-leads.field-0.0 refl
-          (subst (λ ts. NamesDamage p image (ts, graph_columns c.args.cols) c.in_err-leads.field-0.0) asked c.in_err-leads.ensures.damage));
+          (damage_in done (graph_readings c.first_of-times.result.now (graph_columns c.args.cols)) p image c.in_err-leads.field-0.0
+          (ap (λ ts. Reads_along (graph_readings ts (graph_columns c.args.cols))) (sym asked)) c.in_err-leads.ensures.damage);
       undamaged = none_met c.from_residual.result (MeetsNone (reads_for done) p image) c.from_residual.ensures.0;
       reads = handed_out c.from_residual.result (retrieval_halt c.in_err-leads.field-0.0)
           (λ r. ReadsIn done p image r (g.D.Disk.taken c.args.disk.now) (g.D.Disk.taken c.retrieve.new.disk)) c.from_residual.ensures
@@ -195,7 +195,7 @@ returns-clause-file g c =
     let asked : c.first_of-times.result.now ≡ instants_of (words_of c.args.expr) = c.first_of-times.ensures.times ∙ c.instants-instants.ensures.times in
     record {
       damaged = subst (DamageIs done p image) (sym c.headed.ensures) tt;
-      undamaged = subst (λ ts. MeetsNone (Graphs ts read) p image) asked c.in_ok-leads.ensures.damage;
+      undamaged = subst (λ ts. MeetsOver (graph_readings ts read) p image None) asked c.in_ok-leads.ensures.damage;
       reads = subst (λ (x : Reply). Reads done p image x (g.D.Disk.taken c.args.disk.now) (g.D.Disk.taken c.retrieve.new.disk)) (sym c.headed.ensures)
           (reads_exactly done p image _ (g.D.Disk.taken c.args.disk.now) (g.D.Disk.taken c.retrieve.new.disk) refl refl (λ m got takes. takes)
           (taken_of p c.first_of-times.result.now read image (g.D.Disk.taken c.args.disk.now) (g.D.Disk.taken c.retrieve.new.disk) c.in_ok-leads.field-0 c.in_ok-leads.ensures.over));

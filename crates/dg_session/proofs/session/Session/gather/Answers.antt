@@ -4,7 +4,7 @@ use Rattle.dg_gather.specs.Gathered.{shown_by}
 use Rattle.dg_records.specs.declared.fault.RecordFault.TheVariants as fault
 use Rattle.dg_retrieval.specs.Beginnings.{GraphLead, leads_in, led_to}
 use Rattle.dg_retrieval.specs.NamesThere.{NamesAreThere}
-use Rattle.dg_session.specs.Damage.{TellsGraphDamage}
+use Rattle.dg_session.specs.Damage.{MeetsOver, Tells, graph_readings}
 use Rattle.dg_session.specs.Parts.{Parts}
 use Rattle.dg_session.specs.Reads.{listed_by}
 use Rattle.dg_session.specs.SessionState.{SessionState}
@@ -29,7 +29,7 @@ pub returns-in_err-leads-clause-damage : goal.returns-in_err-leads-clause-damage
 returns-in_err-leads-clause-damage g c =
     let p : Parts = c.args.self.now.parts in
     let told = g.D.Disk.image c.args.disk.now in
-    handed_out c.from_residual.result c.in_err-leads.field-0.0 (λ r. TellsGraphDamage p told (c.args.t ∷ [], c.args.cols) r) c.from_residual.ensures c.in_err-leads.ensures.damage
+    handed_out c.from_residual.result c.in_err-leads.field-0.0 (λ r. Tells (MeetsOver (graph_readings (c.args.t ∷ []) c.args.cols) p told) r) c.from_residual.ensures c.in_err-leads.ensures.damage
 
 pub returns-in_err-gathered-clause-over : goal.returns-in_err-gathered-clause-over
 returns-in_err-gathered-clause-over g c =
@@ -46,7 +46,7 @@ returns-in_err-gathered-clause-damage g c =
     let told = g.D.Disk.image c.args.disk.now in
     let before = g.D.Disk.taken c.args.disk.now in
     let after = g.D.Disk.taken c.retrieve.new.disk in
-    handed_out c.from_residual-in_err-gathered.result fault.Memory (λ r. TellsGraphDamage p told (c.args.t ∷ [], c.args.cols) r) c.from_residual-in_err-gathered.ensures
+    handed_out c.from_residual-in_err-gathered.result fault.Memory (λ r. Tells (MeetsOver (graph_readings (c.args.t ∷ []) c.args.cols) p told) r) c.from_residual-in_err-gathered.ensures
     (lacking_damage p c.args.t c.args.cols told before after c.in_ok-leads.field-0 c.in_ok-leads.ensures.damage)
 
 pub returns-clause-over : goal.returns-clause-over

@@ -9,11 +9,11 @@ use Rattle.dg_machine.specs.declared.reply.Reply.TheVariants as replied
 use Rattle.dg_machine.specs.Needs.{needs}
 use Rattle.dg_machine.specs.ValueIndex.{key_text}
 use Rattle.dg_range.specs.ListValues.{values_along}
-use Rattle.dg_session.proofs.DamageStep.{list_damage_in, none_met, tells_no_damage}
+use Rattle.dg_session.proofs.DamageStep.{damage_in, none_met, tells_no_damage}
 use Rattle.dg_session.proofs.SessionIndexStep.{index_answers, index_fails, index_most_of, index_never_of, index_said_of, index_taken_of, index_there}
 use Rattle.dg_session.proofs.SessionRetrievals.{reads_exactly, reads_failing, reads_unasked, retrieval_failed}
 use Rattle.dg_session.proofs.SessionSteps.{handed_out, lacking_denies, refused_denies, refused_not_read}
-use Rattle.dg_session.specs.Damage.{DamageIn, DamageIs, MeetsNone, reads_for}
+use Rattle.dg_session.specs.Damage.{DamageIn, DamageIs, MeetsNone, reads_for, value_readings}
 use Rattle.dg_session.specs.Parts.{Parts}
 use Rattle.dg_session.specs.Reads.{Reads, ReadsIn}
 use Rattle.dg_session.specs.Session.{Accepts, ComesTo, index_needs, refused_by}
@@ -138,7 +138,7 @@ returns-in_err-values-clause-file g c =
     let after = g.D.Disk.taken c.read_values.new.disk in
     record {
       damaged = handed_out c.from_residual-in_err-values.result (retrieval_halt f) (λ x. DamageIn done c.args.self.now.parts image x) c.from_residual-in_err-values.ensures
-          (subst (λ (x : Parts). DamageIn done x image (Err (retrieval_halt f))) (same g here) (list_damage_in done p image values_along f refl c.in_err-values.ensures.damage));
+          (subst (λ (x : Parts). DamageIn done x image (Err (retrieval_halt f))) (same g here) (damage_in done value_readings p image f refl c.in_err-values.ensures.damage));
       undamaged = none_met c.from_residual-in_err-values.result (MeetsNone (reads_for done) c.args.self.now.parts image) c.from_residual-in_err-values.ensures.0;
       reads = handed_out c.from_residual-in_err-values.result (retrieval_halt f) (λ x. ReadsIn done c.args.self.now.parts image x before after) c.from_residual-in_err-values.ensures
           (subst (λ (x : Parts). ReadsIn done x image (Err (retrieval_halt f)) before after) (same g here)

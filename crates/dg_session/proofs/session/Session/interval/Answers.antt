@@ -10,11 +10,11 @@ use Rattle.dg_machine.specs.declared.reply.Reply.{Reply}
 use Rattle.dg_machine.specs.declared.reply.Reply.TheVariants as replied
 use Rattle.dg_machine.specs.declared.selection.Selection.TheVariants.{Added}
 use Rattle.dg_machine.specs.Needs.{needs}
-use Rattle.dg_session.proofs.DamageStep.{list_damage_in, none_met, tells_no_damage}
+use Rattle.dg_session.proofs.DamageStep.{damage_in, none_met, tells_no_damage}
 use Rattle.dg_session.proofs.SessionIntervalStep.{interval_answers, interval_fails, interval_free, interval_most_of, interval_never_of, interval_set_of, interval_taken_of}
 use Rattle.dg_session.proofs.SessionRetrievals.{reads_exactly, reads_failing, reads_unasked, retrieval_failed}
 use Rattle.dg_session.proofs.SessionSteps.{handed_out, lacking_denies, refused_denies, refused_not_read}
-use Rattle.dg_session.specs.Damage.{DamageIn, DamageIs, MeetsNone, events_between, reads_for}
+use Rattle.dg_session.specs.Damage.{DamageIn, DamageIs, MeetsNone, interval_readings, reads_for}
 use Rattle.dg_session.specs.Parts.{Parts}
 use Rattle.dg_session.specs.Reads.{Reads, ReadsIn}
 use Rattle.dg_session.specs.Session.{ComesTo}
@@ -89,7 +89,7 @@ returns-in_err-elements-clause-file g c =
     let after = g.D.Disk.taken c.read_interval.new.disk in
     record {
       damaged = handed_out c.from_residual.result (retrieval_halt f) (λ r. DamageIn done p image r) c.from_residual.ensures
-          (list_damage_in done p image (events_between c.args.from c.args.until c.args.cols) f refl c.in_err-elements.ensures.damage);
+          (damage_in done (interval_readings c.args.from c.args.until c.args.cols) p image f refl c.in_err-elements.ensures.damage);
       undamaged = none_met c.from_residual.result (MeetsNone (reads_for done) p image) c.from_residual.ensures.0;
       reads = handed_out c.from_residual.result (retrieval_halt f) (λ r. ReadsIn done p image r before after) c.from_residual.ensures
           (reads_failing done p image f before after

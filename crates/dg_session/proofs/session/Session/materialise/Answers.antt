@@ -12,12 +12,12 @@ use Rattle.dg_machine.specs.Answer.{headed}
 use Rattle.dg_machine.specs.Needs.{needs}
 use Rattle.dg_session.specs.SessionState.{SessionState}
 use Rattle.dg_batch.specs.declared.halt.Halt.TheVariants as halt
-use Rattle.dg_session.specs.Damage.{DamageIn, DamageIs, MeetsNone, reads_for}
+use Rattle.dg_session.specs.Damage.{DamageIn, DamageIs, MeetsNone, node_readings, reads_for}
 use Rattle.dg_batch.specs.Halt.{retrieval_halt}
 use Rattle.dg_session.specs.Parts.{Parts}
 use Rattle.dg_session.specs.Reads.{ReadsIn, with_new_handles, Reads}
 use Rattle.dg_session.specs.Session.{ComesTo}
-use Rattle.dg_session.proofs.DamageStep.{node_damage_in, tells_no_damage, none_met}
+use Rattle.dg_session.proofs.DamageStep.{damage_in, tells_no_damage, none_met}
 use Rattle.dg_session.proofs.SessionNodeStep.{node_answers, node_fails, node_held_of, node_most_of, node_never_of, node_taken_of}
 use Rattle.dg_session.proofs.SessionRetrievals.{reads_failing, retrieval_failed, reads_exactly, reads_unasked}
 use Rattle.dg_session.proofs.SessionSteps.{handed_out, lacking_denies, refused_denies, refused_not_read}
@@ -67,7 +67,7 @@ returns-in_err-delta-clause-file g c = record {
   damaged =
       handed_out c.from_residual.result (retrieval_halt c.in_err-delta.field-0.0)
       (λ r. DamageIn (command.Materialise c.args.node c.args.cols) c.args.self.now.parts (g.D.Disk.image c.args.disk.now) r) c.from_residual.ensures
-      (node_damage_in (command.Materialise c.args.node c.args.cols) c.args.self.now.parts (g.D.Disk.image c.args.disk.now) c.args.node c.args.cols c.in_err-delta.field-0.0 refl c.in_err-delta.ensures.damage);
+      (damage_in (command.Materialise c.args.node c.args.cols) (node_readings c.args.node c.args.cols) c.args.self.now.parts (g.D.Disk.image c.args.disk.now) c.in_err-delta.field-0.0 refl c.in_err-delta.ensures.damage);
   undamaged = none_met c.from_residual.result (MeetsNone (reads_for (command.Materialise c.args.node c.args.cols)) c.args.self.now.parts (g.D.Disk.image c.args.disk.now)) c.from_residual.ensures.0;
   reads =
       handed_out c.from_residual.result (retrieval_halt c.in_err-delta.field-0.0)

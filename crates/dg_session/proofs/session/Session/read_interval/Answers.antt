@@ -1,8 +1,10 @@
 use Rattle.std.proofs.Common.{length, sym, ap, subst}
+use Rattle.dg_range.specs.Added.{range_columns}
 use Rattle.dg_retrieval.specs.NamesThere.{EventNamesAreThere}
+use Rattle.dg_session.specs.Damage.{interval_readings}
 use Rattle.dg_session.specs.Parts.{Parts}
 use Rattle.dg_session.specs.SessionState.{SessionState}
-use Rattle.dg_session.proofs.DamageStep.{list_damage_over}
+use Rattle.dg_session.proofs.DamageStep.{columns_tell, damage_over}
 use Rattle.dg_session.proofs.SessionIntervalStep.{added_named, adds_for}
 use Rattle.dg_session.proofs.SessionRetrievals.{IsSession, is_session}
 use Rattle.dg_session.proofs.session.Session.read_interval.Goals as goal
@@ -33,4 +35,5 @@ returns-clause-damage g c =
     let o = c.in-Some.index.opening in
     let recent = c.deref.result.now in
     let is : IsSession p o c.len.result recent = is_session p c.self.inside c.in-Some.index c.len.result recent (ap (λ (x : SessionState). x.parts) c.self.view_is) c.in-Some.is c.len.ensures.len c.deref.ensures.value in
-    list_damage_over p o c.args.from c.args.until c.args.cols (g.D.Disk.image c.args.disk.now) c.len.result c.read_added.result is.there is.count c.read_added.ensures.damage
+    damage_over (interval_readings c.args.from c.args.until c.args.cols) p o (g.D.Disk.image c.args.disk.now) c.len.result c.read_added.result is.there is.count c.read_added.ensures.damage
+    (λ bytes d. columns_tell c.len.result o (range_columns o c.args.from c.args.until c.args.cols) bytes c.read_added.result d)

@@ -1,7 +1,9 @@
 use Rattle.std.proofs.Common.{ap}
+use Rattle.dg_session.specs.Damage.{value_readings}
 use Rattle.dg_session.specs.Parts.{Parts}
 use Rattle.dg_session.specs.SessionState.{SessionState}
-use Rattle.dg_session.proofs.SessionIndexStep.{indexes_for, value_damage_over}
+use Rattle.dg_session.proofs.DamageStep.{damage_over, values_tell}
+use Rattle.dg_session.proofs.SessionIndexStep.{indexes_for}
 use Rattle.dg_session.proofs.SessionRetrievals.{IsSession, is_session}
 use Rattle.dg_session.proofs.session.Session.read_values.Goals as goal
 
@@ -20,4 +22,5 @@ returns-clause-damage g c =
     let o = c.in-Some.index.opening in
     let recent = c.deref.result.now in
     let is : IsSession p o c.len.result recent = is_session p c.self.inside c.in-Some.index c.len.result recent (ap (λ (x : SessionState). x.parts) c.self.view_is) c.in-Some.is c.len.ensures.len c.deref.ensures.value in
-    value_damage_over p o (g.D.Disk.image c.args.disk.now) c.len.result c.read_values.result is.there is.count c.read_values.ensures.damage
+    damage_over value_readings p o (g.D.Disk.image c.args.disk.now) c.len.result c.read_values.result is.there is.count c.read_values.ensures.damage
+    (λ bytes d. values_tell c.len.result o bytes c.read_values.result d)

@@ -11,7 +11,7 @@ use Rattle.dg_machine.specs.Needs.{needs}
 use Rattle.dg_retrieval.specs.Beginnings.{leads_in, led_to}
 use Rattle.dg_session.specs.SessionState.{SessionState}
 use Rattle.dg_batch.specs.declared.halt.Halt.TheVariants as halt
-use Rattle.dg_session.specs.Damage.{DamageIn, Graphs, MeetsNone, NamesDamage, reads_for}
+use Rattle.dg_session.specs.Damage.{DamageIn, MeetsNone, MeetsOver, Reads_along, graph_readings, reads_for}
 use Rattle.dg_batch.specs.Halt.{retrieval_halt}
 use Rattle.dg_session.specs.Parts.{Parts}
 use Rattle.dg_session.specs.Reads.{IsRetrieved, ReadsIn, TakesAtMostRetrieval, bases_of, listed_by, with_new_handles}
@@ -102,8 +102,8 @@ returns-in_err-retrieved-clause-file g c = record {
       let image = g.D.Disk.image c.args.disk.now in
       let asked : c.first_of-asked.result.now ≡ take c.args.count c.args.times = c.first_of-asked.ensures.times in
       handed_out c.from_residual.result (retrieval_halt c.in_err-retrieved.field-0.0) (λ r. DamageIn (command.Several c.args.cols c.args.times c.args.count) p image r) c.from_residual.ensures
-      (damage_in (command.Several c.args.cols c.args.times c.args.count) p image (take c.args.count c.args.times) c.args.cols c.in_err-retrieved.field-0.0 refl
-      (subst (λ ts. NamesDamage p image (ts, c.args.cols) c.in_err-retrieved.field-0.0) asked c.in_err-retrieved.ensures.damage));
+      (damage_in (command.Several c.args.cols c.args.times c.args.count) (graph_readings c.first_of-asked.result.now c.args.cols) p image c.in_err-retrieved.field-0.0
+      (ap (λ ts. Reads_along (graph_readings ts c.args.cols)) (sym asked)) c.in_err-retrieved.ensures.damage);
   undamaged = none_met c.from_residual.result (MeetsNone (reads_for (command.Several c.args.cols c.args.times c.args.count)) c.args.self.now.parts (g.D.Disk.image c.args.disk.now)) c.from_residual.ensures.0;
   reads =
       let p : Parts = c.args.self.now.parts in
@@ -150,6 +150,6 @@ returns-in_err-add_handles-clause-file g c = record {
 pub returns-clause-file : goal.returns-clause-file
 returns-clause-file g c = record {
   damaged = tt;
-  undamaged = subst (λ ts. MeetsNone (Graphs ts c.args.cols) c.args.self.now.parts (g.D.Disk.image c.args.disk.now)) c.first_of-asked.ensures.times c.in_ok-retrieved.ensures.damage;
+  undamaged = subst (λ ts. MeetsOver (graph_readings ts c.args.cols) c.args.self.now.parts (g.D.Disk.image c.args.disk.now) None) c.first_of-asked.ensures.times c.in_ok-retrieved.ensures.damage;
   reads = reads_exactly (command.Several c.args.cols c.args.times c.args.count) c.args.self.now.parts (g.D.Disk.image c.args.disk.now) _ (g.D.Disk.taken c.args.disk.now) (g.D.Disk.taken c.retrieve.new.disk) refl refl (λ m got takes. takes) (taken_of c.args.self.now.parts c.first_of-asked.result.now c.args.cols (g.D.Disk.image c.args.disk.now) (g.D.Disk.taken c.args.disk.now) (g.D.Disk.taken c.retrieve.new.disk) c.in_ok-retrieved.retrieved c.in_ok-retrieved.ensures.over);
 }
