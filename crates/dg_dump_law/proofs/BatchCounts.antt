@@ -1,5 +1,5 @@
 -- Each command of a script for a batch tells a number of lines that a batch may have, and no more lines follow it.
-use Rattle.std.proofs.Common.{◌≡◌, ℕ, zero, suc, ◌≤◌, Bool, true, false, ◌&&◌, List, [], ◌∷◌, ◌++◌, Option, Some, None, length, take, nat_le, refl, subst, arith, decimal}
+use Rattle.std.proofs.Common.{◌≡◌, ℕ, zero, suc, ◌+◌, ◌≤◌, Bool, true, false, ◌&&◌, List, [], ◌∷◌, ◌++◌, Option, Some, None, length, map, take, drop, nat_le, refl, subst, arith, decimal}
 use Rattle.std.specs.Prelude.{if◌then◌else◌, option_and_then, codes}
 use Rattle.std.specs.List.{AllByRecursion, join_with_byte}
 use Rattle.std.specs.Option.{option_map, option_or}
@@ -15,14 +15,15 @@ use Rattle.dg_machine.specs.declared.command.Command.TheVariants as command
 use Rattle.dg_machine.specs.declared.command.TheConstants.{TIMES_MAX}
 use Rattle.dg_machine.specs.declared.query.Query.{Query}
 use Rattle.dg_machine.specs.declared.selection.Selection.TheVariants.{Chosen}
-use Rattle.dg_machine.specs.CommandGrammar.{asking, choice_of, columns_of, command_of, command_verbs, count_from_0, count_of, create_of, function_of, handle_of, heard_columns_of, held_node_verbs, key_word, n32_of, search_of, several_of, several_with, skewed_of, sweep_of, times_of}
+use Rattle.dg_machine.specs.CommandGrammar.{asking, asking_verb, choice_of, columns_of, command_of, command_verbs, count_from_0, count_of, create_of, function_of, handle_of, heard_columns_of, held_node_verbs, key_word, n32_of, search_of, several_of, several_with, skewed_of, sweep_of, times_of}
 use Rattle.dg_machine.specs.Needs.{following}
+use Rattle.dg_machine.specs.QueryTable.{query_verbs}
 use Rattle.dg_machine.specs.Script.{Asked, Command_is, Entry, Long_line, Meaning, No_command, Other, Skipped, entries_within, first_entry, is_skipped, meaning, read_as, script}
 use Rattle.dg_machine.specs.ValueIndex.{value_of}
 use Rattle.dg_machine.proofs.VerbTables.{each_read_by}
 use Rattle.dg_changes.specs.ChangeGrammar.{id_of, time_of, value_text_of}
 use Rattle.dg_text.specs.Lines.{Long, ScriptLine, Text, lines_of}
-use Rattle.dg_text.specs.Verbs.{four_words, is_word, none_more, one, read_by, three, two_words}
+use Rattle.dg_text.specs.Verbs.{Verb, four_words, is_word, none_more, one, read_by, three, two_words}
 use Rattle.dg_text.specs.Words.{number, words}
 
 -- so many lines make a batch
@@ -183,76 +184,49 @@ search_counts (time ∷ key ∷ word ∷ more) x e =
     let v = map_is (λ v. command.Find t.0 k.0 (value_of v)) (value_text_of (join_with_byte 32 (word ∷ more))) x k.2 in
     subst CountsBatch v.2 tt
 
+-- what each verb reads has the property
+abbrev EachCounts : List (Verb Command) → Type 0
+EachCounts verbs = AllByRecursion (λ (v : Verb Command). Gives CountsBatch v.read) verbs
+
+-- the verbs of queries, and the verbs behind them
+asking_then : (verbs : List (Verb Query)) (more : List (Verb Command)) → EachCounts more → EachCounts (map asking_verb verbs ++ more)
+asking_then [] more all = all
+asking_then (v ∷ verbs) more all = (asking_counts v.read, asking_then verbs more all)
+
+abbrev behind_queries : List (Verb Command)
+behind_queries = drop (6 + length query_verbs) command_verbs
+
+infixr 60 ◌▸◌
+-- what a verb reads, and what the verbs after it in the table read
+abbrev ◌▸◌ : {A B : Type 0} → A → B → A × B
+a ▸ b = (a, b)
+
+each_counts : EachCounts command_verbs
+each_counts =
+    create_counts
+    ▸ one_gives count_of _ IsCount CountsBatch (number_fits 1 BATCH_LINES_MAX) (λ n p. p)
+    ▸ one_gives count_of _ IsCount CountsBatch (number_fits 1 BATCH_LINES_MAX) (λ n p. p)
+    ▸ two_any time_of heard_columns_of _ (λ t cols. tt)
+    ▸ several_counts
+    ▸ node_counts
+    ▸ asking_then query_verbs behind_queries
+    (one_any handle_of _ (λ h. tt)
+    ▸ one_gives sweep_of (λ c. c) CountsBatch CountsBatch sweep_counts (λ c p. p)
+    ▸ none_more_gives CountsBatch command.Pool tt
+    ▸ two_any time_of columns_of _ (λ t cols. tt)
+    ▸ three_gives time_of columns_of count_from_0 _ CountsBatch (λ t cols n. tt)
+    ▸ none_more_gives CountsBatch command.Verify tt
+    ▸ none_more_gives CountsBatch command.Upgrade tt
+    ▸ none_more_gives CountsBatch command.Tree tt
+    ▸ two_gives id_of count_of _ IsCount CountsBatch (number_fits 1 BATCH_LINES_MAX) (λ seed n p. p)
+    ▸ three_gives time_of time_of heard_columns_of _ CountsBatch (λ from until cols. tt)
+    ▸ one_any key_word _ (λ key. tt)
+    ▸ choice_counts
+    ▸ search_counts
+    ▸ tt)
+
 command_counts : (line : List ℕ) (c : Command) → command_of line ≡ Some c → CountsBatch c
-command_counts line c e =
-    each_read_by CountsBatch command_verbs (
-      create_counts,
-      (
-        one_gives count_of _ IsCount CountsBatch (number_fits 1 BATCH_LINES_MAX) (λ n p. p),
-        (
-          one_gives count_of _ IsCount CountsBatch (number_fits 1 BATCH_LINES_MAX) (λ n p. p),
-          (
-            two_any time_of heard_columns_of _ (λ t cols. tt),
-            (
-              several_counts,
-              (
-                node_counts,
-                (
-                  asking_counts _,
-                  (
-                    asking_counts _,
-                    (
-                      asking_counts _,
-                      (
-                        asking_counts _,
-                        (
-                          one_any handle_of _ (λ h. tt),
-                          (
-                            one_gives sweep_of (λ c. c) CountsBatch CountsBatch sweep_counts (λ c p. p),
-                            (
-                              none_more_gives CountsBatch command.Pool tt,
-                              (
-                                two_any time_of columns_of _ (λ t cols. tt),
-                                (
-                                  three_gives time_of columns_of count_from_0 _ CountsBatch (λ t cols n. tt),
-                                  (
-                                    none_more_gives CountsBatch command.Verify tt,
-                                    (
-                                      none_more_gives CountsBatch command.Upgrade tt,
-                                      (
-                                        none_more_gives CountsBatch command.Tree tt,
-                                        (
-                                          two_gives id_of count_of _ IsCount CountsBatch (number_fits 1 BATCH_LINES_MAX) (λ seed n p. p),
-                                          (
-                                            three_gives time_of time_of heard_columns_of _ CountsBatch (λ from until cols. tt),
-                                            (
-                                              one_any key_word _ (λ key. tt),
-                                              (
-                                                choice_counts,
-                                                (search_counts, tt),
-                                              ),
-                                            ),
-                                          ),
-                                        ),
-                                      ),
-                                    ),
-                                  ),
-                                ),
-                              ),
-                            ),
-                          ),
-                        ),
-                      ),
-                    ),
-                  ),
-                ),
-              ),
-            ),
-          ),
-        ),
-      ),
-    )
-    (words line) c e
+command_counts line c e = each_read_by CountsBatch command_verbs each_counts (words line) c e
 
 -- ---- the entries of a script
 
