@@ -7,3 +7,5 @@ pub mod LineTails
 pub mod CommandRows
 pub mod RowLines
 pub mod Loops
+pub mod FirstWords
+pub mod VerbLines

@@ -32,19 +32,19 @@ rows_next rows i d r ws o below at is =
     ap (λ (l : List Row). first_command l ws) (drop_at rows i d r below at) ∙ ap (λ (p : Option Command). option_or p (first_command (drop (i + 1) rows) ws)) (sym is)
 
 -- a word of a row
-pub words_next : (row : List Terminal) (i : ℕ) (values : List ℕ) (d t : Terminal) (ws rest : List (List ℕ)) (w : List ℕ) (make : List ℕ → List (List ℕ) → Option Command)
+pub words_next : (row : List Terminal) (i j : ℕ) (values : List ℕ) (d t : Terminal) (ws rest : List (List ℕ)) (w : List ℕ) (make : List ℕ → List (List ℕ) → Option Command)
     (o : Option ℕ) → i < length row → get_or row i d ≡ t → ws ≡ w ∷ rest → o ≡ word_value t w
-    → read_row i values (drop i row) make ws ≡ option_and_then (λ (v : ℕ). read_row (i + 1) (set values i v) (drop (i + 1) row) make rest) o
-words_next row i values d t ws rest w make o below at is value =
-    ap (λ (l : List Terminal). read_row i values l make ws) (drop_at row i d t below at) ∙ ap (read_row i values (t ∷ drop (i + 1) row) make) is
-    ∙ ap (λ (k : ℕ). option_and_then (λ (v : ℕ). read_row k (set values i v) (drop (i + 1) row) make rest) (word_value t w)) (let e : suc i ≡ i + 1 = omega arith in e)
-    ∙ ap (option_and_then (λ (v : ℕ). read_row (i + 1) (set values i v) (drop (i + 1) row) make rest)) (sym value)
+    → read_row j values (drop i row) make ws ≡ option_and_then (λ (v : ℕ). read_row (j + 1) (set values j v) (drop (i + 1) row) make rest) o
+words_next row i j values d t ws rest w make o below at is value =
+    ap (λ (l : List Terminal). read_row j values l make ws) (drop_at row i d t below at) ∙ ap (read_row j values (t ∷ drop (i + 1) row) make) is
+    ∙ ap (λ (k : ℕ). option_and_then (λ (v : ℕ). read_row k (set values j v) (drop (i + 1) row) make rest) (word_value t w)) (let e : suc j ≡ j + 1 = omega arith in e)
+    ∙ ap (option_and_then (λ (v : ℕ). read_row (j + 1) (set values j v) (drop (i + 1) row) make rest)) (sym value)
 
 -- no word is left for a row
-pub words_end : (row : List Terminal) (i : ℕ) (values : List ℕ) (d : Terminal) (ws : List (List ℕ)) (make : List ℕ → List (List ℕ) → Option Command) → i < length row → ws ≡ []
-    → read_row i values (drop i row) make ws ≡ None
-words_end row i values d ws make below is =
-    ap (read_row i values (drop i row) make) is ∙ ap (λ (l : List Terminal). read_row i values l make []) (drop_at row i d (get_or row i d) below refl)
+pub words_end : (row : List Terminal) (i j : ℕ) (values : List ℕ) (d : Terminal) (ws : List (List ℕ)) (make : List ℕ → List (List ℕ) → Option Command) → i < length row
+    → ws ≡ [] → read_row j values (drop i row) make ws ≡ None
+words_end row i j values d ws make below is =
+    ap (read_row j values (drop i row) make) is ∙ ap (λ (l : List Terminal). read_row j values l make []) (drop_at row i d (get_or row i d) below refl)
 
 abbrev pub moved : ℕ → Option ℕ → Option ℕ
 moved i o = option_map (λ (n : ℕ). i + n) o

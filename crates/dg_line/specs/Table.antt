@@ -1,5 +1,5 @@
 -- What the rows of a table of commands read: the values of words, and what is made of them.
-use Rattle.std.specs.Prelude.{ℕ, suc, ◌/◌, ◌%◌, ◌==◌, ◌&&◌, Bool, false, List, [], ◌∷◌, Option, Some, None, if◌then◌else◌, Any, length, map, max, min, nat_le, nat_lt, option_and_then, set, slice_index}
+use Rattle.std.specs.Prelude.{◌≡◌, ℕ, suc, ◌/◌, ◌%◌, ◌==◌, ◌&&◌, Bool, false, List, [], ◌∷◌, Option, Some, None, if◌then◌else◌, Any, length, map, max, min, nat_le, nat_lt, option_and_then, set, slice_index}
 use Rattle.std.specs.List.{join_with_byte, list_all}
 use Rattle.std.specs.Option.{option_map, option_or}
 use Rattle.dg_changes.specs.ChangeGrammar.{value_text_of}
@@ -123,13 +123,13 @@ end_command (end.Then t) vs ws = tail_command t vs ws
 abbrev pub zeros : List ℕ
 zeros = 0 ∷ 0 ∷ 0 ∷ 0 ∷ 0 ∷ []
 
--- a row by its symbols
+-- a row by its symbols: its verb is one text, and the others come behind it
 pub record Reading : Type 0 where
   pub symbols : List Terminal
   pub end : End
 
 abbrev pub reading_of : Row → Reading
-reading_of row = record { symbols = row_of row.0.now; end = row.1 }
+reading_of row = record { symbols = One_of (row.0.now ∷ []) ∷ row_of row.1.now; end = row.2 }
 
 -- the command that the words are by this row
 abbrev pub row_command : Reading → List (List ℕ) → Option Command
@@ -150,6 +150,11 @@ IsEndOf (end.Then t) symbols line = IsLineThen symbols (IsTail t) line
 
 abbrev pub IsReadBy : Reading → List ℕ → Type 0
 IsReadBy row line = IsEndOf row.end row.symbols line
+
+-- no word is behind the verb, and nothing else either
+abbrev pub IsVerbAlone : End → List Terminal → Type 0
+IsVerbAlone (end.Made m) behind = length behind ≡ 0
+IsVerbAlone (end.Then t) behind = ⊥
 
 abbrev pub IsReadByOne : List Reading → List ℕ → Type 0
 IsReadByOne rows line = Any (λ (row : Reading). IsReadBy row line) rows

@@ -1,17 +1,17 @@
 //! The two loops over a table of rows: the command that a line is, and how far a line goes along with the rows.
-ghost use Rattle.std.specs.Prelude.{◌≡◌, ◌≤◌, ℕ, ◌+◌, ◌<◌, List, None, Option, MatchOption, IfSome, IsTrue, length, map, set, take, option_and_then};
+ghost use Rattle.std.specs.Prelude.{◌≡◌, ◌≤◌, ℕ, ◌+◌, ◌<◌, ◌↔◌, ◌∷◌, List, None, Option, MatchOption, IfSome, IsTrue, drop, length, map, set, take, option_and_then};
 ghost use Rattle.std.specs.List.{list_all};
 ghost use Rattle.dg_grammar.specs.Prefixes.{IsLongestPrefix};
-ghost use Rattle.dg_grammar.specs.Symbols.{row_of, terminal_of, word_texts};
-ghost use Rattle.dg_line.specs.Table.{IsReadBy, IsReadByOne, first_command, is_well_made, read_row, reading_of, row_command, text_index, word_value, zeros};
+ghost use Rattle.dg_grammar.specs.Symbols.{is_well_formed, row_of, terminal_of, word_texts};
+ghost use Rattle.dg_line.specs.Table.{IsEndOf, IsReadBy, IsReadByOne, IsVerbAlone, end_command, first_command, is_well_made, read_row, reading_of, row_command, text_index, word_value, zeros};
 ghost use Rattle.dg_machine.specs.CommandGrammar.{CountIsInRange};
 ghost use Rattle.dg_machine.specs.declared.command.Command.{Command};
 ghost use Rattle.dg_text.specs.Words.{words};
 
-use crate::table::{End, Row, SYMBOLS_MAX, made};
+use crate::table::{End, Row, WORDS_MAX, made};
 use crate::tails::then_prefix;
 use crate::words::{Words, found, is, number};
-use dg_grammar::{Symbol, longest_prefix};
+use dg_grammar::{Symbol, has_space_at, longest_prefix, words_prefix};
 use dg_machine::Command;
 
 /// The command that the line is by the first of the rows that reads it.
@@ -20,12 +20,34 @@ pub(crate) fn command(rows: &[Row], line: &[u8]) -> Option<Command>
     ensures command { result ≡ first_command rows.now (words line.now) }
     ensures range { IfSome result (λ c. CountIsInRange c) }
 {
+    let verb = first_word(line);
     for row in rows {
-        if let Some(command) = row.command(line) {
+        if let Some(command) = row.command(verb, line) {
             return Some(command);
         }
     }
     None
+}
+
+// The first word of a line. It may be empty.
+fn first_word(line: &[u8]) -> &[u8]
+    ensures { words line.now ≡ result.now ∷ drop 1 (words line.now) }
+{
+    match Words::of(line).next() {
+        Some(word) => word,
+        None => line,
+    }
+}
+
+// The words of the line behind its first.
+fn words_behind<'a>(first: &[u8], line: &'a [u8]) -> Words<'a>
+    requires { words line.now ≡ first.now ∷ drop 1 (words line.now) }
+    ensures { result ≡ drop 1 (words line.now) }
+{
+    // An empty word, and behind the space the rest of the line.
+    let mut words = Words::of(&line[first.len()..]);
+    let _empty = words.next();
+    words
 }
 
 /// The length of the longest prefix of the line that is a prefix of a line of some row.
@@ -41,15 +63,28 @@ pub(crate) fn command_prefix(rows: &[Row], line: &[u8]) -> usize
 }
 
 impl Row {
-    // The command that the line is by this row.
-    fn command(self, line: &[u8]) -> Option<Command>
-        requires { IsTrue (is_well_made (reading_of self)) }
+    // The command that the line is by this row. Where the first word is another than its verb, no other word is looked at.
+    #[inline(always)]
+    fn command(self, first: &[u8], line: &[u8]) -> Option<Command>
+        requires made { IsTrue (is_well_made (reading_of self)) }
+        requires first { words line.now ≡ first.now ∷ drop 1 (words line.now) }
         ensures command { result ≡ row_command (reading_of self) (words line.now) }
         ensures range { IfSome result (λ c. CountIsInRange c) }
     {
-        let mut words = Words::of(line);
-        let values = found!(values(self.0, &mut words));
-        match self.1 {
+        if !is(first, self.0) {
+            return None;
+        }
+        self.command_behind(words_behind(first, line))
+    }
+
+    // The command that its verb and these words behind it are.
+    fn command_behind(self, mut words: Words) -> Option<Command>
+        requires { length self.1.now < WORDS_MAX }
+        ensures command { result ≡ read_row 1 zeros (row_of self.1.now) (end_command self.2) words.entry }
+        ensures range { IfSome result (λ c. CountIsInRange c) }
+    {
+        let values = found!(values(self.1, &mut words));
+        match self.2 {
             End::Made(make) => {
                 found!(words.end());
                 Some(made(make, &values))
@@ -63,23 +98,52 @@ impl Row {
         requires { IsTrue (is_well_made (reading_of self)) }
         ensures { IsLongestPrefix (IsReadBy (reading_of self)) line.now result }
     {
-        match self.1 {
-            End::Made(_) => longest_prefix(&[self.0], line),
-            End::Then(tail) => then_prefix(self.0, tail, line),
+        let verb = words_prefix(&[self.0], line);
+        if !verb.whole {
+            return verb.bytes;
+        }
+        if !has_space_at(line, verb.bytes) {
+            return verb.bytes;
+        }
+        if self.is_verb_alone() {
+            return verb.bytes;
+        }
+        let next = verb.bytes + 1;
+        next + self.prefix_behind(&line[next..])
+    }
+
+    // Whether its verb is all of a line of this row.
+    fn is_verb_alone(self) -> bool
+        ensures { IsTrue result ↔ IsVerbAlone self.2 (row_of self.1.now) }
+    {
+        match self.2 {
+            End::Made(_) => self.1.is_empty(),
+            End::Then(_) => false,
+        }
+    }
+
+    // The length of the longest prefix of the bytes that is a prefix of what comes behind the verb of this row.
+    fn prefix_behind(self, rest: &[u8]) -> usize
+        requires { IsTrue (list_all is_well_formed (row_of self.1.now)) }
+        ensures { IsLongestPrefix (IsEndOf self.2 (row_of self.1.now)) rest.now result }
+    {
+        match self.2 {
+            End::Made(_) => longest_prefix(&[self.1], rest),
+            End::Then(tail) => then_prefix(self.1, tail, rest),
         }
     }
 }
 
-// The values of the first words, one for each symbol, with zeros behind them.
-fn values(symbols: &[Symbol], words: &mut Words) -> Option<[u64; SYMBOLS_MAX]>
-    requires { length symbols.now ≤ SYMBOLS_MAX }
+// The values of the words behind a verb, one for each symbol: that of the verb is 0, and zeros are behind them.
+fn values(symbols: &[Symbol], words: &mut Words) -> Option<[u64; WORDS_MAX]>
+    requires { length symbols.now < WORDS_MAX }
     ensures { MatchOption result
-        ((make : List ℕ → List (List ℕ) → Option Command) → read_row 0 zeros (row_of symbols.now) make words.old ≡ None)
-        (λ values. (make : List ℕ → List (List ℕ) → Option Command) → read_row 0 zeros (row_of symbols.now) make words.old ≡ make values words.new) }
+        ((make : List ℕ → List (List ℕ) → Option Command) → read_row 1 zeros (row_of symbols.now) make words.old ≡ None)
+        (λ values. (make : List ℕ → List (List ℕ) → Option Command) → read_row 1 zeros (row_of symbols.now) make words.old ≡ make values words.new) }
 {
-    let mut values = [0; SYMBOLS_MAX];
+    let mut values = [0; WORDS_MAX];
     for i in 0..symbols.len() {
-        values[i] = found!(value(symbols[i], found!(words.next())));
+        values[i + 1] = found!(value(symbols[i], found!(words.next())));
     }
     Some(values)
 }

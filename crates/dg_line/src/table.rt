@@ -9,12 +9,12 @@ use dg_graph::{Columns, Function, TIME_MAX};
 use dg_history::{BATCH_LINES_MAX, NodeId};
 use dg_machine::{Command, FIRST_HANDLE, Query, Selection};
 
-/// The most symbols of a row.
-pub(crate) const SYMBOLS_MAX: usize = 5;
+/// The most words of a row, its verb among them.
+pub(crate) const WORDS_MAX: usize = 5;
 
-/// The symbols of the words of a line, its verb the first, and what comes behind them.
+/// The verb of a line, the symbols of the words behind it, and what comes behind these.
 #[derive(Clone, Copy)]
-pub(crate) struct Row(pub &'static [Symbol], pub End);
+pub(crate) struct Row(pub &'static [u8], pub &'static [Symbol], pub End);
 
 /// What ends a line behind the words of a row.
 #[derive(Clone, Copy)]
@@ -73,113 +73,63 @@ const HEARD_COLUMNS: Symbol = Symbol::OneOf(&[
 // dg_machine's `command_verbs`.
 /// The rows of commands, in the order of that table. One space parts two words.
 pub(crate) const COMMANDS: &[Row] = &[
+    Row(b"create", &[N32, N32, FUNCTION], End::Made(Make::Create)),
     Row(
-        &[Symbol::OneOf(&[b"create"]), N32, N32, FUNCTION],
-        End::Made(Make::Create),
-    ),
-    Row(
-        &[
-            Symbol::OneOf(&[b"create"]),
-            N32,
-            N32,
-            Symbol::OneOf(&[b"skewed"]),
-            N32,
-        ],
+        b"create",
+        &[N32, N32, Symbol::OneOf(&[b"skewed"]), N32],
         End::Made(Make::CreateSkewed),
     ),
-    Row(&[Symbol::OneOf(&[b"load"]), COUNT], End::Made(Make::Load)),
+    Row(b"load", &[COUNT], End::Made(Make::Load)),
+    Row(b"append", &[COUNT], End::Made(Make::Append)),
+    Row(b"at", &[TIME, HEARD_COLUMNS], End::Made(Make::At)),
+    Row(b"several", &[HEARD_COLUMNS], End::Then(Tail::Instants)),
     Row(
-        &[Symbol::OneOf(&[b"append"]), COUNT],
-        End::Made(Make::Append),
-    ),
-    Row(
-        &[Symbol::OneOf(&[b"at"]), TIME, HEARD_COLUMNS],
-        End::Made(Make::At),
-    ),
-    Row(
-        &[Symbol::OneOf(&[b"several"]), HEARD_COLUMNS],
-        End::Then(Tail::Instants),
-    ),
-    Row(
-        &[
-            Symbol::OneOf(&[b"materialise"]),
-            Symbol::OneOf(&[b"leaf"]),
-            N32,
-            COLUMNS,
-        ],
+        b"materialise",
+        &[Symbol::OneOf(&[b"leaf"]), N32, COLUMNS],
         End::Made(Make::Leaf),
     ),
     Row(
-        &[
-            Symbol::OneOf(&[b"materialise"]),
-            Symbol::OneOf(&[b"inner"]),
-            N32,
-            N32,
-            COLUMNS,
-        ],
+        b"materialise",
+        &[Symbol::OneOf(&[b"inner"]), N32, N32, COLUMNS],
         End::Made(Make::Inner),
     ),
-    Row(&[Symbol::OneOf(&[b"list"]), HANDLE], End::Made(Make::List)),
+    Row(b"list", &[HANDLE], End::Made(Make::List)),
+    Row(b"counts", &[HANDLE], End::Made(Make::Counts)),
+    Row(b"node", &[HANDLE, ID], End::Made(Make::Node)),
+    Row(b"neighbours", &[HANDLE, ID], End::Made(Make::Neighbours)),
+    Row(b"release", &[HANDLE], End::Made(Make::Release)),
     Row(
-        &[Symbol::OneOf(&[b"counts"]), HANDLE],
-        End::Made(Make::Counts),
-    ),
-    Row(
-        &[Symbol::OneOf(&[b"node"]), HANDLE, ID],
-        End::Made(Make::Node),
-    ),
-    Row(
-        &[Symbol::OneOf(&[b"neighbours"]), HANDLE, ID],
-        End::Made(Make::Neighbours),
-    ),
-    Row(
-        &[Symbol::OneOf(&[b"release"]), HANDLE],
-        End::Made(Make::Release),
-    ),
-    Row(
-        &[Symbol::OneOf(&[b"clean"]), Symbol::OneOf(&[b"all"])],
+        b"clean",
+        &[Symbol::OneOf(&[b"all"])],
         End::Made(Make::CleanAll),
     ),
-    Row(&[Symbol::OneOf(&[b"clean"]), CELLS], End::Made(Make::Clean)),
-    Row(&[Symbol::OneOf(&[b"pool"])], End::Made(Make::Pool)),
+    Row(b"clean", &[CELLS], End::Made(Make::Clean)),
+    Row(b"pool", &[], End::Made(Make::Pool)),
+    Row(b"plan", &[TIME, COLUMNS], End::Made(Make::Plan)),
     Row(
-        &[Symbol::OneOf(&[b"plan"]), TIME, COLUMNS],
-        End::Made(Make::Plan),
-    ),
-    Row(
-        &[Symbol::OneOf(&[b"certify"]), TIME, COLUMNS, COUNT_FROM_0],
+        b"certify",
+        &[TIME, COLUMNS, COUNT_FROM_0],
         End::Made(Make::Certify),
     ),
-    Row(&[Symbol::OneOf(&[b"verify"])], End::Made(Make::Verify)),
-    Row(&[Symbol::OneOf(&[b"upgrade"])], End::Made(Make::Upgrade)),
-    Row(&[Symbol::OneOf(&[b"tree"])], End::Made(Make::Tree)),
+    Row(b"verify", &[], End::Made(Make::Verify)),
+    Row(b"upgrade", &[], End::Made(Make::Upgrade)),
+    Row(b"tree", &[], End::Made(Make::Tree)),
+    Row(b"workload", &[ID, COUNT], End::Made(Make::Workload)),
     Row(
-        &[Symbol::OneOf(&[b"workload"]), ID, COUNT],
-        End::Made(Make::Workload),
-    ),
-    Row(
-        &[Symbol::OneOf(&[b"interval"]), TIME, TIME, HEARD_COLUMNS],
+        b"interval",
+        &[TIME, TIME, HEARD_COLUMNS],
         End::Made(Make::Interval),
     ),
-    Row(&[Symbol::OneOf(&[b"index"])], End::Then(Tail::Key)),
-    Row(
-        &[Symbol::OneOf(&[b"expression"]), COLUMNS],
-        End::Then(Tail::Expression),
-    ),
-    Row(&[Symbol::OneOf(&[b"find"]), TIME], End::Then(Tail::Search)),
+    Row(b"index", &[], End::Then(Tail::Key)),
+    Row(b"expression", &[COLUMNS], End::Then(Tail::Expression)),
+    Row(b"find", &[TIME], End::Then(Tail::Search)),
 ];
 
 /// The rows of the commands that several parts of an index answer together.
 pub(crate) const PART_COMMANDS: &[Row] = &[
-    Row(
-        &[Symbol::OneOf(&[b"at"]), TIME, COLUMNS],
-        End::Made(Make::PlainAt),
-    ),
-    Row(&[Symbol::OneOf(&[b"list"]), HANDLE], End::Made(Make::List)),
-    Row(
-        &[Symbol::OneOf(&[b"release"]), HANDLE],
-        End::Made(Make::Release),
-    ),
+    Row(b"at", &[TIME, COLUMNS], End::Made(Make::PlainAt)),
+    Row(b"list", &[HANDLE], End::Made(Make::List)),
+    Row(b"release", &[HANDLE], End::Made(Make::Release)),
 ];
 
 /// Which command is made of the values of the words.
@@ -211,7 +161,7 @@ pub(crate) enum Make {
 }
 
 /// The command of these values: a number, or which of the texts of its symbol a word is. That of the verb is the first.
-pub(crate) fn made(make: Make, values: &[u64; SYMBOLS_MAX]) -> Command
+pub(crate) fn made(make: Make, values: &[u64; WORDS_MAX]) -> Command
     ensures command { result ≡ made_of make values.now }
     ensures range { CountIsInRange result }
 {

@@ -11,7 +11,7 @@ ghost use Rattle.dg_text.specs.Verbs.{one};
 ghost use Rattle.dg_line.specs.Table.{choice_with, instants_with, search_with, tail_command};
 ghost use Rattle.dg_line.specs.Tails.{IsInstantsText, IsKeyText, IsLineThen, IsSearchText, IsTail, IsValueText};
 
-use crate::table::{SYMBOLS_MAX, TIME, columns, heard_columns};
+use crate::table::{TIME, WORDS_MAX, columns, heard_columns};
 use crate::words::{Words, found, time};
 use dg_expr::{expression_prefix, read_expr};
 use dg_grammar::{SPACE, Symbol, has_space_at, longest_prefix};
@@ -57,7 +57,7 @@ pub(crate) fn then_prefix(row: &[Symbol], tail: Tail, line: &[u8]) -> usize
 
 impl Tail {
     /// The command of the values before such a tail, and of the words that it is.
-    pub(crate) fn command(self, values: &[u64; SYMBOLS_MAX], words: Words) -> Option<Command>
+    pub(crate) fn command(self, values: &[u64; WORDS_MAX], words: Words) -> Option<Command>
         ensures command { result ≡ tail_command self values.now words.entry }
         ensures range { IfSome result (λ c. CountIsInRange c) }
     {
