@@ -1,5 +1,5 @@
 -- The first word of a line, the words behind it, and the verb of a row.
-use Rattle.std.proofs.Common.{◌≡◌, ℕ, ◌≤◌, Bool, true, false, cond, List, [], ◌∷◌, ◌++◌, length, drop, set, Option, Some, None, option_and_then, refl, sym, ap, ◌∙◌, subst, arith, length-append}
+use Rattle.std.proofs.Common.{◌≡◌, ℕ, ◌≤◌, Bool, true, false, cond, List, [], ◌∷◌, length, drop, set, Option, Some, None, option_and_then, sym, ap, ◌∙◌, arith, length-append}
 use Rattle.std.specs.Borrow.{Bor}
 use Rattle.std.specs.Prelude.{MatchOption}
 use Rattle.std.proofs.Math.Seq.{drop-append_seam, drop-length}
@@ -7,7 +7,6 @@ use Rattle.dg_grammar.specs.Symbols.{Terminal, One_of}
 use Rattle.dg_grammar.proofs.Symbols.{Split, Whole, cut, words_cut}
 use Rattle.dg_line.specs.declared.table.End.{End}
 use Rattle.dg_line.specs.Table.{end_command, read_row, row_command, zeros}
-use Rattle.dg_machine.specs.declared.command.Command.{Command}
 use Rattle.dg_text.specs.Verbs.{is_word}
 use Rattle.dg_text.specs.Words.{words}
 

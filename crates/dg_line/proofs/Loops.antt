@@ -31,6 +31,16 @@ pub rows_next : (rows : List Row) (i : ℕ) (d r : Row) (ws : List (List ℕ)) (
 rows_next rows i d r ws o below at is =
     ap (λ (l : List Row). first_command l ws) (drop_at rows i d r below at) ∙ ap (λ (p : Option Command). option_or p (first_command (drop (i + 1) rows) ws)) (sym is)
 
+-- a row that reads nothing is passed by
+pub row_passed : (rows : List Row) (i : ℕ) (d : Row) (ws : List (List ℕ)) → i < length rows → row_command (reading_of (get_or rows i d)) ws ≡ None
+    → first_command (drop i rows) ws ≡ first_command (drop (i + 1) rows) ws
+row_passed rows i d ws below none = rows_next rows i d (get_or rows i d) ws None below refl (sym none)
+
+-- and so is a row with another verb
+pub other_passed : (rows : List Row) (i : ℕ) (d : Row) (ws : List (List ℕ)) (first : List ℕ) → i < length rows → ws ≡ first ∷ drop 1 ws
+    → ((rest : List (List ℕ)) → row_command (reading_of (get_or rows i d)) (first ∷ rest) ≡ None) → first_command (drop i rows) ws ≡ first_command (drop (i + 1) rows) ws
+other_passed rows i d ws first below e none = row_passed rows i d ws below (ap (row_command (reading_of (get_or rows i d))) e ∙ none (drop 1 ws))
+
 -- a word of a row
 pub words_next : (row : List Terminal) (i j : ℕ) (values : List ℕ) (d t : Terminal) (ws rest : List (List ℕ)) (w : List ℕ) (make : List ℕ → List (List ℕ) → Option Command)
     (o : Option ℕ) → i < length row → get_or row i d ≡ t → ws ≡ w ∷ rest → o ≡ word_value t w

@@ -1,11 +1,12 @@
 //! The two loops over a table of rows: the command that a line is, and how far a line goes along with the rows.
-ghost use Rattle.std.specs.Prelude.{◌≡◌, ◌≤◌, ℕ, ◌+◌, ◌<◌, ◌↔◌, ◌∷◌, List, None, Option, MatchOption, IfSome, IsTrue, drop, length, map, set, take, option_and_then};
+ghost use Rattle.std.specs.Prelude.{◌≡◌, ◌≤◌, ℕ, ◌+◌, ◌<◌, ◌↔◌, ◌∷◌, List, None, Option, MatchOption, IfSome, IsTrue, false, drop, length, map, set, take, option_and_then};
 ghost use Rattle.std.specs.List.{list_all};
 ghost use Rattle.dg_grammar.specs.Prefixes.{IsLongestPrefix};
 ghost use Rattle.dg_grammar.specs.Symbols.{is_well_formed, row_of, terminal_of, word_texts};
 ghost use Rattle.dg_line.specs.Table.{IsEndOf, IsReadBy, IsReadByOne, IsVerbAlone, end_command, first_command, is_well_made, read_row, reading_of, row_command, text_index, word_value, zeros};
 ghost use Rattle.dg_machine.specs.CommandGrammar.{CountIsInRange};
 ghost use Rattle.dg_machine.specs.declared.command.Command.{Command};
+ghost use Rattle.dg_text.specs.Verbs.{is_word};
 ghost use Rattle.dg_text.specs.Words.{words};
 
 use crate::table::{End, Row, WORDS_MAX, made};
@@ -22,8 +23,10 @@ pub(crate) fn command(rows: &[Row], line: &[u8]) -> Option<Command>
 {
     let verb = first_word(line);
     for row in rows {
-        if let Some(command) = row.command(verb, line) {
-            return Some(command);
+        if row.has_verb(verb) {
+            if let Some(command) = row.command(verb, line) {
+                return Some(command);
+            }
         }
     }
     None
@@ -63,17 +66,23 @@ pub(crate) fn command_prefix(rows: &[Row], line: &[u8]) -> usize
 }
 
 impl Row {
-    // The command that the line is by this row. Where the first word is another than its verb, no other word is looked at.
+    // Whether this is its verb. Behind another, no words are a command by this row.
     #[inline(always)]
+    fn has_verb(self, word: &[u8]) -> bool
+        ensures own { IsTrue result → IsTrue (is_word word.now self.0.now) }
+        ensures other { result ≡ false → (rest : List (List ℕ)) → row_command (reading_of self) (word.now ∷ rest) ≡ None }
+    {
+        is(word, self.0)
+    }
+
+    // The command that the line is by this row, whose verb is its first word.
     fn command(self, first: &[u8], line: &[u8]) -> Option<Command>
         requires made { IsTrue (is_well_made (reading_of self)) }
         requires first { words line.now ≡ first.now ∷ drop 1 (words line.now) }
+        requires verb { IsTrue (is_word first.now self.0.now) }
         ensures command { result ≡ row_command (reading_of self) (words line.now) }
         ensures range { IfSome result (λ c. CountIsInRange c) }
     {
-        if !is(first, self.0) {
-            return None;
-        }
         self.command_behind(words_behind(first, line))
     }
 

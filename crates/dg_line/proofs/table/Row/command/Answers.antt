@@ -2,17 +2,12 @@ use Rattle.std.proofs.Common.{◌∙◌, ap, drop, sym}
 use Rattle.dg_grammar.specs.Symbols.{row_of}
 use Rattle.dg_line.specs.Table.{end_command, read_row, zeros}
 use Rattle.dg_text.specs.Words.{words}
-use Rattle.dg_line.proofs.FirstWords.{other_verb, own_verb}
+use Rattle.dg_line.proofs.FirstWords.{own_verb}
 use Rattle.dg_line.proofs.table.Row.command.Goals as goal
-
-pub returns-then-not-is-clause-command : goal.returns-then-not-is-clause-command
-returns-then-not-is-clause-command c =
-    sym (other_verb c.args.self.0.now c.args.first.now (row_of c.args.self.1.now) c.args.self.2 (words c.args.line.now) (drop 1 (words c.args.line.now)) c.requires.first
-    (sym c.is.ensures ∙ c.if-not-is.true))
 
 pub returns-clause-command : goal.returns-clause-command
 returns-clause-command c =
     c.command_behind.ensures.command
     ∙ ap (read_row 1 zeros (row_of c.args.self.1.now) (end_command c.args.self.2)) c.words_behind.ensures
     ∙ sym (own_verb c.args.self.0.now c.args.first.now (row_of c.args.self.1.now) c.args.self.2 (words c.args.line.now) (drop 1 (words c.args.line.now)) c.requires.first
-    (sym c.is.ensures ∙ c.if-not-is.false))
+    c.requires.verb)
