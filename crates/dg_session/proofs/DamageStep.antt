@@ -133,7 +133,8 @@ pub graph_damage_over : (p : Parts) (o : Opening) (times : List ℕ) (cols : Col
     → IfSome told (λ image. TellsLeadDamage names edges o (points_over o recent times) times cols image r) → Tells (MeetsOver (graph_readings times cols) p told) r
 graph_damage_over p o times cols told names recent r is edges edges_is damage =
     damage_over (graph_readings times cols) p o told names r is.there is.count damage
-    (λ bytes d. subst (λ (x : List Edge × List Event). Tells (MeetAlong (along names x.0 o (points_over o x.1 times) times cols bytes cols.transient) names o bytes) r) (λ i. (edges_is i, is.all i))
+    (λ bytes d. subst (λ (x : List Edge × List Event). Tells (MeetAlong (along names x.0 o (points_over o x.1 times) times cols bytes cols.transient) names o bytes) r)
+    (let e : (edges, recent) ≡ (kept_edges o (event_total o.batches) cols (bases_in cols p.table), p.recent) = λ i. (edges_is i, is.all i) in e)
     (lead_tells names edges o (points_over o recent times) times cols bytes r d))
 
 -- what the command that reads so comes to by the fault, whatever it would have read

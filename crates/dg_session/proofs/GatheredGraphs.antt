@@ -1,5 +1,5 @@
 -- What is gathered of a part is what leads to the one graph that is retrieved.
-use Rattle.std.proofs.Common.{◌≡◌, inl, inr, ℕ, suc, List, [], ◌∷◌, Option, Result, Ok, Err, get_or, length, map, refl, sym, ◌∙◌, ap, subst, arith}
+use Rattle.std.proofs.Common.{◌≡◌, inr, ℕ, suc, List, [], ◌∷◌, Option, Result, Ok, Err, get_or, length, map, refl, sym, ◌∙◌, ap, subst, arith}
 use Rattle.std.specs.Prelude.{IfSome}
 use Rattle.std.proofs.lemmas.Option.{IfSome_then}
 use Rattle.dg_fold.specs.BytesRead.{Takes}
@@ -20,7 +20,6 @@ use Rattle.dg_records.specs.declared.fault.RecordFault.TheVariants as fault
 use Rattle.dg_retrieval.specs.declared.graph_lead.Beginning.{Beginning}
 use Rattle.dg_retrieval.specs.declared.retrieval.Retrieved.{Retrieved}
 use Rattle.dg_retrieval.specs.Beginnings.{begun_with, leads_from, leads_in, led_to}
-use Rattle.dg_session.specs.Damage.{MeetsOver, Tells, graph_readings}
 use Rattle.dg_session.specs.Gathering.{GathersFor}
 use Rattle.dg_session.specs.Parts.{Parts}
 use Rattle.dg_session.specs.Reads.{IsRetrieved, RetrievesFor, bases_of, listed_by}
@@ -83,10 +82,3 @@ module _ (p : Parts) (t : ℕ) (cols : Columns) (told : Option (List ℕ)) (befo
   -- memory lacks behind it
   pub memory_lacks : (x : Retrieved) → Over (Ok x) → Gathers (Err fault.Memory)
   memory_lacks x over = IfSome_then told over (λ image h m s. record { shown = tt; weighs = tt; takes = tt; never = inr refl })
-
-  -- what is told of damage
-  pub none_damaged : (x : Retrieved) (g : Gathered) → (let r : Result Retrieved RecordFault = Ok x in Tells (MeetsOver (graph_readings (t ∷ []) cols) p told) r) → (let r : Result Gathered RecordFault = Ok g in Tells (MeetsOver (graph_readings (t ∷ []) cols) p told) r)
-  none_damaged x g none = none
-
-  pub lacking_damage : (x : Retrieved) → (let r : Result Retrieved RecordFault = Ok x in Tells (MeetsOver (graph_readings (t ∷ []) cols) p told) r) → (let r : Result Gathered RecordFault = Err fault.Memory in Tells (MeetsOver (graph_readings (t ∷ []) cols) p told) r)
-  lacking_damage x none = tt

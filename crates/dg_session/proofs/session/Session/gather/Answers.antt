@@ -8,7 +8,7 @@ use Rattle.dg_session.specs.Damage.{MeetsOver, Tells, graph_readings}
 use Rattle.dg_session.specs.Parts.{Parts}
 use Rattle.dg_session.specs.Reads.{listed_by}
 use Rattle.dg_session.specs.SessionState.{SessionState}
-use Rattle.dg_session.proofs.GatheredGraphs.{Gathers, gathered_is, lacking_damage, memory_lacks, retrieval_fails}
+use Rattle.dg_session.proofs.GatheredGraphs.{Gathers, gathered_is, memory_lacks, retrieval_fails}
 use Rattle.dg_session.proofs.SessionSteps.{handed_out}
 use Rattle.dg_session.proofs.session.Session.gather.Goals as goal
 
@@ -44,10 +44,7 @@ pub returns-in_err-gathered-clause-damage : goal.returns-in_err-gathered-clause-
 returns-in_err-gathered-clause-damage g c =
     let p : Parts = c.args.self.now.parts in
     let told = g.D.Disk.image c.args.disk.now in
-    let before = g.D.Disk.taken c.args.disk.now in
-    let after = g.D.Disk.taken c.retrieve.new.disk in
-    handed_out c.from_residual-in_err-gathered.result fault.Memory (λ r. Tells (MeetsOver (graph_readings (c.args.t ∷ []) c.args.cols) p told) r) c.from_residual-in_err-gathered.ensures
-    (lacking_damage p c.args.t c.args.cols told before after c.in_ok-leads.field-0 c.in_ok-leads.ensures.damage)
+    handed_out c.from_residual-in_err-gathered.result fault.Memory (λ r. Tells (MeetsOver (graph_readings (c.args.t ∷ []) c.args.cols) p told) r) c.from_residual-in_err-gathered.ensures tt
 
 pub returns-clause-over : goal.returns-clause-over
 returns-clause-over g c =

@@ -8,7 +8,6 @@ use Rattle.dg_machine.specs.declared.reply.Reply.{Reply}
 use Rattle.dg_machine.specs.declared.reply.Reply.TheVariants as replied
 use Rattle.dg_machine.specs.Needs.{needs}
 use Rattle.dg_machine.specs.ValueIndex.{key_text}
-use Rattle.dg_range.specs.ListValues.{values_along}
 use Rattle.dg_session.proofs.DamageStep.{damage_in, none_met, tells_no_damage}
 use Rattle.dg_session.proofs.SessionIndexStep.{index_answers, index_fails, index_most_of, index_never_of, index_said_of, index_taken_of, index_there}
 use Rattle.dg_session.proofs.SessionRetrievals.{reads_exactly, reads_failing, reads_unasked, retrieval_failed}
