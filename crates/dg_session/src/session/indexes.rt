@@ -9,7 +9,6 @@ ghost use Rattle.dg_graph.specs.declared.element.Element.TheVariants as element;
 ghost use Rattle.dg_machine.specs.Answer.{headed};
 ghost use Rattle.dg_machine.specs.MachineState.{MachineState, history_in};
 ghost use Rattle.dg_machine.specs.ValueIndex.{key_text, node_attrs_length, value_text};
-ghost use Rattle.dg_range.specs.ListValues.{values_along};
 ghost use Rattle.dg_session.specs.BatchCommand.{Bars};
 ghost use Rattle.dg_session.specs.Calls.{ReadsFile};
 ghost use Rattle.dg_session.specs.Damage.{MeetsOver, Tells, value_readings};
