@@ -53,12 +53,9 @@ use Rattle.dg_text.specs.Lines.{ScriptLine}
 
 -- ---- plans without messages
 
-usable_same : (cols : Columns) (e : ℕ × Stands) → usable (graph_columns cols) e ≡ usable cols e
-usable_same cols e = refl
-
 bases_same : (cols : Columns) (table : List (ℕ × Stands)) → bases_in (graph_columns cols) table ≡ bases_in cols table
 bases_same cols [] = refl
-bases_same cols (e ∷ table) = λ i. usable_same cols e i ++ bases_same cols table i
+bases_same cols (e ∷ table) = λ i. usable cols e ++ bases_same cols table i
 
 -- no plan looks at messages
 pub edges_same : (m : MachineState) (cols : Columns) → edges_in m (graph_columns cols) ≡ edges_in m cols

@@ -1,5 +1,5 @@
 -- The answer to an upgrade of the file.
-use Rattle.std.proofs.Common.{◌≡◌, ◌⊎◌, inl, inr, ℕ, ◌<◌, ◌≤◌, Bool, true, false, List, [], Option, Some, None, Result, Ok, Err, get_or, length, map, nat_lt, refl, sym, ◌∙◌, ap, subst, arith, if◌then◌else◌}
+use Rattle.std.proofs.Common.{◌≡◌, ◌⊎◌, inl, inr, ℕ, ◌<◌, ◌≤◌, Bool, true, false, List, [], Option, Some, None, Result, Ok, Err, length, map, nat_lt, refl, sym, ◌∙◌, ap, subst, arith, if◌then◌else◌}
 use Rattle.std.specs.Prelude.{IfSome, is_some}
 use Rattle.std.specs.List.{All}
 use Rattle.std.proofs.lemmas.Bool.{false≢true}
@@ -27,7 +27,6 @@ use Rattle.dg_machine.specs.declared.reply.Refusal.TheVariants as refusal
 use Rattle.dg_machine.specs.declared.reply.Reply.{Reply}
 use Rattle.dg_machine.specs.declared.reply.Reply.TheVariants as replied
 use Rattle.dg_machine.specs.declared.stands.Stands.{Stands}
-use Rattle.dg_machine.specs.declared.selection.Selection.TheVariants.{Chosen, Added}
 use Rattle.dg_machine.specs.Answer.{Answered, answer, headed, is_refusal, refuse, upgrading}
 use Rattle.dg_machine.specs.CutImage.{IsAcceptedWrite, IsCut, As_before, As_after}
 use Rattle.dg_machine.specs.MachineState.{MachineState, elements, history_in}
@@ -84,13 +83,6 @@ first_form (form.Upgraded b) e = absurd (false≢true (sym e))
 first_form form.Two e = absurd (false≢true (sym e))
 
 -- ---- the history, upgraded
-
--- what handles stand for is as it was
-elements_stay : (z : History) (s : Stands) → elements z s ≡ elements (with_upgrade z) s
-elements_stay z s = refl
-
-reached_stays : (z : History) (s : Stands) → is_reached z s ≡ true → is_reached (with_upgrade z) s ≡ true
-reached_stays z s r = r
 
 -- the bytes that the marker needs are those of the upgraded file
 size_is : (z : History) → z.form ≡ form.One → needed_for_marker (opening_of z) ≡ size (with_upgrade z)
@@ -173,14 +165,13 @@ module _ (p : Parts) (limit : ℕ) (limit_is : limit ≡ p.limits.file_bytes) (n
         let index : Some (index_upgraded o) ≡ Some (opening_of (with_upgrade z)) =
         (λ i. Some (index_upgraded (h.opened i))) ∙ ap (λ (x : Opened). Some x.index) (sym (opened_upgraded z one)) in
         let graphs : p.graphs ≡ map (λ (e : ℕ × Stands). elements (with_upgrade z) e.1) m.table =
-        s.graphs ∙ ap (λ (i : Option History). map (λ (e : ℕ × Stands). elements (history_in i) e.1) m.table) h.index
-        ∙ (λ i. map (λ (e : ℕ × Stands). elements_stay z e.1 i) m.table) in
+        s.graphs ∙ ap (λ (i : Option History). map (λ (e : ℕ × Stands). elements (history_in i) e.1) m.table) h.index in
         let reached : All (λ (e : ℕ × Stands). is_reached z e.1 ≡ true) m.table =
         subst (λ (i : Option History). All (λ (e : ℕ × Stands). is_reached (history_in i) e.1 ≡ true) m.table) h.index s.reached in
         stands q after upgraded_in p.indexes
         (is ∙ (λ i. record { limits = s.limits i; index = index i; names = h.names i; graph = h.graph i; recent = h.recent i; table = s.table i; graphs = graphs i; next = s.next i; indexes = p.indexes }))
         (s.indexes ∙ ap (λ (i : Option History). map (said_over (events_of (history_in i))) m.indexes) h.index)
-        (gains z h.stands one) (λ k d lt. reached_stays z (get_or m.table k d).1 (reached k d lt)) (λ e. cc)
+        (gains z h.stands one) reached (λ e. cc)
 
   -- ---- what the command comes to
 
