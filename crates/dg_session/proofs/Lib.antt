@@ -33,6 +33,7 @@ pub mod GraphSets
 pub mod GatheredGraphs
 pub mod SessionGraphs
 pub mod KeptPlannerGraphs
+pub mod KeptPlanners
 pub mod SessionNodeStep
 pub mod HandleBases
 pub mod BatchCommandForms

@@ -1,32 +1,24 @@
 -- The answer to a release.
-use Rattle.std.proofs.Common.{◌≡◌, ℕ, Bool, true, false, ◌==◌, List, [], ◌∷◌, ◌++◌, Option, Some, None, if◌then◌else◌, map, length, refl, sym, ◌∙◌, ap, subst}
-use Rattle.std.specs.Prelude.{IfSome, is_some}
+use Rattle.std.proofs.Common.{◌≡◌, ℕ, Bool, true, false, ◌==◌, List, [], ◌∷◌, Option, None, if◌then◌else◌, map, length, refl, sym, ◌∙◌, ap, subst}
+use Rattle.std.specs.Prelude.{IfSome}
 use Rattle.std.specs.List.{All}
-use Rattle.std.proofs.lemmas.Bool.{false≢true}
-use Rattle.std.proofs.lemmas.List.Elements.{All-cons, All-head, All-nil, All-same, All-tail}
-use Rattle.dg_graph.specs.declared.element.Columns.{Columns}
+use Rattle.std.proofs.lemmas.List.Elements.{All-cons, All-head, All-tail}
 use Rattle.dg_graph.specs.declared.element.Element.{Element}
 use Rattle.dg_handles.specs.Handles.{graphs_without}
-use Rattle.dg_history.specs.declared.node.NodeId.{NodeId}
 use Rattle.dg_history.specs.History.{History}
 use Rattle.dg_machine.specs.declared.command.Command.TheVariants as command
 use Rattle.dg_machine.specs.declared.reply.Head.TheVariants as head
 use Rattle.dg_machine.specs.declared.reply.Reply.{Reply}
 use Rattle.dg_machine.specs.declared.stands.Stands.{Stands}
 use Rattle.dg_machine.specs.Answer.{Answered, headed, is_refusal}
-use Rattle.dg_machine.specs.MachineState.{MachineState, base_node, elements, stands_at, history_in, without_handle}
-use Rattle.dg_index.specs.OpenedIndex.{Opening}
+use Rattle.dg_machine.specs.MachineState.{MachineState, elements, history_in, without_handle}
 use Rattle.dg_machine.specs.Needs.{needs}
-use Rattle.dg_machine.specs.Planning.{base_if, bases_in, includes, usable}
-use Rattle.dg_planner.specs.Whole.{PlannerGraph}
-use Rattle.dg_ask.specs.KeptPlanner.{IsGraphOver, IsKeptFor}
-use Rattle.dg_ask.proofs.HeldIndexHandles.{kept_same}
 use Rattle.dg_session.proofs.ReplyNames.{head_names, names_stay}
 use Rattle.dg_session.proofs.PartStates.{kept, one_image, parts_of, stands}
 use Rattle.dg_session.proofs.SessionSteps.{moved}
 use Rattle.dg_session.specs.Decided.{Fits}
 use Rattle.dg_session.specs.Parts.{Parts}
-use Rattle.dg_session.specs.Session.{Accepts, StandsFor, is_of_node, is_reached, refused_by}
+use Rattle.dg_session.specs.Session.{Accepts, StandsFor, is_reached, refused_by}
 use Rattle.dg_stored.specs.StoredHistory.{IsHeldBy}
 
 -- what holds of all handles holds of those without one
@@ -37,41 +29,6 @@ all_without P handle (e ∷ table) h = by (e.0 == handle) (all_without P handle 
     by : (here : Bool) → All P (without_handle handle table) → All P (if here then table else e ∷ without_handle handle table)
     by true rest = All-tail P e table h
     by false rest = All-cons P e (without_handle handle table) (All-head P e table h) rest
-
--- ---- the planners that are kept
-
-pub none_usable : (cols : Columns) (e : ℕ × Stands) → is_of_node e.1 ≡ false → usable cols e ≡ []
-none_usable cols e overlay = by (base_node e.1.what) overlay
-  where
-    by : (o : Option NodeId) → is_some o ≡ false → base_if (includes e.1.cols cols) e.0 o ≡ []
-    by None none = refl
-    by (Some node) none = absurd (false≢true (sym none))
-
--- without a handle of no node the same handles can serve
-bases_without : (cols : Columns) (handle : ℕ) (table : List (ℕ × Stands)) (s : Stands) → stands_at handle table ≡ Some s → is_of_node s ≡ false
-    → bases_in cols (without_handle handle table) ≡ bases_in cols table
-bases_without cols handle [] s is overlay = refl
-bases_without cols handle (e ∷ table) s is overlay = by (e.0 == handle) (λ r. bases_without cols handle table s r overlay) is
-  where
-    same_kind : Some e.1 ≡ Some s → is_of_node e.1 ≡ is_of_node s
-    same_kind k = let one : e.1 ≡ s = cc in ap is_of_node one
-
-    by : (here : Bool) → (stands_at handle table ≡ Some s → bases_in cols (without_handle handle table) ≡ bases_in cols table)
-        → (if here then Some e.1 else stands_at handle table) ≡ Some s
-        → bases_in cols (if here then table else e ∷ without_handle handle table) ≡ usable cols e ++ bases_in cols table
-    by true rest e_is = ap (λ (xs : List (ℕ × NodeId)). xs ++ bases_in cols table) (sym (none_usable cols e (same_kind e_is ∙ overlay)))
-    by false rest e_is = ap (λ (xs : List (ℕ × NodeId)). usable cols e ++ xs) (rest e_is)
-
--- planners that are forgotten with a base are kept for the handles without one
-pub kept_without : (index : Option Opening) (handle : ℕ) (table : List (ℕ × Stands)) (s : Stands) (old new : List (Columns × PlannerGraph)) → stands_at handle table ≡ Some s
-    → (is_of_node s ≡ true → new ≡ []) → (is_of_node s ≡ false → new ≡ old) → IsKeptFor index table old → IsKeptFor index (without_handle handle table) new
-kept_without index handle table s old new is base overlay h = by (is_of_node s) refl
-  where
-    by : (b : Bool) → is_of_node s ≡ b → IsKeptFor index (without_handle handle table) new
-    by true e = All-same (IsGraphOver index (without_handle handle table)) new [] (base e) (All-nil (IsGraphOver index (without_handle handle table)))
-    by false e =
-        subst (λ (k : List (Columns × PlannerGraph)). IsKeptFor index (without_handle handle table) k) (sym (overlay e))
-        (kept_same index table (without_handle handle table) old (λ cols. bases_without cols handle table s is e) h)
 
 -- ---- what is left
 

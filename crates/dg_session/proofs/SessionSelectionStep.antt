@@ -1,12 +1,10 @@
 -- The answer to an expression over instants.
-use Rattle.std.proofs.Common.{◌≡◌, ℕ, ◌+◌, true, false, not, List, [], ◌∷◌, ◌++◌, Option, None, Result, Ok, Err, length, map, refl, sym, ◌∙◌, ap, subst, arith}
-use Rattle.std.specs.Prelude.{IfSome, OnErr, OnOk}
+use Rattle.std.proofs.Common.{◌≡◌, ℕ, ◌+◌, true, false, not, List, [], ◌∷◌, ◌++◌, Option, None, length, map, refl, sym, ◌∙◌, ap, subst, arith}
+use Rattle.std.specs.Prelude.{IfSome}
 use Rattle.std.specs.List.{list_any}
 use Rattle.std.proofs.lemmas.List.{append-nil}
 use Rattle.std.proofs.lemmas.List.Elements.{All-cons, All-nil}
-use Rattle.dg_ask.proofs.HeldIndexHandles.{kept_same}
 use Rattle.dg_ask.specs.HeldIndex.{span_held}
-use Rattle.dg_ask.specs.KeptPlanner.{IsKeptFor}
 use Rattle.dg_expr.specs.Chosen.{chosen}
 use Rattle.dg_expr.specs.declared.expression.Expr.{Expr}
 use Rattle.dg_expr.specs.ExpressionLaws.{ChosenAreShown}
@@ -19,16 +17,14 @@ use Rattle.dg_graph.specs.declared.element.Columns.{Columns}
 use Rattle.dg_graph.specs.declared.element.Element.{Element}
 use Rattle.dg_graph.specs.Elements.{asks, column_of, shown}
 use Rattle.dg_graph.specs.Replay.{events_until, replay_at}
-use Rattle.dg_handles.specs.Handles.{HandlesState, overlays_on, with_messages}
+use Rattle.dg_handles.specs.Handles.{overlays_on, with_messages}
 use Rattle.dg_history.specs.declared.node.NodeId.{NodeId}
 use Rattle.dg_history.specs.declared.node.NodeId.TheVariants.{Root}
 use Rattle.dg_history.specs.History.{History, events_of, span_of}
-use Rattle.dg_index.specs.OpenedIndex.{Opening}
 use Rattle.dg_machine.specs.declared.command.Command.{Command}
 use Rattle.dg_machine.specs.declared.command.Command.TheVariants as command
 use Rattle.dg_machine.specs.declared.reply.Head.TheVariants as head
 use Rattle.dg_machine.specs.declared.reply.Reply.{Reply}
-use Rattle.dg_machine.specs.declared.selection.Selection.{Selection}
 use Rattle.dg_machine.specs.declared.selection.Selection.TheVariants.{Chosen}
 use Rattle.dg_machine.specs.declared.stands.Stands.{Stands}
 use Rattle.dg_machine.specs.declared.stands.Shown.TheVariants.{Overlay, Selected}
@@ -38,7 +34,6 @@ use Rattle.dg_machine.specs.Planning.{IsPlanned, Planned, bases_in, edges_in, gr
 use Rattle.dg_plan.specs.declared.edge.Edge.{Edge}
 use Rattle.dg_plan.specs.IndexGraph.{arcs_of, edges_of}
 use Rattle.dg_plan.specs.Walks.{Graft, IsTree, tree_weight}
-use Rattle.dg_planner.specs.Whole.{PlannerGraph}
 use Rattle.dg_retrieval.specs.Retrieval.{IsTreeOf}
 use Rattle.dg_session.proofs.GraphSets.{shown_again, shown_without}
 use Rattle.dg_session.proofs.PartStates.{events_there, instants_are, one_image, one_told}
@@ -139,16 +134,3 @@ module _ (law : ChosenAreShown) (p : Parts) (e : Expr) (cols : Columns) (free : 
       let least : (grafts : List (Graft NodeId)) → IsTree (arcs_of (edges_in m cols)) (Root ∷ []) (points_for m (instants_of (words_of e))) grafts → TakesAtMost (tree_weight (arcs_of (edges_in m cols)) grafts + 0) before after =
       subst (λ (es : List Edge). (grafts : List (Graft NodeId)) → IsTree (arcs_of es) (Root ∷ []) (points_for m (instants_of (words_of e))) grafts → TakesAtMost (tree_weight (arcs_of es) grafts + 0) before after) (edges_same m cols) (f m s) in
       subst (λ w. TakesAtMost w before after) (let e : tree_weight (arcs_of (edges_in m cols)) plan.grafts + 0 ≡ tree_weight (arcs_of (edges_in m cols)) plan.grafts = omega arith in e) (least plan.grafts planned)) most)
-
--- ---- the planners that are kept
-
-bases_with : (asked : Columns) (table : List (ℕ × Stands)) (next : ℕ) (what : Selection) (cols : Columns) → bases_in asked (table ++ (next, record { what = Selected what; cols = cols }) ∷ []) ≡ bases_in asked table
-bases_with asked [] next what cols = refl
-bases_with asked (e ∷ table) next what cols = ap (λ (l : List (ℕ × NodeId)). usable asked e ++ l) (bases_with asked table next what cols)
-
--- no plan begins with what is selected
-pub selected_kept : {A E : Type 0} (r : Result A E) (index : Option Opening) (old new : HandlesState) (kept : List (Columns × PlannerGraph)) (what : Selection) (cols : Columns)
-    → OnOk r (new.table ≡ old.table ++ (old.next, record { what = Selected what; cols = cols }) ∷ []) → OnErr r (new ≡ old) → IsKeptFor index old.table kept → IsKeptFor index new.table kept
-selected_kept (Ok x) index old new kept what cols added same h =
-    kept_same index old.table new.table kept (λ asked. ap (bases_in asked) added ∙ bases_with asked old.table old.next what cols) h
-selected_kept (Err e) index old new kept what cols added same h = subst (λ (s : HandlesState). IsKeptFor index s.table kept) (sym same) h

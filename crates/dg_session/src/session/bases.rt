@@ -1,18 +1,13 @@
 //! Sets of nodes that handles hold.
 
-ghost use Rattle.std.specs.Prelude.{◌≡◌, ◌+◌, ◌<◌, IfSome, IsErrOf, OnErr, OnOk, [], ◌∷◌, Ok, Option, None, Some, IfOk, length};
+ghost use Rattle.std.specs.Prelude.{◌≡◌, IfSome, IsErrOf, [], Ok, Option, None, Some, IfOk, length};
 ghost use Rattle.dg_disk.specs.Calls.{Fails, ReadsDisk};
-ghost use Rattle.dg_graph.specs.Composition.{applied};
-ghost use Rattle.dg_graph.specs.Elements.{shown};
-ghost use Rattle.dg_handles.specs.Handles.{with_messages};
-ghost use Rattle.dg_machine.specs.declared.limits.TheConstants.{HANDLE_MAX, LIVE_HANDLES_MAX};
 ghost use Rattle.dg_machine.specs.Answer.{headed};
-ghost use Rattle.dg_machine.specs.declared.stands.Shown.TheVariants as kind;
 ghost use Rattle.dg_machine.specs.MachineState.{MachineState};
 ghost use Rattle.dg_retrieval.specs.NamesThere.{NamesAreThere};
 ghost use Rattle.dg_session.specs.Calls.{ReadsFile};
 ghost use Rattle.dg_session.specs.Damage.{MeetsOver, Tells, node_readings};
-ghost use Rattle.dg_session.specs.Reads.{HoldsNodeFor, with_new_handles};
+ghost use Rattle.dg_session.specs.Reads.{HoldsNodeFor};
 ghost use Rattle.dg_session.specs.Session.{ComesTo, HoldsImage, StandsFor, node_needs, refused_by};
 ghost use Rattle.dg_batch.specs.declared.stop.Stop.TheVariants as stop;
 
@@ -20,14 +15,12 @@ use super::Session;
 use crate::needs::Needs;
 use crate::retrieval::node_lead;
 use dg_batch::{Halt, Stop};
-use dg_delta::Delta;
 use dg_disk::Disk;
 use dg_graph::Columns;
 use dg_history::NodeId;
 use dg_machine::{Command, Head, Refusal, Reply, Shown, Stands};
 use dg_records::RecordFault;
 use dg_retrieval::NodeLead;
-use std::alloc::AllocError;
 use std::thread::Threads;
 
 impl Session {
@@ -69,34 +62,6 @@ impl Session {
         )
     }
 
-    // A new handle that holds what the delta leads to from nothing: the set of the node in these columns, and its messages,
-    // of which a set of a node has none.
-    pub(super) fn add_base(
-        &mut self,
-        node: NodeId,
-        cols: Columns,
-        delta: &Delta,
-    ) -> Result<(), AllocError>
-        requires free { refused_by self.old.parts 0 (node_needs node) ≡ None }
-        requires named { NamesAreThere (length self.old.parts.names) delta.now.plus }
-        ensures added { OnOk result (self.new.parts ≡ with_new_handles self.old.parts (record { what = kind.Base node; cols = cols } ∷ []) (shown (applied delta.now []) (with_messages cols) ∷ [])) }
-        ensures err { OnErr result (self.new.parts ≡ self.old.parts) }
-    {
-        self.overlay()?;
-        self.planner.forget();
-        let Some(pool) = &mut self.held.live.pool else {
-            unreachable!()
-        };
-        self.held.handles.add_set(
-            pool,
-            Stands {
-                what: Shown::Base(node),
-                cols,
-            },
-            delta,
-        )
-    }
-
     // A new handle that holds the set of a leaf or an interior node in these columns.
     pub(super) fn materialise<R: Threads + Sync, D: Disk>(
         &mut self,
@@ -129,7 +94,11 @@ impl Session {
         }
         let NodeLead { delta, weight } = self.lead_to_node(rt, node, cols, disk)?;
         let handle = self.held.handles.next() as u32;
-        self.add_base(node, cols, &delta)?;
+        let stands = Stands {
+            what: Shown::Base(node),
+            cols,
+        };
+        self.add_set(stands, &delta)?;
         Ok(Reply::headed(self.alloc, Head::Materialised { handle, weight }))
     }
 }

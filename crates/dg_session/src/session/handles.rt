@@ -1,13 +1,19 @@
-//! Handles that end, and the pool in which they leave cells.
+//! Handles of sets, handles that end, and the pool in which they leave cells.
 
-ghost use Rattle.std.specs.Prelude.{◌≡◌, ℕ, ◌<◌, ◌≤◌, List, [], ◌∷◌, Ok, Option, Some, true, false, IfSome, MatchOption, length};
+ghost use Rattle.std.specs.Prelude.{◌≡◌, ℕ, ◌+◌, ◌<◌, ◌≤◌, List, [], ◌∷◌, None, Ok, Option, Some, true, false, IfSome, MatchOption, OnErr, OnOk, length};
 ghost use Rattle.dg_append.specs.Overlays.{IsOverlayOf, SameOverlay, pool_in, pool_of};
+ghost use Rattle.dg_ask.specs.HeldIndex.{HasNodeOf};
 ghost use Rattle.dg_batch.specs.Held.{IsHeld, graphs_held};
+ghost use Rattle.dg_graph.specs.Composition.{applied};
 ghost use Rattle.dg_graph.specs.declared.element.Element.{Element};
-ghost use Rattle.dg_handles.specs.Handles.{IsSweptWhole, IsTied, graphs_without, slot_graphs};
+ghost use Rattle.dg_graph.specs.Elements.{shown};
+ghost use Rattle.dg_handles.specs.Handles.{IsSweptWhole, IsTied, graphs_without, slot_graphs, with_messages};
 ghost use Rattle.dg_machine.specs.Answer.{headed};
-ghost use Rattle.dg_machine.specs.MachineState.{dependent_on, union_of_sets, without_handle};
+ghost use Rattle.dg_machine.specs.declared.limits.TheConstants.{HANDLE_MAX, LIVE_HANDLES_MAX};
+ghost use Rattle.dg_machine.specs.MachineState.{dependent_on, overlay_on, union_of_sets, without_handle};
 ghost use Rattle.dg_pool.specs.Sweeps.{cells_of};
+ghost use Rattle.dg_retrieval.specs.NamesThere.{NamesAreThere};
+ghost use Rattle.dg_session.specs.Reads.{with_new_handles};
 ghost use Rattle.dg_session.specs.Session.{ComesTo, is_of_node};
 ghost use Rattle.dg_session.specs.Sweeps.{SweepsPool};
 ghost use Rattle.dg_batch.specs.declared.stop.Stop.TheVariants as stop;
@@ -17,12 +23,32 @@ use crate::needs::Needs;
 use dg_append::Live;
 use dg_ask::KeptPlanner;
 use dg_batch::{Halt, Held, Stop};
+use dg_delta::Delta;
 use dg_handles::{Handles, law_tie_is_kept, law_union_of_handles};
 use dg_machine::{Command, Head, Reply, Shown, Stands};
 use dg_pool::Pool;
+use std::alloc::AllocError;
 use std::boxed::Box;
 
 impl Session {
+    // A new handle for a set, of a node that the index has or selected, to which the delta leads from nothing.
+    pub(super) fn add_set(&mut self, stands: Stands, delta: &Delta) -> Result<(), AllocError>
+        requires set { overlay_on stands.what ≡ None }
+        requires node { HasNodeOf self.old.parts.index stands }
+        requires room { length self.old.parts.table + 1 ≤ LIVE_HANDLES_MAX }
+        requires numbers { self.old.parts.next + 1 ≤ HANDLE_MAX + 1 }
+        requires named { NamesAreThere (length self.old.parts.names) delta.now.plus }
+        ensures added { OnOk result (self.new.parts ≡ with_new_handles self.old.parts (stands ∷ []) (shown (applied delta.now []) (with_messages stands.cols) ∷ [])) }
+        ensures err { OnErr result (self.new.parts ≡ self.old.parts) }
+    {
+        self.overlay()?;
+        forget_base(&mut self.planner, stands);
+        let Some(pool) = &mut self.held.live.pool else {
+            unreachable!()
+        };
+        self.held.handles.add_set(pool, stands, delta)
+    }
+
     // Gives a handle up.
     pub(super) fn release(&mut self, handle: u32) -> Result<Reply, Halt>
         ensures comes { (image : Option (List ℕ)) → ComesTo (Command.Release handle) [] self.old.parts image self.new.parts image result }
@@ -78,7 +104,7 @@ impl Session {
     }
 }
 
-// Forgets the planners, where this is among the bases that serve in them.
+// Forgets the planners where a base comes or goes, since each is made for all that can serve.
 fn forget_base(planner: &mut KeptPlanner, stands: Stands)
     ensures base { is_of_node stands ≡ true → planner.new ≡ [] }
     ensures other { is_of_node stands ≡ false → planner.new ≡ planner.old }

@@ -209,26 +209,19 @@ impl Session {
         ensures added { OnOk result (self.new.parts ≡ with_new_handles self.old.parts (record { what = kind.Selected what; cols = cols } ∷ []) (shown elements (with_messages cols) ∷ [])) }
         ensures err { OnErr result (self.new.parts ≡ self.old.parts) }
     {
-        // No plan begins with a selection, so the planners stay.
-        self.overlay()?;
         let delta = delta_to(self.alloc, elements);
-        let Some(pool) = &mut self.held.live.pool else {
-            unreachable!()
+        let stands = Stands {
+            what: Shown::Selected(what),
+            cols,
         };
-        self.held.handles.add_set(
-            pool,
-            Stands {
-                what: Shown::Selected(what),
-                cols,
-            },
-            &delta,
-        )
+        self.add_set(stands, &delta)
     }
 }
 
 // The delta that leads from nothing to the elements.
 fn delta_to(alloc: Global, elements: Set) -> Delta
-    ensures { applied result [] ≡ elements }
+    ensures leads { applied result [] ≡ elements }
+    ensures puts { result.plus ≡ elements }
 {
     // Its clause says that the elements rise.
     let _ = elements.items();

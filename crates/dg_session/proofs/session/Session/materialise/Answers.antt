@@ -1,8 +1,11 @@
-use Rattle.std.proofs.Common.{◌≡◌, [], ◌∷◌, refl, sym, ◌∙◌, ap, subst, arith}
+use Rattle.std.proofs.Common.{◌≡◌, [], ◌+◌, ◌≤◌, ◌∷◌, length, refl, sym, ◌∙◌, ap, subst, arith}
+use Rattle.dg_ask.proofs.HeldIndexHandles.{node_there}
+use Rattle.dg_ask.specs.HeldIndex.{HasNode}
 use Rattle.dg_graph.specs.Composition.{applied}
 use Rattle.dg_graph.specs.Elements.{shown}
 use Rattle.dg_handles.specs.Handles.{with_messages}
 use Rattle.dg_machine.specs.declared.command.Command.TheVariants as command
+use Rattle.dg_machine.specs.declared.limits.TheConstants.{HANDLE_MAX, LIVE_HANDLES_MAX}
 use Rattle.dg_machine.specs.declared.reply.Head.TheVariants as head
 use Rattle.dg_machine.specs.declared.reply.Refusal.TheVariants as refusal
 use Rattle.dg_machine.specs.declared.reply.Reply.{Reply}
@@ -18,10 +21,24 @@ use Rattle.dg_session.specs.Parts.{Parts}
 use Rattle.dg_session.specs.Reads.{ReadsIn, with_new_handles, Reads}
 use Rattle.dg_session.specs.Session.{ComesTo}
 use Rattle.dg_session.proofs.DamageStep.{damage_in, tells_no_damage, none_met}
-use Rattle.dg_session.proofs.SessionNodeStep.{node_answers, node_fails, node_held_of, node_most_of, node_never_of, node_taken_of}
+use Rattle.dg_session.proofs.SessionNodeStep.{found_free, node_answers, node_fails, node_held_of, node_most_of, node_never_of, node_taken_of}
 use Rattle.dg_session.proofs.SessionRetrievals.{reads_failing, retrieval_failed, reads_exactly, reads_unasked}
 use Rattle.dg_session.proofs.SessionSteps.{handed_out, lacking_denies, refused_denies, refused_not_read}
 use Rattle.dg_session.proofs.session.Session.materialise.Goals as goal
+
+pub add_set-requires-clause-node : goal.add_set-requires-clause-node
+add_set-requires-clause-node g c =
+    let p : Parts = c.args.self.now.parts in
+    let free = found_free p c.args.node (sym c.refused.ensures ∙ c.in_default.is) in
+    subst (λ (x : SessionState). HasNode x.parts.index c.args.node) (sym c.lead_to_node.ensures.same) (node_there p.index c.args.node free.0 free.1)
+
+pub add_set-requires-clause-room : goal.add_set-requires-clause-room
+add_set-requires-clause-room g c =
+    subst (λ (x : SessionState). length x.parts.table + 1 ≤ LIVE_HANDLES_MAX) (sym c.lead_to_node.ensures.same) (found_free c.args.self.now.parts c.args.node (sym c.refused.ensures ∙ c.in_default.is)).2
+
+pub add_set-requires-clause-numbers : goal.add_set-requires-clause-numbers
+add_set-requires-clause-numbers g c =
+    subst (λ (x : SessionState). x.parts.next + 1 ≤ HANDLE_MAX + 1) (sym c.lead_to_node.ensures.same) (found_free c.args.self.now.parts c.args.node (sym c.refused.ensures ∙ c.in_default.is)).3
 
 pub returns-in-Some-clause-comes : goal.returns-in-Some-clause-comes
 returns-in-Some-clause-comes g c =
@@ -34,12 +51,12 @@ returns-in_err-delta-clause-comes g c =
     (retrieval_failed (command.Materialise c.args.node c.args.cols) c.args.self.now.parts c.lead_to_node.new.self.parts (g.D.Disk.image c.args.disk.now) (g.D.Disk.image c.lead_to_node.new.disk) c.in_err-delta.field-0.0 refl refl (λ m. refl) (sym c.refused.ensures ∙ c.in_default.is)
     (ap (λ (x : SessionState). x.parts) c.lead_to_node.ensures.same) c.lead_to_node.ensures.disk.same_image (node_never_of c.args.self.now.parts c.args.node c.args.cols (g.D.Disk.image c.args.disk.now) (g.D.Disk.taken c.args.disk.now) (g.D.Disk.taken c.lead_to_node.new.disk) c.in_err-delta.field-0.0 c.in_err-delta.ensures.over))
 
-pub returns-in_err-add_base-clause-comes : goal.returns-in_err-add_base-clause-comes
-returns-in_err-add_base-clause-comes g c =
-    handed_out c.from_residual-in_err-add_base.result (halt.Refusal refusal.OutOfMemory)
-    (ComesTo (command.Materialise c.args.node c.args.cols) [] c.args.self.now.parts (g.D.Disk.image c.args.disk.now) c.add_base.new.self.parts (g.D.Disk.image c.lead_to_node.new.disk)) c.from_residual-in_err-add_base.ensures
-    (lacking_denies (command.Materialise c.args.node c.args.cols) [] c.args.self.now.parts c.add_base.new.self.parts (g.D.Disk.image c.args.disk.now) (g.D.Disk.image c.lead_to_node.new.disk)
-    (c.in_err-add_base.ensures.err ∙ (ap (λ (x : SessionState). x.parts) c.lead_to_node.ensures.same)) c.lead_to_node.ensures.disk.same_image refl (sym c.refused.ensures ∙ c.in_default.is))
+pub returns-in_err-add_set-clause-comes : goal.returns-in_err-add_set-clause-comes
+returns-in_err-add_set-clause-comes g c =
+    handed_out c.from_residual-in_err-add_set.result (halt.Refusal refusal.OutOfMemory)
+    (ComesTo (command.Materialise c.args.node c.args.cols) [] c.args.self.now.parts (g.D.Disk.image c.args.disk.now) c.add_set.new.self.parts (g.D.Disk.image c.lead_to_node.new.disk)) c.from_residual-in_err-add_set.ensures
+    (lacking_denies (command.Materialise c.args.node c.args.cols) [] c.args.self.now.parts c.add_set.new.self.parts (g.D.Disk.image c.args.disk.now) (g.D.Disk.image c.lead_to_node.new.disk)
+    (c.in_err-add_set.ensures.err ∙ (ap (λ (x : SessionState). x.parts) c.lead_to_node.ensures.same)) c.lead_to_node.ensures.disk.same_image refl (sym c.refused.ensures ∙ c.in_default.is))
 
 pub returns-clause-comes : goal.returns-clause-comes
 returns-clause-comes g c =
@@ -48,9 +65,9 @@ returns-clause-comes g c =
     let cols = c.args.cols in
     let same : c.lead_to_node.new.self.parts ≡ p = (ap (λ (x : SessionState). x.parts) c.lead_to_node.ensures.same) in
     let number : c.next-handle.result ≡ p.next = c.next-handle.ensures.next ∙ ap (λ (x : SessionState). x.parts.next) (c.self.view_is ∙ c.lead_to_node.ensures.same) in
-    node_answers p c.add_base.new.self.parts c.args.node cols (g.D.Disk.image c.args.disk.now) (g.D.Disk.image c.lead_to_node.new.disk) r.weight (shown (applied r.delta []) (with_messages cols)) c.headed.result
+    node_answers p c.add_set.new.self.parts c.args.node cols (g.D.Disk.image c.args.disk.now) (g.D.Disk.image c.lead_to_node.new.disk) r.weight (shown (applied r.delta []) (with_messages cols)) c.headed.result
     (sym c.refused.ensures ∙ c.in_default.is) c.lead_to_node.ensures.disk.same_image (node_held_of c.args.self.now.parts c.args.node c.args.cols (g.D.Disk.image c.args.disk.now) (g.D.Disk.taken c.args.disk.now) (g.D.Disk.taken c.lead_to_node.new.disk) c.in_ok-delta.field-0 c.in_ok-delta.ensures.over)
-    (c.in_ok-add_base.ensures.added ∙ (λ i. with_new_handles (same i) (record { what = Base c.args.node; cols = cols } ∷ []) (shown (applied r.delta []) (with_messages cols) ∷ [])))
+    (c.in_ok-add_set.ensures.added ∙ (λ i. with_new_handles (same i) (record { what = Base c.args.node; cols = cols } ∷ []) (shown (applied r.delta []) (with_messages cols) ∷ [])))
     (c.headed.ensures ∙ ap (λ n. headed (head.Materialised n r.weight)) number)
 
 pub returns-in-Some-clause-file : goal.returns-in-Some-clause-file
@@ -76,15 +93,15 @@ returns-in_err-delta-clause-file g c = record {
       (λ h refuses late. node_fails c.args.self.now.parts c.args.node c.args.cols (g.D.Disk.image c.args.disk.now) h (g.D.Disk.taken c.args.disk.now) (g.D.Disk.taken c.lead_to_node.new.disk) refuses late (sym c.refused.ensures ∙ c.in_default.is) (node_most_of c.args.self.now.parts c.args.node c.args.cols (g.D.Disk.image c.args.disk.now) (g.D.Disk.taken c.args.disk.now) (g.D.Disk.taken c.lead_to_node.new.disk) c.lead_to_node.result c.lead_to_node.ensures.over)));
 }
 
-pub returns-in_err-add_base-clause-file : goal.returns-in_err-add_base-clause-file
-returns-in_err-add_base-clause-file g c = record {
+pub returns-in_err-add_set-clause-file : goal.returns-in_err-add_set-clause-file
+returns-in_err-add_set-clause-file g c = record {
   damaged =
-      handed_out c.from_residual-in_err-add_base.result (halt.Refusal refusal.OutOfMemory)
-      (λ r. DamageIn (command.Materialise c.args.node c.args.cols) c.args.self.now.parts (g.D.Disk.image c.args.disk.now) r) c.from_residual-in_err-add_base.ensures tt;
-  undamaged = none_met c.from_residual-in_err-add_base.result (MeetsNone (reads_for (command.Materialise c.args.node c.args.cols)) c.args.self.now.parts (g.D.Disk.image c.args.disk.now)) c.from_residual-in_err-add_base.ensures.0;
+      handed_out c.from_residual-in_err-add_set.result (halt.Refusal refusal.OutOfMemory)
+      (λ r. DamageIn (command.Materialise c.args.node c.args.cols) c.args.self.now.parts (g.D.Disk.image c.args.disk.now) r) c.from_residual-in_err-add_set.ensures tt;
+  undamaged = none_met c.from_residual-in_err-add_set.result (MeetsNone (reads_for (command.Materialise c.args.node c.args.cols)) c.args.self.now.parts (g.D.Disk.image c.args.disk.now)) c.from_residual-in_err-add_set.ensures.0;
   reads =
-      handed_out c.from_residual-in_err-add_base.result (halt.Refusal refusal.OutOfMemory)
-      (λ r. ReadsIn (command.Materialise c.args.node c.args.cols) c.args.self.now.parts (g.D.Disk.image c.args.disk.now) r (g.D.Disk.taken c.args.disk.now) (g.D.Disk.taken c.lead_to_node.new.disk)) c.from_residual-in_err-add_base.ensures
+      handed_out c.from_residual-in_err-add_set.result (halt.Refusal refusal.OutOfMemory)
+      (λ r. ReadsIn (command.Materialise c.args.node c.args.cols) c.args.self.now.parts (g.D.Disk.image c.args.disk.now) r (g.D.Disk.taken c.args.disk.now) (g.D.Disk.taken c.lead_to_node.new.disk)) c.from_residual-in_err-add_set.ensures
       (node_fails c.args.self.now.parts c.args.node c.args.cols (g.D.Disk.image c.args.disk.now) (replied.Refused refusal.OutOfMemory) (g.D.Disk.taken c.args.disk.now) (g.D.Disk.taken c.lead_to_node.new.disk) refl refl (sym c.refused.ensures ∙ c.in_default.is) (node_most_of c.args.self.now.parts c.args.node c.args.cols (g.D.Disk.image c.args.disk.now) (g.D.Disk.taken c.args.disk.now) (g.D.Disk.taken c.lead_to_node.new.disk) c.lead_to_node.result c.lead_to_node.ensures.over));
 }
 

@@ -14,8 +14,9 @@ use Rattle.dg_ask.specs.KeptPlanner.{IsKeptFor}
 use Rattle.dg_session.specs.Parts.{Parts}
 use Rattle.dg_session.specs.SessionState.{SessionState}
 use Rattle.dg_ask.proofs.KeptAdjacencies.{kept_without as adjacency_without}
+use Rattle.dg_session.proofs.KeptPlanners.{kept_without}
 use Rattle.dg_session.proofs.Needed.{has_needed}
-use Rattle.dg_session.proofs.SessionReleaseStep.{all_without, kept_without, parts_without, release_answers}
+use Rattle.dg_session.proofs.SessionReleaseStep.{all_without, parts_without, release_answers}
 use Rattle.dg_session.proofs.SessionSteps.{refused_denies}
 use Rattle.dg_stored.specs.StoredHistory.{index_opening}
 use Rattle.dg_session.proofs.session.Session.release.Goals as goal
@@ -59,5 +60,5 @@ invariant_of-self c =
         };
       },
       subst (λ t. IsKeptFor index t c.forget_base.new.planner) (sym c.give_up.ensures.table)
-          (kept_without index h s.held.handles.table c.in-Some-stands.stands s.planner c.forget_base.new.planner (sym c.stands.ensures ∙ c.in-Some-stands.is) c.forget_base.ensures.base c.forget_base.ensures.other c.self.invariant.2),
+          (kept_without index c.in-Some-stands.stands s.planner c.forget_base.new.planner c.forget_base.ensures.base c.forget_base.ensures.other h s.held.handles.table (sym c.stands.ensures ∙ c.in-Some-stands.is) c.self.invariant.2),
     )

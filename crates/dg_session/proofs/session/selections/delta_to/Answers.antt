@@ -8,6 +8,6 @@ use Rattle.dg_session.proofs.session.selections.delta_to.Goals as goal
 pub of-requires : goal.of-requires
 of-requires c x there = absurd (false≢true (sym (ap (λ s. has s x) c.new.ensures) ∙ there))
 
-pub returns : goal.returns
-returns c =
+pub returns-clause-leads : goal.returns-clause-leads
+returns-clause-leads c =
     ap (λ d. applied d []) c.of.ensures ∙ unioned_none c.args.elements c.items.ensures.set
