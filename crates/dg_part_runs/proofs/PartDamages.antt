@@ -1,5 +1,5 @@
 -- The damage that is met of parts, and which of it is named.
-use Rattle.std.proofs.Common.{arith, ◌≡◌, ℕ, zero, suc, ◌+◌, ◌<◌, ◌⊎◌, inl, inr, true, false, List, [], ◌∷◌, ◌++◌, Option, Some, None, Result, Ok, Err, IfSome, length, take, get_or, refl, sym, ap, ◌∙◌, subst}
+use Rattle.std.proofs.Common.{arith, ◌≡◌, ℕ, zero, suc, ◌+◌, ◌<◌, ◌⊎◌, inl, inr, List, [], ◌∷◌, ◌++◌, Option, Some, None, Result, Ok, Err, IfSome, length, take, get_or, sym, subst}
 use Rattle.std.proofs.Math.ListN.{length-map}
 use Rattle.std.specs.List.{AllZip}
 use Rattle.dg_disk.specs.declared.disk.Disk.{Ghosts}
